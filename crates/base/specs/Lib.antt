@@ -1,0 +1,3 @@
+-- Lists made by index, tests and sums over every number below a bound. Assumes nothing.
+pub mod Bounded
+pub mod Lists

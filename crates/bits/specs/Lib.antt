@@ -1,0 +1,2 @@
+-- Bits of numbers and of bytes. Assumes nothing.
+pub mod Bits

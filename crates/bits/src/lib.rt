@@ -1,0 +1,1 @@
+// Bit fields in bytes, the most significant bit first.

@@ -1,0 +1,1 @@
+// The board: commands and undo.

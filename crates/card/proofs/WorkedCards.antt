@@ -1,0 +1,46 @@
+-- Document 01's card and lengths, and a card of 32 positions, computed. Assumes nothing.
+use mathlib.Core.Path.{_≡_, refl}
+use mathlib.Core.Bool.{Bool, true, false, _&&_, _||_, not, cond}
+use mathlib.Core.List.{List, [], _∷_, _++_, map}
+use Prim.Native.Nat.{ℕ, zero, suc, _+_, _*_, _/_, _%_}
+use lib.ListN.{length, replicate, set}
+use Rattle.base.specs.Lists.{all-of, tabulate, tabulate-from}
+use Rattle.bits.specs.Bits.{bits-of, bits-in, number-from, field, packed}
+use Rattle.instance.specs.Limits.{no-arc, free, cells}
+use Rattle.instance.specs.Instance.{Instance, cell, can-be-arc}
+use Rattle.card.specs.Card.{on-card, bits-needed, bytes-needed, cell-fields, instance-in, cell-refusal, cells-refusal, card-refusal, cell-bits, instance-bits, card-of}
+
+-- "n = 1 takes 5 bytes, n = 2 takes 8, n = 4 takes 30, n = 32 takes 2,648"
+pub lengths : map bytes-needed (1 ∷ 2 ∷ 4 ∷ 32 ∷ []) ≡ (5 ∷ 8 ∷ 30 ∷ 2648 ∷ [])
+unfolding bytes-needed bits-needed
+lengths = refl
+
+-- P9
+unfoldable pub p9 : Instance
+p9 = record { n = 2; root = 0; budget = 5; weights = set (replicate cells no-arc) (cell 0 1) 5; marks = replicate cells free }
+
+-- "P9 as a card is 08 00 00 00 50 00 05 00"
+abbrev pub p9-card : List ℕ
+p9-card = 0x08 ∷ 0x00 ∷ 0x00 ∷ 0x00 ∷ 0x50 ∷ 0x00 ∷ 0x05 ∷ 0x00 ∷ []
+
+pub p9-written : card-of p9 ≡ p9-card
+unfolding p9 card-of packed instance-bits cell-bits on-card can-be-arc bits-of number-from bits-needed bytes-needed
+p9-written = refl
+
+pub p9-read : instance-in p9-card ≡ p9
+unfolding p9 instance-in cell-fields on-card can-be-arc bits-in bits-of field number-from
+p9-read = refl
+
+pub p9-opens : card-refusal p9-card ≡ 0
+unfolding card-refusal cells-refusal cell-refusal instance-in cell-fields on-card can-be-arc bits-in bits-of field number-from bits-needed bytes-needed all-of
+p9-opens = refl
+
+-- 32 vertices, root 31, every arc of weight 1,000,000 and free
+unfoldable pub large : Instance
+large = record { n = 32; root = 31; budget = 31000000; weights = replicate cells 1000000; marks = replicate cells free }
+
+pub large-opens : card-refusal (card-of large) ≡ 0
+unfolding
+    large card-of packed instance-bits cell-bits card-refusal cells-refusal cell-refusal instance-in cell-fields on-card can-be-arc bits-in bits-of
+    field number-from bits-needed bytes-needed all-of
+large-opens = refl

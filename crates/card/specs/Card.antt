@@ -1,0 +1,96 @@
+-- The rig card of document 01: layout, refusals 1 to 8, reading and writing. Assumes nothing: these are definitions.
+use mathlib.Core.Bool.{Bool, true, false, _&&_, _||_, not, cond}
+use mathlib.Core.List.{List, [], _∷_, _++_}
+use Prim.Native.Nat.{ℕ, zero, suc, _+_, _*_, _-_, _/_, _%_}
+use lib.Dec.{ltb, leb, eqb}
+use lib.ListN.{length, drop, replicate}
+use Rattle.base.specs.Lists.{all-of}
+use Rattle.bits.specs.Bits.{bits-of, bits-in, field, packed}
+use Rattle.instance.specs.Limits.{max-vertices, max-weight, no-arc, max-budget, free, cells}
+use Rattle.instance.specs.Instance.{Instance, weight-at, mark-at, can-be-arc}
+
+-- LAYOUT
+
+-- "positions 6 bits, root 5, budget 25"
+abbrev pub n-in : (bits : List ℕ) → ℕ
+n-in bs = field 0 6 bs
+
+abbrev pub root-in : (bits : List ℕ) → ℕ
+root-in bs = field 6 5 bs
+
+abbrev pub budget-in : (bits : List ℕ) → ℕ
+budget-in bs = field 11 25 bs
+
+-- "for each feeder upwards, each fed position upwards, leaving out feeder = fed and fed = root": the cells that can be an arc
+unfoldable pub on-card : (n root i : ℕ) → Bool
+on-card n r i = can-be-arc n r (i / 32) (i % 32)
+
+-- "36 + 22 times (n − 1) squared bits"
+unfoldable pub bits-needed : (n : ℕ) → ℕ
+bits-needed n = 36 + 22 * ((n - 1) * (n - 1))
+
+unfoldable pub bytes-needed : (n : ℕ) → ℕ
+bytes-needed n = (bits-needed n + 7) / 8
+
+-- READING
+
+-- "price 20 bits, mark 2": the field of so many bits at a place among the 22 of each cell on the card; another number for the other cells
+unfoldable pub cell-fields : (at width other : ℕ) → (left i : ℕ) → (n root : ℕ) → (bits : List ℕ) → List ℕ
+cell-fields a w o zero i n r bs = []
+cell-fields a w o (suc k) i n r bs =
+    cond (on-card n r i) (field a w bs) o ∷ cell-fields a w o k (suc i) n r (cond (on-card n r i) (drop 22 bs) bs)
+
+unfoldable pub instance-in : (card : List ℕ) → Instance
+instance-in ws =
+    let bs = bits-in ws in
+    let n = n-in bs in
+    let r = root-in bs in
+    let rest = drop 36 bs in
+    record {
+      n = n;
+      root = r;
+      budget = budget-in bs;
+      weights = cell-fields 0 20 no-arc cells 0 n r rest;
+      marks = cell-fields 20 2 free cells 0 n r rest;
+    }
+
+-- 6: "price field 1,000,001 to 1,048,574"; 7: "mark 3, or a mark other than 0 on no link"; "6 before 7 within it"
+unfoldable pub cell-refusal : (weight mark : ℕ) → ℕ
+cell-refusal w m = cond (leb w max-weight) (cond (eqb m 3) 7 0) (cond (eqb w no-arc) (cond (eqb m free) 0 7) 6)
+
+-- "the first faulty cell in card order"
+unfoldable pub cells-refusal : (weights marks : List ℕ) → ℕ
+cells-refusal [] ms = 0
+cells-refusal (w ∷ ws) [] = 0
+cells-refusal (w ∷ ws) (m ∷ ms) = cond (eqb (cell-refusal w m) 0) (cells-refusal ws ms) (cell-refusal w m)
+
+-- "Cards: 1 to 5 in that order; then the first faulty cell ..; then 8." 0 is a card that opens.
+unfoldable pub card-refusal : (card : List ℕ) → ℕ
+card-refusal ws =
+    let bs = bits-in ws in
+    let n = n-in bs in
+    let s = instance-in ws in
+    let c = cells-refusal (s .weights) (s .marks) in
+    let filled = all-of (λ b. eqb b 0) (drop (bits-needed n) bs) in
+    cond (ltb (length ws) 5) 1
+    (cond (eqb n 0 || ltb max-vertices n) 2
+    (cond (not (eqb (length ws) (bytes-needed n))) 3
+    (cond (leb n (s .root)) 4
+    (cond (ltb max-budget (s .budget)) 5
+    (cond (not (eqb c 0)) c
+    (cond filled 0 8))))))
+
+-- WRITING
+
+unfoldable pub cell-bits : (left i : ℕ) → Instance → List ℕ
+cell-bits zero i s = []
+cell-bits (suc k) i s =
+    cond (on-card (s .n) (s .root) i) (bits-of 20 (weight-at s i) ++ bits-of 2 (mark-at s i)) [] ++ cell-bits k (suc i) s
+
+-- the bits of a card without the filling
+unfoldable pub instance-bits : Instance → List ℕ
+instance-bits s = bits-of 6 (s .n) ++ (bits-of 5 (s .root) ++ (bits-of 25 (s .budget) ++ cell-bits cells 0 s))
+
+-- "Zero bits fill the last byte."
+unfoldable pub card-of : Instance → List ℕ
+card-of s = packed (bytes-needed (s .n)) (instance-bits s ++ replicate (8 * bytes-needed (s .n) - bits-needed (s .n)) 0)

@@ -1,0 +1,2 @@
+-- The rig card. Assumes nothing.
+pub mod Card

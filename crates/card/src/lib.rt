@@ -1,0 +1,1 @@
+// The rig card: reading and writing.

@@ -1,0 +1,48 @@
+-- The outcome of an instance, and the state of each arc. Assumes nothing: these are definitions.
+use mathlib.Core.Bool.{Bool, true, false, _&&_, cond}
+use mathlib.Core.List.{List}
+use mathlib.Core.Option.{Option, none, some}
+use Prim.Native.Nat.{ℕ, _*_, _/_, _%_}
+use lib.Dec.{leb}
+use Rattle.base.specs.Lists.{tabulate, select, any-of, all-of}
+use Rattle.instance.specs.Instance.{Instance, is-arc}
+use Rattle.instance.specs.Arborescence.{is-arborescence, total, uses}
+use Rattle.instance.specs.Candidates.{candidates, cheapest}
+
+-- "plan with its total; over with the cheapest total; none"
+pub data Outcome : Type 0 where
+  plan : (total : ℕ) → Outcome
+  over : (total : ℕ) → Outcome
+  no-tree : Outcome
+
+-- within budget "if its total is at most the budget"
+unfoldable pub outcome-at : (budget : ℕ) → (cheapest : Option ℕ) → Outcome
+outcome-at b none = no-tree
+outcome-at b (some v) = cond (leb v b) (plan v) (over v)
+
+unfoldable pub outcome : Instance → Outcome
+outcome s = outcome-at (s .budget) (cheapest s)
+
+-- the bound that the states compare totals with
+abbrev pub bound : Instance → ℕ
+bound s = s .budget
+
+-- a fitting arborescence (document 01: a feed tree within budget)
+unfoldable pub fits : Instance → (parents : List ℕ) → Bool
+fits s ps = is-arborescence s ps && leb (total s ps) (bound s)
+
+unfoldable pub fitting : Instance → List (List ℕ)
+fitting s = select (fits s) (candidates s)
+
+-- "0 not a link; 1 closed, no tree uses it; 2 open, some use it and some don't; 3 sure, there is at least one tree and all use it":
+-- no arc, excluded, optional, mandatory, over a list of arborescences
+unfoldable pub state-over : List (List ℕ) → Instance → (tail head : ℕ) → ℕ
+state-over pss s t h =
+    cond (is-arc s t h) (cond (any-of (λ ps. uses ps t h) pss) (cond (all-of (λ ps. uses ps t h) pss) 3 2) 1) 0
+
+unfoldable pub state : Instance → (tail head : ℕ) → ℕ
+state s t h = state-over (fitting s) s t h
+
+-- "n times n bytes, feeder by feeder"
+unfoldable pub states : Instance → List ℕ
+states s = let pss = fitting s in tabulate (s .n * s .n) (λ i. state-over pss s (i / s .n) (i % s .n))
