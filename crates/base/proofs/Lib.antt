@@ -1,1 +1,4 @@
--- Laws. Assumes nothing.
+-- Laws of tests, bounded tests and sums, and lists. Assumes nothing.
+pub mod Tests
+pub mod BoundedLaws
+pub mod ListLaws

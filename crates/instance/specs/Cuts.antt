@@ -2,9 +2,9 @@
 use mathlib.Core.Path.{_≡_}
 use mathlib.Core.Bool.{Bool, true, false, _&&_, not, cond}
 use mathlib.Core.List.{List, [], _∷_}
-use Prim.Native.Nat.{ℕ, _+_, _-_, _/_, _%_, _^_, _≤_}
+use Prim.Native.Nat.{ℕ, zero, suc, _+_, _*_, _-_, _/_, _%_, _^_, _≤_}
 use lib.Dec.{ltb, leb, eqb}
-use lib.ListN.{length}
+use lib.ListN.{length, getD}
 use Rattle.instance.specs.Limits.{cut-limit}
 use Rattle.instance.specs.Instance.{Instance, weight}
 use Rattle.instance.specs.Arborescence.{remaining}
@@ -13,6 +13,14 @@ use Rattle.instance.specs.Arborescence.{remaining}
 pub record Cut : Type 0 where
   pub set : ℕ
   pub value : ℕ
+
+-- cuts "as pairs (set, amount)" of words, from pair i on: so many
+unfoldable pub cuts-from : (count i : ℕ) → (words : List ℕ) → List Cut
+cuts-from zero i ws = []
+cuts-from (suc k) i ws = record { set = getD ws (2 * i) 0; value = getD ws (2 * i + 1) 0 } ∷ cuts-from k (suc i) ws
+
+unfoldable pub cuts-in : (count : ℕ) → (words : List ℕ) → List Cut
+cuts-in k ws = cuts-from k 0 ws
 
 unfoldable pub inside : (set v : ℕ) → Bool
 inside c v = eqb (c / 2 ^ v % 2) 1

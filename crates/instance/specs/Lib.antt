@@ -6,3 +6,4 @@ pub mod Candidates
 pub mod States
 pub mod Cuts
 pub mod Valid
+pub mod Matrix

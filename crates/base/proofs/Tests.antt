@@ -1,0 +1,68 @@
+-- Tests joined by &&, || and not, and choices by cond. Assumes nothing.
+use mathlib.Core.Path.{_≡_, refl, sym, _∙_}
+use mathlib.Core.Bool.{Bool, true, false, _&&_, _||_, not, cond, true≢false}
+use mathlib.Core.Logic.{_⊎_, inl, inr}
+use Prim.Native.Nat.{ℕ, suc}
+use native.Mathlib.Omega.{arith}
+
+-- a test with its equation, for a split into cases
+pub test : (b : Bool) → (b ≡ true) ⊎ (b ≡ false)
+test true = inl refl
+test false = inr refl
+
+pub not-both : (b : Bool) → b ≡ true → b ≡ false → ⊥
+not-both b p q = true≢false (sym p ∙ q)
+
+pub and-left : (a b : Bool) → a && b ≡ true → a ≡ true
+and-left true b e = refl
+and-left false b e = e
+
+pub and-right : (a b : Bool) → a && b ≡ true → b ≡ true
+and-right true b e = e
+and-right false b e = absurd (true≢false (sym e))
+
+pub and-both : (a b : Bool) → a ≡ true → b ≡ true → a && b ≡ true
+and-both a b p q = rw (p, q)
+
+pub and-false-left : (a b : Bool) → a ≡ false → a && b ≡ false
+and-false-left a b p = rw p
+
+pub and-false-right : (a b : Bool) → b ≡ false → a && b ≡ false
+and-false-right true b p = p
+and-false-right false b p = refl
+
+-- the first part holds, so the second fails
+pub and-second-false : (a b : Bool) → a && b ≡ false → a ≡ true → b ≡ false
+and-second-false a b e p = rw p at e
+
+pub and-not : (a b : Bool) → (a ≡ true → b ≡ true → ⊥) → a && b ≡ false
+and-not true true h = absurd (h refl refl)
+and-not true false h = refl
+and-not false b h = refl
+
+pub or-cases : (a b : Bool) → a || b ≡ true → (a ≡ true) ⊎ (b ≡ true)
+or-cases true b e = inl refl
+or-cases false b e = inr e
+
+pub or-left : (a b : Bool) → a ≡ true → a || b ≡ true
+or-left a b p = rw p
+
+pub or-right : (a b : Bool) → b ≡ true → a || b ≡ true
+or-right true b p = refl
+or-right false b p = p
+
+pub or-false-left : (a b : Bool) → a || b ≡ false → a ≡ false
+or-false-left true b e = e
+or-false-left false b e = refl
+
+pub or-false-right : (a b : Bool) → a || b ≡ false → b ≡ false
+or-false-right true b e = absurd (true≢false e)
+or-false-right false b e = e
+
+pub or-both-false : (a b : Bool) → a ≡ false → b ≡ false → a || b ≡ false
+or-both-false a b p q = rw (p, q)
+
+-- a refusal that was passed: its test failed, and the rest gave 0
+pub passed : (t : Bool) (k r : ℕ) → cond t (suc k) r ≡ 0 → (t ≡ false) × (r ≡ 0)
+passed true k r e = absurd (omega arith)
+passed false k r e = (refl, e)
