@@ -1,3 +1,4 @@
--- The board as a model, and the log that it is held against. Assumes nothing.
+-- The board as a model, the log that it is held against, and what a command may alter. Assumes nothing.
 pub mod Model
 pub mod Log
+pub mod Changes
