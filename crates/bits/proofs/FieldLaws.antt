@@ -1,13 +1,12 @@
 -- Fields of bits: one field as two, a field within a longer one, what is written is read and the other way round. Assumes nothing.
-use mathlib.Core.Path.{_≡_, refl, ap, _∙_, sym}
-use mathlib.Core.Bool.{true, _&&_}
-use mathlib.Core.List.{List, [], _∷_, _++_, append-assoc}
+use mathlib.Core.Path.{_≡_, refl, _∙_, sym}
+use mathlib.Core.Bool.{true}
+use mathlib.Core.List.{List, [], _∷_, _++_}
 use Prim.Native.Nat.{ℕ, zero, suc, _+_, _*_, _-_, _/_, _%_, _^_, _≤_, _<_}
 use native.Mathlib.Omega.{arith}
-use native.Mathlib.Numerals.{add-one}
-use native.Mathlib.Nat.{add-mul, mul-assoc, suc-mul, zero-mul, add-assoc}
+use native.Mathlib.Nat.{suc-mul, zero-mul}
 use lib.Dec.{ltb, eqb}
-use lib.Pow.{pow-add, pow-pos, pow-mono, high, low}
+use lib.Pow.{pow-pos, pow-mono, high, low}
 use lib.ListN.{length, getD, take, drop, length-drop, take-append-drop}
 use lib.Seq.{take-at, drop-at, take-add, take-all, drop-drop, length-take-le}
 use borrow.Author.Tests.{ne-eqb}
@@ -87,6 +86,16 @@ pub bytes-below : (ws : List ℕ) (i k m : ℕ) → i + k ≤ length ws → k �
 bytes-below ws i k m h l =
     let p : 8 * k ≤ 8 * m = omega arith in
     omega (arith, field-below (8 * i) (8 * k) (bits-in ws) (bits-in-are-bits ws) (rw (length-bits-in ws) (omega arith)), pow-mono p)
+
+-- a field is within the bytes that it lies in
+pub field-in-bytes : (ws : List ℕ) (a k count : ℕ) → a + k ≤ 8 * length ws → count ≡ (a % 8 + k + 7) / 8 →
+    field (8 * (a / 8)) (8 * count) (bits-in ws) / 2 ^ (8 * count - (a % 8 + k)) % 2 ^ k ≡ field a k (bits-in ws)
+field-in-bytes ws a k count h e =
+    let t = 8 * count - (a % 8 + k) in
+    let w : a % 8 + k + t ≡ 8 * count = omega arith in
+    let s : 8 * (a / 8) + a % 8 ≡ a = omega arith in
+    let l : 8 * (a / 8) + a % 8 + k + t ≤ length (bits-in ws) = rw (length-bits-in ws) (omega arith) in
+    rw (w, s) at (field-within (8 * (a / 8)) (a % 8) k t (bits-in ws) (bits-in-are-bits ws) l)
 
 -- FIELDS OF ZEROS
 -- bits are zero exactly if their number is

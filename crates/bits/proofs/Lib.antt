@@ -3,3 +3,4 @@ pub mod AllOf
 pub mod NumberLaws
 pub mod ByteLaws
 pub mod FieldLaws
+pub mod WriterLaws

@@ -1,18 +1,22 @@
 -- Bits of a number, and the number that bits stand for: each is the other's inverse. Assumes nothing.
-use mathlib.Core.Path.{_≡_, refl, ap, _∙_, sym}
-use mathlib.Core.Bool.{true, _&&_}
+use mathlib.Core.Path.{_≡_, refl, ap, _∙_}
+use mathlib.Core.Bool.{true}
 use mathlib.Core.List.{List, [], _∷_, _++_}
-use Prim.Native.Nat.{ℕ, zero, suc, _+_, _*_, _-_, _/_, _%_, _^_, _≤_, _<_}
+use Prim.Native.Nat.{ℕ, zero, suc, _+_, _*_, _/_, _%_, _^_, _≤_, _<_}
 use native.Mathlib.Omega.{arith}
 use native.Mathlib.Numerals.{one-add}
-use native.Mathlib.Nat.{pow-suc, add-mul, mul-assoc, one-mul, zero-mul, zero-add, mod-lt, zero-div}
-use lib.Pow.{mod-pow-add, high, shr-shr, pow-pos}
+use native.Mathlib.Nat.{pow-suc, add-mul, mul-assoc, one-mul, zero-mul, zero-add, suc-mul, mul-le-mul, le-refl, mod-lt, zero-div}
+use lib.Pow.{mod-pow-add, high, shr-shr, pow-pos, pow-add, shl-exact}
 use lib.Dec.{ltb}
 use lib.ListN.{length, replicate}
 use borrow.Author.Tests.{ltb-true, lt-ltb}
 use Rattle.base.specs.Lists.{all-of}
 use Rattle.base.proofs.Tests.{and-left, and-right, and-both}
 use Rattle.bits.specs.Bits.{bits-of, number-from, are-bits}
+
+-- a power that a shift computes in a 64-bit word
+pub power-word : (k : ℕ) → k ≤ 32 → 1 * 2 ^ k % 18446744073709551616 ≡ 2 ^ k
+power-word k h = shl-exact {a = 1} 1 k 64 (omega arith) (omega arith) ∙ one-mul (2 ^ k)
 
 pub length-bits-of : (k v : ℕ) → length (bits-of k v) ≡ k
 unfolding bits-of
@@ -106,3 +110,9 @@ bits-of-cut j k v = rw (mod-pow-add v j k) (bits-of-low k (v / 2 ^ k % 2 ^ j) v)
 -- two numbers joined, the second by its lowest bits
 pub bits-of-join : (j k a v : ℕ) → bits-of (j + k) (a * 2 ^ k + v % 2 ^ k) ≡ bits-of j a ++ bits-of k v
 bits-of-join j k a v = rw (bits-of-split j k (a * 2 ^ k + v % 2 ^ k), high a k (mod-lt v (pow-pos k)), bits-of-low k a v)
+
+-- and they fit
+pub joined-below : (j k a v : ℕ) → a < 2 ^ j → a * 2 ^ k + v % 2 ^ k < 2 ^ (j + k)
+joined-below j k a v h =
+    let m : suc a * 2 ^ k ≤ 2 ^ j * 2 ^ k = mul-le-mul h (le-refl (2 ^ k)) in
+    omega (arith, m, suc-mul a (2 ^ k), pow-add 2 j k, mod-lt v (pow-pos k))
