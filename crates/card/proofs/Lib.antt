@@ -1,2 +1,3 @@
 -- Assumes nothing.
 pub mod WorkedCards
+pub mod OffsetLaws

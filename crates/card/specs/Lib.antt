@@ -1,2 +1,3 @@
 -- The rig card. Assumes nothing.
 pub mod Card
+pub mod Offsets
