@@ -1,1 +1,3 @@
--- Laws. Assumes nothing.
+-- What is proved about the problem. Assumes nothing.
+pub mod ArborescenceLaws
+pub mod CandidateLaws
