@@ -1,3 +1,4 @@
 -- What is proved about the problem. Assumes nothing.
 pub mod ArborescenceLaws
 pub mod CandidateLaws
+pub mod StateLaws
