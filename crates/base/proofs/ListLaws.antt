@@ -9,7 +9,7 @@ use native.Mathlib.Nat.{add-zero, add-suc, suc-add, zero-add}
 use lib.ListN.{length, getD, set, take}
 use lib.Seq.{take-suc-set, take-all, take-suc, take-length, ext-getD}
 use Rattle.base.specs.Lists.{tabulate-from, tabulate, select, any-of, all-of}
-use Rattle.base.proofs.Tests.{or-left, or-right}
+use Rattle.base.proofs.Tests.{and-left, and-right, and-both, or-left, or-right}
 
 -- inside a list the default does not matter
 pub default : {A : Type 0} (l : List A) (i : ℕ) (d e : A) → i < length l → getD l i d ≡ getD l i e
@@ -85,6 +85,12 @@ module _ {A : Type 0} where
       go : (b : Bool) → all-of q xs ≡ not (any-of (λ y. not (q y)) xs) → b && all-of q xs ≡ not (not b || any-of (λ y. not (q y)) xs)
       go true e = e
       go false e = refl
+
+  pub all-mono : (p q : A → Bool) (xs : List A) → ((x : A) → p x ≡ true → q x ≡ true) → all-of p xs ≡ true → all-of q xs ≡ true
+  unfolding all-of
+  all-mono p q [] h e = refl
+  all-mono p q (x ∷ xs) h e =
+      and-both (q x) (all-of q xs) (h x (and-left (p x) (all-of p xs) e)) (all-mono p q xs h (and-right (p x) (all-of p xs) e))
 
   -- a test that some element passes has a witness
   pub any-witness : (q : A → Bool) (xs : List A) → any-of q xs ≡ true → (x : A) × (q x ≡ true)

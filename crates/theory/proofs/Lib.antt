@@ -2,3 +2,4 @@
 pub mod ArborescenceLaws
 pub mod CandidateLaws
 pub mod StateLaws
+pub mod OutcomeLaws
