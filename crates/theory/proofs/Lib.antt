@@ -3,3 +3,4 @@ pub mod ArborescenceLaws
 pub mod CandidateLaws
 pub mod StateLaws
 pub mod OutcomeLaws
+pub mod Duality
