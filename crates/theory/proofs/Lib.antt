@@ -4,3 +4,4 @@ pub mod CandidateLaws
 pub mod StateLaws
 pub mod OutcomeLaws
 pub mod Duality
+pub mod Optimality
