@@ -5,3 +5,5 @@ pub mod StateLaws
 pub mod OutcomeLaws
 pub mod Duality
 pub mod Optimality
+pub mod Usable
+pub mod SameArcs
