@@ -7,3 +7,5 @@ pub mod Duality
 pub mod Optimality
 pub mod Usable
 pub mod SameArcs
+pub mod Restriction
+pub mod Forced
