@@ -1,12 +1,11 @@
 -- What an arc, a remaining arc and an arborescence are, taken apart and put together. Assumes nothing.
-use mathlib.Core.Path.{_≡_, refl, sym, ap, _∙_}
+use mathlib.Core.Path.{_≡_, refl, sym, _∙_}
 use mathlib.Core.Bool.{Bool, true, false, _&&_, not, cond}
 use mathlib.Core.List.{List}
 use Prim.Native.Nat.{ℕ, _<_}
-use native.Mathlib.Omega.{arith}
 use lib.Dec.{ltb, eqb}
-use lib.ListN.{length, getD}
-use borrow.Author.Tests.{ltb-true, lt-ltb, eqb-true, eqb-false, eq-eqb, not-true}
+use lib.ListN.{length}
+use borrow.Author.Tests.{ltb-true, eqb-true, eq-eqb, not-true}
 use Rattle.base.specs.Bounded.{all-below}
 use Rattle.base.proofs.Tests.{and-left, and-right, and-both}
 use Rattle.base.proofs.BoundedLaws.{all-at, all-intro}

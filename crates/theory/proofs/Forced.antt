@@ -12,7 +12,7 @@ use Rattle.base.proofs.Tests.{test}
 use Rattle.instance.specs.Instance.{Instance}
 use Rattle.instance.specs.Arborescence.{remaining, parent, is-arborescence, total, uses}
 use Rattle.instance.specs.Cuts.{Cut, values, Feasible, No-entry}
-use Rattle.instance.specs.States.{bound, fits}
+use Rattle.instance.specs.States.{bound}
 use Rattle.theory.specs.Usable.{usable, restricted, forced}
 use Rattle.theory.proofs.ArborescenceLaws.{remaining-ends}
 use Rattle.theory.proofs.StateLaws.{fits-arborescence, fits-total, make-fits}

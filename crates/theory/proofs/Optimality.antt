@@ -1,7 +1,7 @@
 -- What cuts settle: an arborescence whose total they add to is cheapest, a set that no remaining arc enters leaves none; and which
 -- states follow without listing anything. Assumes nothing.
-use mathlib.Core.Path.{_≡_, refl, sym, _∙_}
-use mathlib.Core.Bool.{Bool, true, false}
+use mathlib.Core.Path.{_≡_, refl}
+use mathlib.Core.Bool.{true, false}
 use mathlib.Core.List.{List}
 use mathlib.Core.Logic.{⊎-elim}
 use mathlib.Core.Option.{some}
@@ -13,7 +13,7 @@ use Rattle.instance.specs.Instance.{Instance, is-arc}
 use Rattle.instance.specs.Arborescence.{remaining, parent, is-arborescence, total, uses}
 use Rattle.instance.specs.Candidates.{cheapest}
 use Rattle.instance.specs.Cuts.{Cut, values, Feasible, reduced-cost, No-entry}
-use Rattle.instance.specs.States.{Outcome, plan, over, no-tree, outcome, bound, fits, state}
+use Rattle.instance.specs.States.{plan, over, no-tree, outcome, bound, fits, state}
 use Rattle.theory.specs.Readings.{None-uses, Least-total, No-arborescence}
 use Rattle.theory.proofs.ArborescenceLaws.{arc-ends, joined}
 use Rattle.theory.proofs.StateLaws.{fits-arborescence, fits-total, state-reads}

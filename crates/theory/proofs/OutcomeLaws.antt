@@ -1,5 +1,5 @@
 -- The cheapest total and the outcome are those that document 01's words allow, and the only ones. Assumes nothing.
-use mathlib.Core.Path.{_≡_, refl, sym, ap, _∙_, subst}
+use mathlib.Core.Path.{_≡_, refl, sym, ap, subst}
 use mathlib.Core.Bool.{Bool, true, false, _||_, _&&_, cond, true≢false}
 use mathlib.Core.List.{List, [], _∷_}
 use mathlib.Core.Logic.{_↔_, ⊎-elim}
@@ -8,13 +8,13 @@ use Prim.Native.Nat.{ℕ, min, _≤_, _<_}
 use native.Mathlib.Omega.{arith}
 use native.Mathlib.Nat.{le-antisymm}
 use lib.Dec.{leb, eqb}
-use borrow.Author.Tests.{leb-true, leb-false, le-leb, lt-leb, eqb-true, eq-eqb}
-use Rattle.base.specs.Lists.{select, any-of, all-of}
+use borrow.Author.Tests.{leb-true, leb-false, le-leb, eqb-true, eq-eqb}
+use Rattle.base.specs.Lists.{any-of, all-of}
 use Rattle.base.proofs.Tests.{test, not-both, and-both, or-left, or-right}
 use Rattle.base.proofs.ListLaws.{all-mono}
 use Rattle.instance.specs.Instance.{Instance}
 use Rattle.instance.specs.Arborescence.{is-arborescence, total}
-use Rattle.instance.specs.Candidates.{candidates, arborescences, lesser, least-total, cheapest}
+use Rattle.instance.specs.Candidates.{arborescences, lesser, least-total, cheapest}
 use Rattle.instance.specs.States.{Outcome, plan, over, no-tree, outcome-at, outcome}
 use Rattle.theory.specs.Readings.{Least-total, No-arborescence, Outcome-reads}
 use Rattle.theory.proofs.CandidateLaws.{any-selected, all-selected}

@@ -1,30 +1,24 @@
 -- Instances whose weights are a matrix of what remains of another, or of some of it: their remaining arcs, arborescences, totals
 -- and cuts. The algorithm works on such a matrix. Assumes nothing.
-use mathlib.Core.Path.{_≡_, refl, sym, ap, _∙_, subst}
-use mathlib.Core.Bool.{Bool, true, false, _&&_, _||_, not, cond, and-true}
-use mathlib.Core.List.{List, []}
+use mathlib.Core.Path.{_≡_, refl, sym, ap, _∙_}
+use mathlib.Core.Bool.{Bool, true, false, _&&_, not, cond, and-true}
+use mathlib.Core.List.{List}
 use mathlib.Core.Logic.{_↔_, ⊎-elim}
 use Prim.Native.Nat.{ℕ, _+_, _*_, _/_, _%_, _≤_, _<_}
 use native.Mathlib.Omega.{arith}
-use lib.Dec.{leb, eqb}
-use lib.ListN.{getD}
-use borrow.Author.Tests.{eqb-true, eqb-false, eq-eqb, leb-true, leb-false}
-use Rattle.base.specs.Bounded.{any-below, sum-below}
+use lib.Dec.{eqb}
+use borrow.Author.Tests.{eq-eqb}
 use Rattle.base.proofs.Tests.{test, not-both, same-test, and-left, and-right, and-both, and-false-right}
 use Rattle.base.proofs.BoundedLaws.{any-false, sum-eq}
 use Rattle.base.proofs.ListLaws.{getD-tabulate}
-use Rattle.instance.specs.Limits.{no-arc, free, pinned, banned, cells}
-use Rattle.instance.specs.Instance.{Instance, cell, weight-at, weight, mark, can-be-arc, is-arc}
-use Rattle.instance.specs.Arborescence.{is-pinned, other-pinned, remaining, parent, reaches, is-arborescence, total, uses}
-use Rattle.instance.specs.Cuts.{Cut, values, Feasible, Proves, No-entry}
-use Rattle.instance.specs.States.{bound, fits}
+use Rattle.instance.specs.Limits.{no-arc, cells}
+use Rattle.instance.specs.Instance.{Instance, weight-at, weight, mark, can-be-arc, is-arc}
+use Rattle.instance.specs.Arborescence.{is-pinned, other-pinned, remaining, parent, is-arborescence, total}
+use Rattle.instance.specs.Cuts.{Cut, Feasible, Proves, No-entry}
 use Rattle.instance.specs.Matrix.{matrix-where, matrix, unmarked}
-use Rattle.theory.specs.Usable.{usable, restricted, forced}
-use Rattle.theory.proofs.ArborescenceLaws.{Ends, arc-ends, arc-weight, remaining-arc, remaining-ends, Joined, parents-size, root-parent, joined, make-arborescence}
-use Rattle.theory.proofs.StateLaws.{fits-arborescence, fits-total, make-fits}
-use Rattle.theory.proofs.Duality.{weak-duality, no-entry}
+use Rattle.theory.specs.Usable.{restricted}
+use Rattle.theory.proofs.ArborescenceLaws.{arc-ends, arc-weight, remaining-arc, remaining-ends, parents-size, root-parent, joined, make-arborescence}
 use Rattle.theory.proofs.SameArcs.{Same-arcs, same-back, same-arborescence, same-total, same-feasible, same-proves, same-no-entry}
-use Rattle.theory.proofs.Usable.{usable-some, usable-none}
 
 -- an unmarked instance has no pins
 unmarked-other : (n r : ℕ) (ws : List ℕ) (t h : ℕ) → other-pinned (unmarked n r ws) t h ≡ false

@@ -1,18 +1,18 @@
 -- Instances with the same vertices, the same root and the same remaining arcs at the same weights have the same arborescences,
 -- totals and cuts, whatever else their lists hold. Assumes nothing.
 use mathlib.Core.Path.{_≡_, refl, sym, ap, _∙_, subst}
-use mathlib.Core.Bool.{Bool, true, false, _&&_, cond}
+use mathlib.Core.Bool.{Bool, true, false, cond}
 use mathlib.Core.List.{List, [], _∷_}
-use Prim.Native.Nat.{ℕ, _+_, _≤_, _<_}
+use Prim.Native.Nat.{ℕ, _≤_, _<_}
 use lib.Dec.{eqb}
 use lib.ListN.{length}
 use Rattle.base.specs.Bounded.{sum-below}
 use Rattle.base.proofs.BoundedLaws.{sum-eq}
-use Rattle.instance.specs.Limits.{no-parent, cut-limit}
+use Rattle.instance.specs.Limits.{cut-limit}
 use Rattle.instance.specs.Instance.{Instance, weight}
-use Rattle.instance.specs.Arborescence.{remaining, parent, reaches, is-arborescence, total}
+use Rattle.instance.specs.Arborescence.{remaining, parent, is-arborescence, total}
 use Rattle.instance.specs.Cuts.{Cut, charged, set-ok, sets-ok, Feasible, Proves, No-entry}
-use Rattle.theory.proofs.ArborescenceLaws.{Joined, parents-size, root-parent, joined, make-arborescence}
+use Rattle.theory.proofs.ArborescenceLaws.{parents-size, root-parent, joined, make-arborescence}
 
 pub record Same-arcs (a b : Instance) : Type 0 where
   pub vertices : a .n ≡ b .n

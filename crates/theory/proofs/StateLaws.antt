@@ -1,7 +1,7 @@
 -- The computed state of each cell is the one that document 01's words allow, and the only one; so is the list of all states.
 -- Assumes nothing.
 use mathlib.Core.Path.{_≡_, refl, sym, ap, _∙_, subst}
-use mathlib.Core.Bool.{Bool, true, false, _&&_, cond}
+use mathlib.Core.Bool.{Bool, true, false, cond}
 use mathlib.Core.List.{List}
 use mathlib.Core.Logic.{_⊎_, inl, inr, ⊎-elim}
 use Prim.Native.Nat.{ℕ, zero, suc, _+_, _*_, _/_, _%_, _≤_, _<_}
@@ -17,7 +17,7 @@ use Rattle.base.proofs.ListLaws.{length-tabulate, getD-tabulate, tabulate-is}
 use Rattle.instance.specs.Instance.{Instance, is-arc}
 use Rattle.instance.specs.Arborescence.{is-arborescence, total, uses}
 use Rattle.instance.specs.States.{bound, fits, fitting, state-over, state, states}
-use Rattle.theory.specs.Readings.{Some-fits, Some-uses, Some-avoids, None-uses, All-use, State-reads, States-read}
+use Rattle.theory.specs.Readings.{Some-uses, Some-avoids, None-uses, All-use, State-reads, States-read}
 use Rattle.theory.proofs.CandidateLaws.{any-selected, all-selected, one-fails, none-passes}
 
 -- FITTING LISTS

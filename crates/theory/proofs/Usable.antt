@@ -1,18 +1,18 @@
 -- The state of an arc from usability alone: an arborescence has exactly one arc into each head, so an arc is mandatory exactly
 -- where it is usable and no other arc into its head is. Assumes nothing.
-use mathlib.Core.Path.{_≡_, refl, sym, ap, _∙_}
+use mathlib.Core.Path.{_≡_, refl, ap}
 use mathlib.Core.Bool.{Bool, true, false, _&&_, not, cond}
 use mathlib.Core.List.{List}
 use mathlib.Core.Logic.{_↔_, ⊎-elim}
 use Prim.Native.Nat.{ℕ, _+_, _<_}
 use lib.Dec.{eqb}
-use borrow.Author.Tests.{eqb-true, ne-eqb, eq-eqb, not-true}
+use borrow.Author.Tests.{eqb-true, eq-eqb, not-true}
 use Rattle.base.specs.Bounded.{any-below}
-use Rattle.base.specs.Lists.{any-of, all-of}
+use Rattle.base.specs.Lists.{all-of}
 use Rattle.base.proofs.Tests.{test, not-both, and-left, and-right, and-both}
 use Rattle.base.proofs.BoundedLaws.{any-intro, any-found}
 use Rattle.instance.specs.Instance.{Instance, is-arc}
-use Rattle.instance.specs.Arborescence.{remaining, parent, is-arborescence, uses}
+use Rattle.instance.specs.Arborescence.{remaining, parent, uses}
 use Rattle.instance.specs.Cuts.{Cut, values, Feasible, reduced-cost}
 use Rattle.instance.specs.States.{bound, fits, fitting, state-over, state}
 use Rattle.theory.specs.Readings.{Some-uses, None-uses, All-use}
