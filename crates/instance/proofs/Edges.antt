@@ -27,8 +27,8 @@ remaining-below : (s : Instance) (t h : ℕ) → remaining s t h ≡ true → (t
 unfolding remaining is-arc can-be-arc
 remaining-below s t h r =
     let can =
-        and-left (can-be-arc (s .n) (s .root) t h) (not (eqb (weight s t h) no-arc))
-        (and-left (is-arc s t h) (not (eqb (mark s t h) banned) && not (other-pinned s t h)) r) in
+    and-left (can-be-arc (s .n) (s .root) t h) (not (eqb (weight s t h) no-arc))
+    (and-left (is-arc s t h) (not (eqb (mark s t h) banned) && not (other-pinned s t h)) r) in
     let both = and-left (ltb t (s .n) && ltb h (s .n)) (not (eqb t h) && not (eqb h (s .root))) can in
     (ltb-true t (s .n) (and-left (ltb t (s .n)) (ltb h (s .n)) both), ltb-true h (s .n) (and-right (ltb t (s .n)) (ltb h (s .n)) both))
 
@@ -65,11 +65,13 @@ p1-proves =
             sets = p1-sets;
             covered =
                 λ t h r.
-                  leb-true (charged p1-cuts t h) (weight (sheet-q 16 []) t h)
-                  (at-remaining (sheet-q 16 []) (λ u v. leb (charged p1-cuts u v) (weight (sheet-q 16 []) u v)) p1-covered t h r) };
+                leb-true (charged p1-cuts t h) (weight (sheet-q 16 []) t h)
+                (at-remaining (sheet-q 16 []) (λ u v. leb (charged p1-cuts u v) (weight (sheet-q 16 []) u v)) p1-covered t h r);
+          };
       positive = refl;
       few = omega arith;
-      adds = refl }
+      adds = refl;
+    }
 
 -- "in P3, 2→1 has reduced price 0 under the cuts above, yet the cheapest tree with it costs 16": it is closed
 pub p3-reduced : reduced-cost (sheet-q 15 []) p1-cuts 2 1 ≡ 0
@@ -94,15 +96,20 @@ banned-no-entry =
     record {
       set-good = refl;
       value-zero = refl;
-      shut = λ t h r. not-true (enters 2 t h) (at-remaining (two 5 (arc 0 1 banned ∷ [])) (λ u v. not (enters 2 u v)) banned-shut t h r) }
+      shut = λ t h r. not-true (enters 2 t h) (at-remaining (two 5 (arc 0 1 banned ∷ [])) (λ u v. not (enters 2 u v)) banned-shut t h r);
+    }
 
 -- A SET is no cut if it is empty, has the root, or has a vertex that the instance lacks; {1,2,3} is one
-pub sets : map (set-ok (sheet-q 16 [])) (0 ∷ 3 ∷ 16 ∷ 14 ∷ []) ≡ false ∷ false ∷ false ∷ true ∷ []
+pub sets-judged : map (set-ok (sheet-q 16 [])) (0 ∷ 3 ∷ 16 ∷ 14 ∷ []) ≡ false ∷ false ∷ false ∷ true ∷ []
 unfolding set-ok inside sheet-q instance-of
-sets = refl
+sets-judged = refl
 
--- "Two pins into one position therefore leave it with none": 0→1 and 2→1 pinned, so that none of 0→1, 2→1, 3→1
--- remains
+-- "each amount is at least 1"
+pub zero-value : all-positive (cut 2 0 ∷ []) ≡ false
+unfolding all-positive
+zero-value = refl
+
+-- "Two pins into one position therefore leave it with none": with 0→1 and 2→1 pinned none of 0→1, 2→1, 3→1 remains
 pub two-pins : map (λ t. remaining (sheet-q 16 (arc 0 1 pinned ∷ arc 2 1 pinned ∷ [])) t 1) (0 ∷ 2 ∷ 3 ∷ []) ≡ false ∷ false ∷ false ∷ []
 unfolding any-below sheet-q instance-of filled weight mark can-be-arc is-arc is-pinned other-pinned remaining
 two-pins = refl
@@ -114,14 +121,14 @@ banned-arc = refl
 
 -- LISTS: P1's; 255 elsewhere than at the root, something else at the root, too short, too long, a cycle, a vertex that is its own
 -- parent, a parent that is no vertex, an arc that is none (3→2)
-pub lists :
+pub lists-judged :
     map (is-arborescence (sheet-q 16 []))
     ((255 ∷ 0 ∷ 1 ∷ 1 ∷ []) ∷ (255 ∷ 0 ∷ 255 ∷ 1 ∷ []) ∷ (0 ∷ 0 ∷ 1 ∷ 1 ∷ []) ∷ (255 ∷ 0 ∷ 1 ∷ []) ∷ (255 ∷ 0 ∷ 1 ∷ 1 ∷ 1 ∷ [])
-     ∷ (255 ∷ 2 ∷ 1 ∷ 1 ∷ []) ∷ (255 ∷ 0 ∷ 2 ∷ 1 ∷ []) ∷ (255 ∷ 4 ∷ 1 ∷ 1 ∷ []) ∷ (255 ∷ 0 ∷ 3 ∷ 1 ∷ []) ∷ [])
+    ∷ (255 ∷ 2 ∷ 1 ∷ 1 ∷ []) ∷ (255 ∷ 0 ∷ 2 ∷ 1 ∷ []) ∷ (255 ∷ 4 ∷ 1 ∷ 1 ∷ []) ∷ (255 ∷ 0 ∷ 3 ∷ 1 ∷ []) ∷ [])
     ≡ true ∷ false ∷ false ∷ false ∷ false ∷ false ∷ false ∷ false ∷ false ∷ []
 unfolding
     all-below any-below sheet-q instance-of filled weight mark can-be-arc is-arc is-pinned other-pinned remaining reaches parent-ok is-arborescence
-lists = refl
+lists-judged = refl
 
 -- "Taking the cheapest feeder everywhere: Q gives 7, with a ring and no console."
 pub cheapest-each : total (sheet-q 16 []) (255 ∷ 2 ∷ 1 ∷ 1 ∷ []) ≡ 7

@@ -30,7 +30,8 @@ ends n r t h e =
       tail-below = ltb-true t n (and-left (ltb t n) (ltb h n) below);
       head-below = ltb-true h n (and-right (ltb t n) (ltb h n) below);
       differ = not-true (eqb t h) (and-left (not (eqb t h)) (not (eqb h r)) apart);
-      not-root = not-true (eqb h r) (and-right (not (eqb t h)) (not (eqb h r)) apart) }
+      not-root = not-true (eqb h r) (and-right (not (eqb t h)) (not (eqb h r)) apart);
+    }
 
 module _ (s : Instance) (t h : ℕ) where
   pub arc-ends : is-arc s t h ≡ true → Ends (s .n) (s .root) t h
@@ -73,7 +74,8 @@ module _ (s : Instance) (ps : List ℕ) where
       let ok : remaining s (parent ps v) v && reaches (s .n) (s .root) ps v ≡ true = rw e at (parents-ok a v l) in
       record {
         arc = and-left (remaining s (parent ps v) v) (reaches (s .n) (s .root) ps v) ok;
-        reach = and-right (remaining s (parent ps v) v) (reaches (s .n) (s .root) ps v) ok }
+        reach = and-right (remaining s (parent ps v) v) (reaches (s .n) (s .root) ps v) ok;
+      }
 
   pub make-arborescence : length ps ≡ s .n → ((v : ℕ) → v < s .n → eqb v (s .root) ≡ true → parent ps v ≡ no-parent)
       → ((v : ℕ) → v < s .n → eqb v (s .root) ≡ false → Joined v) → is-arborescence s ps ≡ true

@@ -28,8 +28,8 @@ any-prefixed q [] ls x e f = e
 any-prefixed q (y ∷ xs) ls x e f =
     ⊎-elim
     (λ (p : eqb y x ≡ true).
-      any-append-left q (map (λ l. y ∷ l) ls) (prefixed xs ls)
-      (any-map q (λ l. y ∷ l) ls ∙ subst (λ (z : ℕ). any-of (λ l. q (z ∷ l)) ls ≡ true) (sym (eqb-true y x p)) f))
+    any-append-left q (map (λ l. y ∷ l) ls) (prefixed xs ls)
+    (any-map q (λ l. y ∷ l) ls ∙ subst (λ (z : ℕ). any-of (λ l. q (z ∷ l)) ls ≡ true) (sym (eqb-true y x p)) f))
     (λ (p : any-of (λ z. eqb z x) xs ≡ true). any-append-right q (map (λ l. y ∷ l) ls) (prefixed xs ls) (any-prefixed q xs ls x p f))
     (or-cases (eqb y x) (any-of (λ z. eqb z x) xs) e)
 
@@ -69,6 +69,7 @@ module _ (s : Instance) (p : List ℕ → Bool) (sound : (ps : List ℕ) → p p
       found e =
           let w = any-witness (λ x. p x && q x) (candidates s) (sym (any-select p q (candidates s)) ∙ e) in
           (w .0, and-left (p (w .0)) (q (w .0)) (w .1), and-right (p (w .0)) (q (w .0)) (w .1))
+
       here : ((ps : List ℕ) × (p ps ≡ true) × (q ps ≡ true)) → any-of q (select p (candidates s)) ≡ true
       here w =
           any-select p q (candidates s)
@@ -79,17 +80,19 @@ module _ (s : Instance) (p : List ℕ → Bool) (sound : (ps : List ℕ) → p p
     where
       fails : Bool
       fails = any-of (λ x. not (q x)) (select p (candidates s))
+
       each : all-of q (select p (candidates s)) ≡ true → (ps : List ℕ) → p ps ≡ true → q ps ≡ true
       each e ps h =
           ⊎-elim (λ (y : q ps ≡ true). y)
           (λ (n : q ps ≡ false).
-            absurd (not-both fails (any-selected (λ x. not (q x)) .1 (ps, h, ap not n)) (not-true fails (sym (all-of-any q (select p (candidates s))) ∙ e))))
+          absurd (not-both fails (any-selected (λ x. not (q x)) .1 (ps, h, ap not n)) (not-true fails (sym (all-of-any q (select p (candidates s))) ∙ e))))
           (test (q ps))
+
       whole : ((ps : List ℕ) → p ps ≡ true → q ps ≡ true) → all-of q (select p (candidates s)) ≡ true
       whole h =
           ⊎-elim
           (λ (y : fails ≡ true).
-            let w = any-selected (λ x. not (q x)) .0 y in absurd (not-both (q (w .0)) (h (w .0) (w .1)) (not-true (q (w .0)) (w .2))))
+          let w = any-selected (λ x. not (q x)) .0 y in absurd (not-both (q (w .0)) (h (w .0) (w .1)) (not-true (q (w .0)) (w .2))))
           (λ (n : fails ≡ false). all-of-any q (select p (candidates s)) ∙ ap not n)
           (test fails)
 

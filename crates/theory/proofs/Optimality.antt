@@ -61,19 +61,19 @@ module _ (s : Instance) where
         let r = outcome-reads s .exceeds v .0 e in
         unfit-excluded
         (λ ps p.
-          let l = r .0 .least ps (fits-arborescence s ps p) in
-          let m = fits-total s ps p in
-          omega (arith, r .1))
+        let l = r .0 .least ps (fits-arborescence s ps p) in
+        let m = fits-total s ps p in
+        omega (arith, r .1))
 
     pub lost-excluded : remaining s t h ≡ false → state s t h ≡ 1
     unfolding uses
     lost-excluded r =
         unused-excluded
         (λ ps p.
-          let end = arc-ends s t h x in
-          ne-eqb (parent ps h) t
-          (λ e.
-            not-both (remaining s t h) (rw e at (joined s ps (fits-arborescence s ps p) h (end .head-below) (end .not-root) .arc)) r))
+        let end = arc-ends s t h x in
+        ne-eqb (parent ps h) t
+        (λ e.
+        not-both (remaining s t h) (rw e at (joined s ps (fits-arborescence s ps p) h (end .head-below) (end .not-root) .arc)) r))
 
     pub reduced-excluded : (cs : List Cut) → Feasible s cs → remaining s t h ≡ true → bound s < values cs + reduced-cost s cs t h → state s t h ≡ 1
     reduced-excluded cs f r past = unused-excluded (reduced-excludes s cs t h f r past)

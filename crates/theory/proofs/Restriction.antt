@@ -64,10 +64,11 @@ module _ (s : Instance) (q : ℕ → ℕ → Bool) (small : s .n ≤ 32) where
           let end = arc-ends (restricted s q) t h x in
           ⊎-elim (λ (e : remaining s t h && q t h ≡ true). e)
           (λ (e : remaining s t h && q t h ≡ false).
-            let l : t < 32 = omega (arith, end .tail-below) in
-            let m : h < 32 = omega (arith, end .head-below) in
-            absurd (not-both (eqb (weight (restricted s q) t h) no-arc) (eq-eqb (weight (restricted s q) t h) no-arc (goes t h l m e)) (arc-weight (restricted s q) t h x)))
+          let l : t < 32 = omega (arith, end .tail-below) in
+          let m : h < 32 = omega (arith, end .head-below) in
+          absurd (not-both (eqb (weight (restricted s q) t h) no-arc) (eq-eqb (weight (restricted s q) t h) no-arc (goes t h l m e)) (arc-weight (restricted s q) t h x)))
           (test (remaining s t h && q t h))
+
       whole : remaining s t h && q t h ≡ true → is-arc (restricted s q) t h ≡ true
       whole e =
           let x = remaining-arc s t h (and-left (remaining s t h) (q t h) e) in
@@ -82,25 +83,29 @@ module _ (s : Instance) (q : ℕ → ℕ → Bool) (small : s .n ≤ 32) where
   pub restricted-arborescence : (ps : List ℕ) → (is-arborescence (restricted s q) ps ≡ true)
       ↔ ((is-arborescence s ps ≡ true) × ((v : ℕ) → v < s .n → eqb v (s .root) ≡ false → q (parent ps v) v ≡ true))
   unfolding unmarked
-  restricted-arborescence ps = (λ a. (whole a, λ v l e. and-right (remaining s (parent ps v) v) (q (parent ps v) v) (kept a v l e)), back)
+  restricted-arborescence ps = (λ a. (whole a, λ v l e. and-right (remaining s (parent ps v) v) (q (parent ps v) v) (both a v l e)), back)
     where
-      kept : is-arborescence (restricted s q) ps ≡ true → (v : ℕ) → v < s .n → eqb v (s .root) ≡ false → remaining s (parent ps v) v && q (parent ps v) v ≡ true
-      kept a v l e = sym (restricted-remaining (parent ps v) v) ∙ joined (restricted s q) ps a v l e .arc
+      both : is-arborescence (restricted s q) ps ≡ true → (v : ℕ) → v < s .n → eqb v (s .root) ≡ false → remaining s (parent ps v) v && q (parent ps v) v ≡ true
+      both a v l e = sym (restricted-remaining (parent ps v) v) ∙ joined (restricted s q) ps a v l e .arc
+
       whole : is-arborescence (restricted s q) ps ≡ true → is-arborescence s ps ≡ true
       whole a =
           make-arborescence s ps (parents-size (restricted s q) ps a) (root-parent (restricted s q) ps a)
           (λ v l e.
-            record {
-              arc = and-left (remaining s (parent ps v) v) (q (parent ps v) v) (kept a v l e);
-              reach = joined (restricted s q) ps a v l e .reach })
+          record {
+            arc = and-left (remaining s (parent ps v) v) (q (parent ps v) v) (both a v l e);
+            reach = joined (restricted s q) ps a v l e .reach;
+          })
+
       back : (is-arborescence s ps ≡ true) × ((v : ℕ) → v < s .n → eqb v (s .root) ≡ false → q (parent ps v) v ≡ true) → is-arborescence (restricted s q) ps ≡ true
       back x =
           make-arborescence (restricted s q) ps (parents-size s ps (x .0)) (root-parent s ps (x .0))
           (λ v l e.
-            let j = joined s ps (x .0) v l e in
-            record {
-              arc = restricted-remaining (parent ps v) v ∙ and-both (remaining s (parent ps v) v) (q (parent ps v) v) (j .arc) (x .1 v l e);
-              reach = j .reach })
+          let j = joined s ps (x .0) v l e in
+          record {
+            arc = restricted-remaining (parent ps v) v ∙ and-both (remaining s (parent ps v) v) (q (parent ps v) v) (j .arc) (x .1 v l e);
+            reach = j .reach;
+          })
 
   pub restricted-total : (ps : List ℕ) → is-arborescence (restricted s q) ps ≡ true → total (restricted s q) ps ≡ total s ps
   unfolding total unmarked
@@ -121,7 +126,8 @@ matrix-same s small =
       vertices = refl;
       roots = refl;
       arcs = λ t h. restricted-remaining s (λ _ _. true) small t h ∙ and-true (remaining s t h);
-      weights = restricted-same-weight s (λ _ _. true) small }
+      weights = restricted-same-weight s (λ _ _. true) small;
+    }
 
 module _ (s : Instance) (small : s .n ≤ 32) where
   abbrev whole : Instance

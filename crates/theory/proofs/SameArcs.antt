@@ -26,7 +26,8 @@ same-back a b e =
       vertices = sym (e .vertices);
       roots = sym (e .roots);
       arcs = λ t h. sym (e .arcs t h);
-      weights = λ t h r. sym (e .weights t h (e .arcs t h ∙ r)) }
+      weights = λ t h r. sym (e .weights t h (e .arcs t h ∙ r));
+    }
 
 module _ (a b : Instance) (e : Same-arcs a b) where
   at-root : (v : ℕ) → eqb v (b .root) ≡ eqb v (a .root)
@@ -39,8 +40,8 @@ module _ (a b : Instance) (e : Same-arcs a b) where
   same-arborescence ps x =
       make-arborescence b ps (parents-size a ps x ∙ e .vertices) (λ v l r. root-parent a ps x v (below v l) (sym (at-root v) ∙ r))
       (λ v l r.
-        let j = joined a ps x v (below v l) (sym (at-root v) ∙ r) in
-        record { arc = sym (e .arcs (parent ps v) v) ∙ j .arc; reach = rw (e .vertices, e .roots) at (j .reach) })
+      let j = joined a ps x v (below v l) (sym (at-root v) ∙ r) in
+      record { arc = sym (e .arcs (parent ps v) v) ∙ j .arc; reach = rw (e .vertices, e .roots) at (j .reach) })
 
   pub same-total : (ps : List ℕ) → is-arborescence a ps ≡ true → total a ps ≡ total b ps
   unfolding total
@@ -67,7 +68,8 @@ module _ (a b : Instance) (e : Same-arcs a b) where
   same-feasible cs f =
       record {
         sets = sym (same-sets cs) ∙ f .sets;
-        covered = λ t h r. let x = e .arcs t h ∙ r in subst (λ (w : ℕ). charged cs t h ≤ w) (e .weights t h x) (f .covered t h x) }
+        covered = λ t h r. let x = e .arcs t h ∙ r in subst (λ (w : ℕ). charged cs t h ≤ w) (e .weights t h x) (f .covered t h x);
+      }
 
   pub same-proves : (cs : List Cut) (v : ℕ) → Proves a cs v → Proves b cs v
   same-proves cs v p =
@@ -75,11 +77,13 @@ module _ (a b : Instance) (e : Same-arcs a b) where
         feasible = same-feasible cs (p .feasible);
         positive = p .positive;
         few = subst (λ (k : ℕ). length cs ≤ cut-limit k) (e .vertices) (p .few);
-        adds = p .adds }
+        adds = p .adds;
+      }
 
   pub same-no-entry : (c : Cut) → No-entry a c → No-entry b c
   same-no-entry c p =
       record {
         set-good = sym (same-set (c .set)) ∙ p .set-good;
         value-zero = p .value-zero;
-        shut = λ t h r. p .shut t h (e .arcs t h ∙ r) }
+        shut = λ t h r. p .shut t h (e .arcs t h ∙ r);
+      }

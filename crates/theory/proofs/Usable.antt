@@ -29,12 +29,13 @@ module _ (s : Instance) (t h : ℕ) where
 
   pub usable-none : (usable s t h ≡ false) ↔ None-uses s t h
   unfolding usable fitting
-  usable-none =
-      (none-passes s (fits s) (fits-arborescence s) (λ ps. uses ps t h),
-       (λ u.
-         ⊎-elim
-         (λ (e : usable s t h ≡ true). let w = usable-some .0 e in absurd (not-both (uses (w .0) t h) (w .2) (u (w .0) (w .1))))
-         (λ (e : usable s t h ≡ false). e) (test (usable s t h))))
+  usable-none = (
+    none-passes s (fits s) (fits-arborescence s) (λ ps. uses ps t h),
+    (λ u.
+        ⊎-elim
+        (λ (e : usable s t h ≡ true). let w = usable-some .0 e in absurd (not-both (uses (w .0) t h) (w .2) (u (w .0) (w .1))))
+        (λ (e : usable s t h ≡ false). e) (test (usable s t h))),
+  )
 
   -- a usable arc remains
   pub usable-remains : is-arc s t h ≡ true → usable s t h ≡ true → remaining s t h ≡ true
@@ -65,12 +66,12 @@ module _ (s : Instance) (t h : ℕ) (x : is-arc s t h ≡ true) where
   all-use e ps p =
       ⊎-elim (λ (u : eqb (parent ps h) t ≡ true). u)
       (λ (u : eqb (parent ps h) t ≡ false).
-        let end = arc-ends s t h x in
-        let g = parent ps h in
-        let below = remaining-ends s g h (joined s ps (fits-arborescence s ps p) h (end .head-below) (end .not-root) .arc) .tail-below in
-        let can = usable-some s g h .1 (ps, p, uses-parent ps h) in
-        absurd
-        (not-both other-usable (any-intro (s .n) (λ k. not (eqb k t) && usable s k h) g below (and-both (not (eqb g t)) (usable s g h) (ap not u) can)) e))
+      let end = arc-ends s t h x in
+      let g = parent ps h in
+      let below = remaining-ends s g h (joined s ps (fits-arborescence s ps p) h (end .head-below) (end .not-root) .arc) .tail-below in
+      let can = usable-some s g h .1 (ps, p, uses-parent ps h) in
+      absurd
+      (not-both other-usable (any-intro (s .n) (λ k. not (eqb k t) && usable s k h) g below (and-both (not (eqb g t)) (usable s g h) (ap not u) can)) e))
       (test (eqb (parent ps h) t))
 
   all-not-other : all-of (λ ps. uses ps t h) (fitting s) ≡ not other-usable
@@ -79,8 +80,10 @@ module _ (s : Instance) (t h : ℕ) (x : is-arc s t h ≡ true) where
     where
       used : Bool
       used = all-of (λ ps. uses ps t h) (fitting s)
+
       all-used : (used ≡ true) ↔ All-use s t h
       all-used = all-selected s (fits s) (fits-arborescence s) (λ ps. uses ps t h)
+
       at : (b : Bool) → other-usable ≡ b → used ≡ not b
       at true e =
           ⊎-elim (λ (u : used ≡ true). absurd (other-avoids e (all-used .0 u))) (λ (u : used ≡ false). u) (test used)
