@@ -1,0 +1,2 @@
+// The public calls.
+pub mod buffers; // copies into the caller's buffers
