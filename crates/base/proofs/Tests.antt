@@ -13,6 +13,15 @@ test false = inr refl
 pub not-both : (b : Bool) → b ≡ true → b ≡ false → ⊥
 not-both b p q = true≢false (sym p ∙ q)
 
+-- a test passes if it cannot fail, and fails if it cannot pass
+pub is-true : (b : Bool) → (b ≡ false → ⊥) → b ≡ true
+is-true true h = refl
+is-true false h = absurd (h refl)
+
+pub is-false : (b : Bool) → (b ≡ true → ⊥) → b ≡ false
+is-false true h = absurd (h refl)
+is-false false h = refl
+
 -- two tests that pass alike are one
 pub same-test : (a b : Bool) → (a ≡ true → b ≡ true) → (b ≡ true → a ≡ true) → a ≡ b
 same-test true b p q = sym (p refl)

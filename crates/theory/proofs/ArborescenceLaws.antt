@@ -99,3 +99,8 @@ uses-one ps t g h p q = sym (eqb-true (parent ps h) t p) ∙ eqb-true (parent ps
 pub uses-parent : (ps : List ℕ) (h : ℕ) → uses ps (parent ps h) h ≡ true
 unfolding uses
 uses-parent ps h = eq-eqb (parent ps h) (parent ps h) refl
+
+-- an arc that an arborescence uses remains
+pub uses-remains : (s : Instance) (ps : List ℕ) (t h : ℕ) → is-arborescence s ps ≡ true → h < s .n → eqb h (s .root) ≡ false → uses ps t h ≡ true → remaining s t h ≡ true
+unfolding uses
+uses-remains s ps t h a l e u = rw (eqb-true (parent ps h) t u) at (joined s ps a h l e .arc)

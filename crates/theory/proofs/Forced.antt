@@ -3,12 +3,12 @@
 use mathlib.Core.Path.{_≡_, refl, sym, subst}
 use mathlib.Core.Bool.{Bool, true, false, _||_, not}
 use mathlib.Core.List.{List}
-use mathlib.Core.Logic.{_↔_, ⊎-elim}
+use mathlib.Core.Logic.{_↔_}
 use Prim.Native.Nat.{ℕ, _≤_}
 use native.Mathlib.Omega.{arith}
 use lib.Dec.{leb, eqb}
 use borrow.Author.Tests.{eqb-true, eq-eqb, leb-true, leb-false}
-use Rattle.base.proofs.Tests.{test}
+use Rattle.base.proofs.Tests.{is-false}
 use Rattle.instance.specs.Instance.{Instance}
 use Rattle.instance.specs.Arborescence.{remaining, parent, is-arborescence, total, uses}
 use Rattle.instance.specs.Cuts.{Cut, values, Feasible, No-entry}
@@ -52,20 +52,17 @@ module _ (s : Instance) (t₀ h₀ : ℕ) (small : s .n ≤ 32) (r : remaining s
       at false l =
           usable-none s t₀ h₀ .1
           (λ qs fit.
-          ⊎-elim
-          (λ (u : uses qs t₀ h₀ ≡ true).
+          is-false (uses qs t₀ h₀)
+          (λ u.
           let b = forced-arborescence qs .1 (fits-arborescence s qs fit, u) in
           let same = restricted-total s (forced t₀ h₀) small qs b in
           let least = weak-duality on qs b cs f in
           let most = fits-total s qs fit in
           let m = leb-false (total on ps) (bound s) l in
-          absurd (omega arith))
-          (λ (u : uses qs t₀ h₀ ≡ false). u) (test (uses qs t₀ h₀)))
+          omega arith))
 
   pub forced-unusable : (c : Cut) → No-entry (restricted s (forced t₀ h₀)) c → usable s t₀ h₀ ≡ false
   forced-unusable c e =
       usable-none s t₀ h₀ .1
       (λ qs fit.
-      ⊎-elim
-      (λ (u : uses qs t₀ h₀ ≡ true). absurd (no-entry (restricted s (forced t₀ h₀)) qs (forced-arborescence qs .1 (fits-arborescence s qs fit, u)) c e))
-      (λ (u : uses qs t₀ h₀ ≡ false). u) (test (uses qs t₀ h₀)))
+      is-false (uses qs t₀ h₀) (λ u. no-entry (restricted s (forced t₀ h₀)) qs (forced-arborescence qs .1 (fits-arborescence s qs fit, u)) c e))

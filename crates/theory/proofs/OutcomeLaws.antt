@@ -2,7 +2,7 @@
 use mathlib.Core.Path.{_≡_, refl, sym, ap, subst}
 use mathlib.Core.Bool.{Bool, true, false, _||_, _&&_, cond, true≢false}
 use mathlib.Core.List.{List, [], _∷_}
-use mathlib.Core.Logic.{_↔_, ⊎-elim}
+use mathlib.Core.Logic.{_↔_}
 use mathlib.Core.Option.{Option, none, some}
 use Prim.Native.Nat.{ℕ, min, _≤_, _<_}
 use native.Mathlib.Omega.{arith}
@@ -10,7 +10,7 @@ use native.Mathlib.Nat.{le-antisymm}
 use lib.Dec.{leb, eqb}
 use borrow.Author.Tests.{leb-true, leb-false, le-leb, eqb-true, eq-eqb}
 use Rattle.base.specs.Lists.{any-of, all-of}
-use Rattle.base.proofs.Tests.{test, not-both, and-both, or-left, or-right}
+use Rattle.base.proofs.Tests.{not-both, is-false, and-both, or-left, or-right}
 use Rattle.base.proofs.ListLaws.{all-mono}
 use Rattle.instance.specs.Instance.{Instance}
 use Rattle.instance.specs.Arborescence.{is-arborescence, total}
@@ -72,11 +72,10 @@ module _ (s : Instance) where
   unfolding Least-of Cheapest-reads arborescences any-of
   from-list none e =
       λ ps.
-      ⊎-elim
-      (λ (a : is-arborescence s ps ≡ true).
+      is-false (is-arborescence s ps)
+      (λ a.
       let one = any-selected s (is-arborescence s) all-are (λ _. true) .1 (ps, a, refl) in
-      absurd (true≢false (sym (subst (λ (pss : List (List ℕ)). any-of (λ _. true) pss ≡ true) e one))))
-      (λ (a : is-arborescence s ps ≡ false). a) (test (is-arborescence s ps))
+      true≢false (sym (subst (λ (pss : List (List ℕ)). any-of (λ _. true) pss ≡ true) e one)))
   from-list (some v) e =
       let w = any-selected s (is-arborescence s) all-are (λ ps. eqb (total s ps) v) .0 (e .0) in
       record {

@@ -3,12 +3,12 @@
 use mathlib.Core.Path.{_≡_, refl, sym, ap, _∙_}
 use mathlib.Core.Bool.{Bool, true, false, _&&_, not, cond, and-true}
 use mathlib.Core.List.{List}
-use mathlib.Core.Logic.{_↔_, ⊎-elim}
+use mathlib.Core.Logic.{_↔_}
 use Prim.Native.Nat.{ℕ, _+_, _*_, _/_, _%_, _≤_, _<_}
 use native.Mathlib.Omega.{arith}
 use lib.Dec.{eqb}
 use borrow.Author.Tests.{eq-eqb}
-use Rattle.base.proofs.Tests.{test, not-both, same-test, and-left, and-right, and-both, and-false-right}
+use Rattle.base.proofs.Tests.{not-both, is-true, same-test, and-left, and-right, and-both, and-false-right}
 use Rattle.base.proofs.BoundedLaws.{any-false, sum-eq}
 use Rattle.base.proofs.ListLaws.{getD-tabulate}
 use Rattle.instance.specs.Limits.{no-arc, cells}
@@ -62,12 +62,11 @@ module _ (s : Instance) (q : ℕ → ℕ → Bool) (small : s .n ≤ 32) where
       only : is-arc (restricted s q) t h ≡ true → remaining s t h && q t h ≡ true
       only x =
           let end = arc-ends (restricted s q) t h x in
-          ⊎-elim (λ (e : remaining s t h && q t h ≡ true). e)
-          (λ (e : remaining s t h && q t h ≡ false).
+          is-true (remaining s t h && q t h)
+          (λ e.
           let l : t < 32 = omega (arith, end .tail-below) in
           let m : h < 32 = omega (arith, end .head-below) in
-          absurd (not-both (eqb (weight (restricted s q) t h) no-arc) (eq-eqb (weight (restricted s q) t h) no-arc (goes t h l m e)) (arc-weight (restricted s q) t h x)))
-          (test (remaining s t h && q t h))
+          not-both (eqb (weight (restricted s q) t h) no-arc) (eq-eqb (weight (restricted s q) t h) no-arc (goes t h l m e)) (arc-weight (restricted s q) t h x))
 
       whole : remaining s t h && q t h ≡ true → is-arc (restricted s q) t h ≡ true
       whole e =

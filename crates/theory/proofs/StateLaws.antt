@@ -119,19 +119,19 @@ module _ (s : Instance) where
   abbrev cell-state : ℕ → ℕ
   cell-state i = state s (i / s .n) (i % s .n)
 
-  states-are : states s ≡ tabulate (s .n * s .n) cell-state
+  pub states-tabulate : states s ≡ tabulate (s .n * s .n) (λ i. state s (i / s .n) (i % s .n))
   unfolding states state
-  states-are = refl
+  states-tabulate = refl
 
   pub states-read : States-read s (states s)
   states-read =
       record {
-        size = ap length states-are ∙ length-tabulate (s .n * s .n) cell-state;
+        size = ap length states-tabulate ∙ length-tabulate (s .n * s .n) cell-state;
         reads =
             λ t h l m.
             subst (λ (v : ℕ). State-reads s t h v)
             (sym
-            (ap (λ (vs : List ℕ). getD vs (t * s .n + h) 0) states-are ∙ getD-tabulate (s .n * s .n) cell-state (t * s .n + h) 0 (digits-lt l m)
+            (ap (λ (vs : List ℕ). getD vs (t * s .n + h) 0) states-tabulate ∙ getD-tabulate (s .n * s .n) cell-state (t * s .n + h) 0 (digits-lt l m)
             ∙ ap (λ (x : ℕ). state s x ((t * s .n + h) % s .n)) (digits-div t m) ∙ ap (λ (x : ℕ). state s t x) (digits-mod t m)))
             (state-reads s t h);
       }
@@ -151,4 +151,4 @@ module _ (s : Instance) where
       let z = some-vertex i l in
       sym (ap (λ (j : ℕ). getD vs j 0) (div-add-mod' i (s .n)))
       ∙ state-only s (i / s .n) (i % s .n) (getD vs (i / s .n * s .n + i % s .n) 0) (r .reads (i / s .n) (i % s .n) (div-lt-iff-lt-mul z .1 l) (mod-lt i z)))
-      ∙ sym states-are
+      ∙ sym states-tabulate
