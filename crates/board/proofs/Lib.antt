@@ -4,3 +4,4 @@ pub mod ArcLaws
 pub mod CommandLaws
 pub mod ValidLaws
 pub mod LogLaws
+pub mod BoardLaws
