@@ -5,3 +5,5 @@ pub mod CommandLaws
 pub mod ValidLaws
 pub mod LogLaws
 pub mod BoardLaws
+pub mod CallLaws
+pub mod RunLaws

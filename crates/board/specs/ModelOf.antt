@@ -6,7 +6,7 @@ use Prim.Native.Nat.{ℕ, zero, suc}
 use lib.ListN.{getD, replicate}
 use Rattle.instance.specs.Instance.{Instance}
 use Rattle.instance.specs.Limits.{cells, max-records}
-use Rattle.board.specs.Model.{Model, Result, Replaced, old-mark, old-budget, Command, pin, ban, clear, set-budget, undo, restored}
+use Rattle.board.specs.Model.{Model, Result, Replaced, old-mark, old-budget, Command, pin, ban, clear, set-budget, undo, restored, opened}
 use Rattle.board.specs.declared.Board.{Board}
 use Rattle.board.specs.declared.Answered.{Answered}
 use Rattle.board.specs.declared.UndoRecord.{UndoRecord}
@@ -63,6 +63,10 @@ unfoldable pub board-with : (n root budget : ℕ) → (weights marks : List ℕ)
 board-with n r b ws ms =
     record { n = n; root = r; budget = b; weights = ws; marks = ms; records = replicate max-records blank-record; count = 0 }
 
--- the one board that stands for "no board"
+pub record New-board (n root budget : ℕ) (weights marks : List ℕ) (r : Board) : Type 0 where
+  pub board : r ≡ board-with n root budget weights marks
+  pub model : model-of r ≡ opened (instance-with n root budget weights marks)
+
+-- the one board that stands for "no board"; it is invalid, since it has no vertex
 unfoldable pub blank : Board
 blank = board-with 0 0 0 (replicate cells 0) (replicate cells 0)

@@ -1,12 +1,12 @@
 // A board with no record: from the fields of an instance, and the blank one that stands for no board.
 ghost use mathlib.Core.Path.{_≡_};
-ghost use Rattle.board.specs.ModelOf.{board-with, blank};
+ghost use Rattle.board.specs.ModelOf.{New-board, blank};
 use crate::Board;
 use crate::Replaced;
 use crate::UndoRecord;
 
 pub fn new_board(n: u32, root: u32, budget: u32, weights: [u32; 1024], marks: [u8; 1024]) -> Board
-    ensures { λ r. ⌜ r ≡ board-with n root budget weights marks ⌝ }
+    ensures { λ r. ⌜ New-board n root budget weights marks r ⌝ }
 {
     let record = UndoRecord {
         replaced: Replaced::Mark(0, 0, 0),

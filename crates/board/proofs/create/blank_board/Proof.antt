@@ -13,7 +13,7 @@ new-board-requires c κs = search needs
 -- src/create.rt:26:1
 returns : tie.Need-returns
 unfolding blank
-returns c = c .new-board .ensures
+returns c = c .new-board .ensures .board
 
 pub blank-board-spec : {M : Type 1} → statement M
 blank-board-spec = tie.close (tie.spec new-board-requires returns)
