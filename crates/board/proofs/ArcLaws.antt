@@ -6,16 +6,18 @@ use mathlib.Core.List.{List}
 use Prim.Native.Nat.{ℕ, _+_, _*_, _/_, _%_, _≤_, _<_}
 use native.Mathlib.Omega.{arith}
 use lib.Dec.{ltb, leb, eqb}
+use lib.ListN.{length, getD}
 use borrow.Author.Tests.{ltb-true, leb-true, eqb-true, eqb-false, not-true}
 use Rattle.base.specs.Bounded.{all-below}
 use Rattle.base.specs.Lists.{all-of}
 use Rattle.base.proofs.Tests.{and-left, and-right}
 use Rattle.base.proofs.BoundedLaws.{all-at}
+use Rattle.base.proofs.ListLaws.{default}
 use Rattle.instance.specs.Limits.{max-vertices, max-weight, no-arc, free, banned, cells}
 use Rattle.instance.specs.Instance.{Instance, cell, weight-at, mark-at, weight, mark, can-be-arc, is-arc}
 use Rattle.instance.specs.Matrix.{unmarked}
 use Rattle.instance.specs.Valid.{cell-ok, cell-valid}
-use Rattle.board.specs.Model.{Replaced, old-mark, old-budget, record-ok}
+use Rattle.board.specs.Model.{Replaced, old-mark, old-budget, with-budget, record-ok}
 use Rattle.board.proofs.AllOfLaws.{all-of-eq}
 
 pub record Can-be-arc (n r t h : ℕ) : Type 0 where
@@ -86,3 +88,39 @@ record-ok-of s (old-budget v) = refl
 
 pub records-ok-of : (s : Instance) (rs : List Replaced) → all-of (record-ok (arcs-of s)) rs ≡ all-of (record-ok s) rs
 records-ok-of s rs = all-of-eq (record-ok (arcs-of s)) (record-ok s) (record-ok-of s) rs
+
+-- cells are judged without the budget
+pub cells-valid-of : (s : Instance) (v : ℕ) → all-below cells (cell-valid (with-budget v s)) ≡ all-below cells (cell-valid s)
+unfolding cell-valid with-budget
+cells-valid-of s v = refl
+
+-- AS A PROGRAM READS THEM: an array has 1,024 elements, so what is read past its end (0 there, no arc in the definitions) never matters
+pub arc-cell : (n r t h : ℕ) → n ≤ max-vertices → can-be-arc n r t h ≡ true → cell t h < cells
+arc-cell n r t h l e = let k = can-be n r t h e in omega arith
+
+-- a record of a valid board names a cell of the arrays
+pub record-cell : (s : Instance) (t h m : ℕ) → s .n ≤ max-vertices → record-ok s (old-mark t h m) ≡ true → cell t h < cells
+unfolding record-ok
+record-cell s t h m l e = let k = arc-can-be s t h (and-left (is-arc s t h) (leb m banned) e) in omega arith
+
+pub arc-read :
+    (n r : ℕ) (ws : List ℕ) (t h : ℕ) → n ≤ max-vertices → length ws ≡ cells → can-be-arc n r t h ≡ true →
+    not (eqb (getD ws (cell t h) 0) no-arc) ≡ is-arc (unmarked n r ws) t h
+unfolding is-arc weight unmarked
+arc-read n r ws t h l k e =
+    let b : cell t h < length ws = omega (arith, arc-cell n r t h l e) in
+    rw (e, default ws (cell t h) 0 no-arc b)
+
+pub arc-not : (n r : ℕ) (ws : List ℕ) (t h : ℕ) → can-be-arc n r t h ≡ false → false ≡ is-arc (unmarked n r ws) t h
+unfolding is-arc unmarked
+arc-not n r ws t h e = rw e
+
+pub cell-read :
+    (s : Instance) (i : ℕ) → i < length (s .weights) → can-be-arc (s .n) (s .root) (i / 32) (i % 32) ≡ true →
+    cell-ok (getD (s .weights) i 0) (mark-at s i) ≡ cell-valid s i
+unfolding cell-valid
+cell-read s i l e = rw (e, default (s .weights) i 0 no-arc l)
+
+pub cell-passed : (s : Instance) (i : ℕ) → can-be-arc (s .n) (s .root) (i / 32) (i % 32) ≡ false → true ≡ cell-valid s i
+unfolding cell-valid
+cell-passed s i e = rw e

@@ -4,3 +4,6 @@ pub mod ArcLaws
 pub mod CommandLaws
 pub mod ValidLaws
 pub mod LogLaws
+pub mod BoardLaws
+pub mod CallLaws
+pub mod RunLaws

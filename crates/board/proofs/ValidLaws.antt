@@ -10,7 +10,7 @@ use native.Mathlib.Decide.{ℕ-discrete}
 use lib.Dec.{ltb, leb, eqb}
 use lib.ListN.{length, getD, set}
 use lib.Seq.{getD-set-same, getD-set-other, set-out}
-use borrow.Author.Tests.{lt-ltb, le-leb, ltb-true, leb-true, ltb-false, leb-false, not-false}
+use borrow.Author.Tests.{lt-ltb, lt-leb, le-leb, ltb-true, leb-true, ltb-false, leb-false, not-false}
 use Rattle.base.specs.Bounded.{all-below}
 use Rattle.base.specs.Lists.{all-of}
 use Rattle.base.proofs.Tests.{and-left, and-right, test}
@@ -21,7 +21,7 @@ use Rattle.instance.specs.Valid.{cell-ok, cell-valid, header-valid, valid-insta
 use Rattle.board.specs.Model.{Command, pin, ban, clear, set-budget, undo, Replaced, old-mark, old-budget, Model, Result, opened, with-mark, with-budget, restored, refused, accepted, marked, budgeted, undone, applied, record-ok, valid, answered}
 use Rattle.board.specs.Changes.{is-undo}
 use Rattle.board.proofs.AllOfLaws.{all-of-first, all-of-rest, all-of-more}
-use Rattle.board.proofs.ArcLaws.{arc-in-range, records-ok-of}
+use Rattle.board.proofs.ArcLaws.{arc-in-range, records-ok-of, cells-valid-of}
 use Rattle.board.proofs.CommandLaws.{mark-cases, budget-cases, judged, undo-restores}
 
 -- what a valid board is, part by part
@@ -125,10 +125,6 @@ mark-valid m t h b k v e rs few ok =
       records-ok = sym (records-ok-of (with-mark m t h s) rs) ∙ records-ok-of s rs ∙ ok;
     }
 
-budget-cells : (s : Instance) (v : ℕ) → all-below cells (cell-valid s) ≡ true → all-below cells (cell-valid (with-budget v s)) ≡ true
-unfolding cell-valid with-budget
-budget-cells s v e = e
-
 budget-valid :
     (v : ℕ) (b : Model) → v ≤ max-budget → Valid b → (rs : List Replaced) → length rs ≤ max-records → all-of (record-ok (b .instance)) rs ≡ true →
     Valid (record { instance = with-budget v (b .instance); history = rs })
@@ -140,7 +136,7 @@ budget-valid v b k d rs few ok =
       n-high = d .n-high;
       root-in = d .root-in;
       budget-in = k;
-      cells-ok = budget-cells s v (d .cells-ok);
+      cells-ok = cells-valid-of s v ∙ d .cells-ok;
       few = few;
       records-ok = sym (records-ok-of (with-budget v s) rs) ∙ records-ok-of s rs ∙ ok;
     }
@@ -228,3 +224,34 @@ answered-undo-restores c b n e =
     let v = accepted-valid c b e in
     let a = answered-applied c b v in
     rw a (answered-applied undo (applied c b .board) (applied-valid c b v) ∙ undo-restores c b n (rw a at e))
+
+-- THE TESTS ONE AFTER THE OTHER: header, cells, count, records
+pub header-n-high : (n r v : ℕ) → header-valid n r v ≡ true → n ≤ max-vertices
+unfolding header-valid
+header-n-high n r v e =
+    let A = leb 1 n in
+    let B = leb n max-vertices in
+    leb-true n max-vertices (and-right A B (and-left (A && B) (ltb r n && leb v max-budget) e))
+
+module _ (b : Model) where
+  abbrev header : Bool
+  header = header-valid (b .instance .n) (b .instance .root) (b .instance .budget)
+
+  abbrev cells-all : Bool
+  cells-all = all-below cells (cell-valid (b .instance))
+
+  pub bad-header : header ≡ false → false ≡ valid b
+  unfolding valid valid-instance
+  bad-header e = rw e
+
+  pub bad-cell : header ≡ true → cells-all ≡ false → false ≡ valid b
+  unfolding valid valid-instance
+  bad-cell h e = rw (h, e)
+
+  pub bad-count : header ≡ true → cells-all ≡ true → max-records < length (b .history) → false ≡ valid b
+  unfolding valid valid-instance
+  bad-count h c l = rw (h, c, lt-leb (length (b .history)) max-records l)
+
+  pub only-records : header ≡ true → cells-all ≡ true → length (b .history) ≤ max-records → all-of (record-ok (b .instance)) (b .history) ≡ valid b
+  unfolding valid valid-instance
+  only-records h c l = rw (h, c, le-leb (length (b .history)) max-records l)
