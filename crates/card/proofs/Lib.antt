@@ -1,3 +1,5 @@
--- Assumes nothing.
+-- Laws of the card, its round trips, and document 01's card computed. Assumes nothing.
 pub mod WorkedCards
 pub mod OffsetLaws
+pub mod CellLaws
+pub mod ReadingLaws

@@ -89,8 +89,8 @@ module _ (n r : ℕ) (few : n ≤ 32) (inside : r < n) where
       offset n r (32 * t + y) ≡ offset n r (32 * t + x) + 22 * (y - x)
   between t x y l p q a b =
       let e = on-run n r (32 * t + x) (32 * t + y) (omega arith)
-          (λ i u v. on-card-on n r i (omega arith) (omega arith)
-              (λ z. a (i - 32 * t) (omega arith) (omega arith) (omega arith)) (λ z. b (i - 32 * t) (omega arith) (omega arith) (omega arith))) in
+      (λ i u v. on-card-on n r i (omega arith) (omega arith)
+      (λ z. a (i - 32 * t) (omega arith) (omega arith) (omega arith)) (λ z. b (i - 32 * t) (omega arith) (omega arith) (omega arith))) in
       omega arith
 
   -- one head that is left out

@@ -1,3 +1,4 @@
 -- The rig card. Assumes nothing.
 pub mod Card
 pub mod Offsets
+pub mod Reading

@@ -1,5 +1,5 @@
 -- Where the cells stand among the bits of a card. Assumes nothing: these are definitions.
-use mathlib.Core.Bool.{Bool, cond}
+use mathlib.Core.Bool.{cond}
 use mathlib.Core.List.{List}
 use Prim.Native.Nat.{ℕ, zero, suc, _+_}
 use Rattle.bits.specs.Bits.{field}

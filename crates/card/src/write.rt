@@ -1,0 +1,1 @@
+// A card written into the caller's buffer.
