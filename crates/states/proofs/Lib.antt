@@ -1,0 +1,2 @@
+-- Laws. Assumes nothing.
+pub mod PinLaws
