@@ -1,1 +1,6 @@
--- Laws. Assumes nothing.
+-- What is proved about the problem. Assumes nothing.
+pub mod ArborescenceLaws
+pub mod CandidateLaws
+pub mod StateLaws
+pub mod OutcomeLaws
+pub mod Duality

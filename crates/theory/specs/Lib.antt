@@ -1,1 +1,2 @@
--- Assumes nothing.
+-- What the theorems are about, besides the definitions of `instance`. Assumes nothing.
+pub mod Readings
