@@ -1,2 +1,4 @@
 -- Laws. Assumes nothing.
+pub mod CellLaws
 pub mod PinLaws
+pub mod MatrixLaws
