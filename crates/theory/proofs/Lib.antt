@@ -4,3 +4,8 @@ pub mod CandidateLaws
 pub mod StateLaws
 pub mod OutcomeLaws
 pub mod Duality
+pub mod Optimality
+pub mod Usable
+pub mod SameArcs
+pub mod Restriction
+pub mod Forced
