@@ -1,0 +1,12 @@
+-- Laws of Edmonds' algorithm, with no program. Assumes nothing.
+pub mod CountingLaws
+pub mod EachLaws
+pub mod Lowering
+pub mod Charging
+pub mod Expansion
+pub mod NoCycle
+pub mod SearchLaws
+pub mod SetBits
+pub mod Steps
+pub mod Finish
+pub mod Unmarked
