@@ -1,3 +1,4 @@
 -- What the contracts cite. Assumes nothing.
 pub mod Fields
 pub mod Pins
+pub mod Walks
