@@ -2,8 +2,9 @@
 use mathlib.Core.Path.{_≡_, refl, sym, ap, _∙_}
 use mathlib.Core.Bool.{Bool, true, false, _&&_, not, cond}
 use mathlib.Core.List.{List}
-use Prim.Native.Nat.{ℕ, _+_, _*_, _/_, _%_, _≤_, _<_}
+use Prim.Native.Nat.{ℕ, zero, suc, _+_, _*_, _/_, _%_, _≤_, _<_}
 use native.Mathlib.Omega.{arith}
+use native.Mathlib.Nat.{mul-le-mul, div-lt-iff-lt-mul, mod-lt, zero-mul}
 use lib.Dec.{eqb}
 use lib.ListN.{length, getD}
 use borrow.Author.Tests.{eq-eqb, ne-eqb}
@@ -34,3 +35,21 @@ module _ (s : Instance) (t h : ℕ) where
   pub present-pinned : can-be-arc (s .n) (s .root) t h ≡ true → (weight s t h ≡ no-arc → ⊥) → is-pinned s t h ≡ eqb (mark s t h) pinned
   unfolding is-pinned is-arc
   present-pinned c e = rw (c, ne-eqb (weight s t h) no-arc e)
+
+-- THE DENSE LIST of n times n cells
+pub square : (n : ℕ) → n ≤ 32 → n * n ≤ 1024
+square n h = mul-le-mul h h
+
+module _ (n k : ℕ) (l : k < n * n) where
+  some : (j : ℕ) → k < j * j → 0 < j
+  some zero m = absurd (omega (arith, zero-mul 0))
+  some (suc j) m = omega arith
+
+  pub dense-some : 0 < n
+  dense-some = some n l
+
+  pub dense-tail : k / n < n
+  dense-tail = div-lt-iff-lt-mul dense-some .1 l
+
+  pub dense-head : k % n < n
+  dense-head = mod-lt k dense-some

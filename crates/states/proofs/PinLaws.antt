@@ -7,9 +7,7 @@ use Prim.Native.Nat.{ℕ, zero, suc, _+_, _*_, _-_, _/_, _%_, _≤_, _<_}
 use native.Mathlib.Omega.{arith}
 use native.Mathlib.Numerals.{add-one}
 use lib.Dec.{ltb, eqb}
-use native.Mathlib.Decide.{ℕ-discrete}
 use lib.ListN.{length, getD, set}
-use lib.Seq.{getD-set-same, getD-set-other}
 use borrow.Author.Tests.{eq-eqb, ne-eqb, eqb-true, eqb-false}
 use Rattle.base.specs.Bounded.{any-below}
 use Rattle.base.proofs.Tests.{test, and-false-right, or-right, or-left}
@@ -17,6 +15,7 @@ use Rattle.base.proofs.ListLaws.{default}
 use Rattle.instance.specs.Limits.{no-arc, banned}
 use Rattle.instance.specs.Instance.{Instance, can-be-arc, is-arc, weight, mark, weight-at, mark-at}
 use Rattle.instance.specs.Arborescence.{is-pinned, other-pinned, remaining}
+use Rattle.states.proofs.Filling.{filled-none, filled-more}
 use Rattle.states.specs.Pins.{Pins, Pin-table, lets}
 
 lets-none : (t : ℕ) → lets 32 t ≡ true
@@ -93,13 +92,9 @@ pins-weight s t h p l k =
     rw (k .say t l) (judged (can-be-arc (s .n) (s .root) t h) (not (eqb (mark s t h) banned)) (lets p t) (weight s t h))
 
 -- THE TABLE
-pub table-none : (s : Instance) (pins : List ℕ) → Pin-table s 0 pins
-table-none s pins = record { at = λ h l. absurd (omega arith) }
+module _ (s : Instance) where
+  pub table-none : (pins : List ℕ) → Pin-table s 0 pins
+  table-none pins = record { at = filled-none (λ h p. Pins s h (s .n) p) pins }
 
-pub table-more : (s : Instance) (pins : List ℕ) (h p : ℕ) → h < length pins → Pin-table s h pins → Pins s h (s .n) p
-    → Pin-table s (h + 1) (set pins h p)
-table-more s pins h p l k q = record { at = λ g b. cases g b (ℕ-discrete h g) }
-  where
-    cases : (g : ℕ) → g < h + 1 → Dec (h ≡ g) → Pins s g (s .n) (getD (set pins h p) g 0)
-    cases g b (yes e) = rw (← e, getD-set-same pins h p 0 l) q
-    cases g b (no e) = rw (getD-set-other pins h g p 0 (λ z. e (sym z))) (k .at g (omega arith))
+  pub table-more : (pins : List ℕ) (h p : ℕ) → h < length pins → Pin-table s h pins → Pins s h (s .n) p → Pin-table s (h + 1) (set pins h p)
+  table-more pins h p l k q = record { at = filled-more (λ g p. Pins s g (s .n) p) pins h p l (k .at) q }

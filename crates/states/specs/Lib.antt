@@ -2,3 +2,5 @@
 pub mod Fields
 pub mod Pins
 pub mod Walks
+pub mod Table
+pub mod Tree
