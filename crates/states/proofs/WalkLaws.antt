@@ -1,0 +1,107 @@
+-- Laws of walks in a list of parents, and in one that differs from it at one vertex. Assumes nothing.
+use mathlib.Core.Path.{_≡_, refl, sym, ap, _∙_}
+use mathlib.Core.Bool.{Bool, true, false, _||_}
+use mathlib.Core.List.{List}
+use mathlib.Core.Logic.{⊎-elim, _≢_}
+use Prim.Native.Nat.{ℕ, zero, suc, _≤_, _<_}
+use native.Mathlib.Omega.{arith}
+use native.Mathlib.Decide.{ℕ-discrete}
+use lib.Dec.{eqb}
+use lib.ListN.{length, getD, set}
+use lib.Seq.{getD-set-same, getD-set-other}
+use borrow.Author.Tests.{eqb-true, eqb-false, eq-eqb, ne-eqb}
+use Rattle.base.proofs.Tests.{test, not-both, or-false-left, or-false-right, or-cases, or-left, or-right}
+use Rattle.instance.specs.Limits.{no-parent}
+use Rattle.instance.specs.Arborescence.{parent, reaches}
+use Rattle.states.specs.Walks.{Rooted, Below, Avoids, Way, start, onward}
+
+-- ONE STEP
+module _ (ps : List ℕ) (h v : ℕ) where
+  pub below-here : v ≡ h → Below ps h v
+  unfolding reaches
+  below-here e = (0, eq-eqb v h e)
+
+  pub below-up : Below ps h (parent ps v) → Below ps h v
+  unfolding reaches
+  below-up b = (suc (b .0), or-right (eqb v h) (reaches (b .0) h ps (parent ps v)) (b .1))
+
+  pub avoids-up : v ≢ h → Avoids ps h (parent ps v) → Avoids ps h v
+  unfolding reaches
+  avoids-up e a zero = ne-eqb v h e
+  avoids-up e a (suc k) = rw (ne-eqb v h e) (a k)
+
+  pub avoids-here : Avoids ps h v → v ≢ h
+  unfolding reaches
+  avoids-here a = eqb-false v h (a 0)
+
+  pub avoids-on : Avoids ps h v → Avoids ps h (parent ps v)
+  unfolding reaches
+  avoids-on a k = or-false-right (eqb v h) (reaches k h ps (parent ps v)) (a (suc k))
+
+  pub below-on : v ≢ h → Below ps h v → Below ps h (parent ps v)
+  unfolding reaches
+  below-on e (zero, r) = absurd (e (eqb-true v h r))
+  below-on e (suc k, r) = (k, rw (ne-eqb v h e) at r)
+
+  pub below-avoids : Below ps h v → Avoids ps h v → ⊥
+  below-avoids b a = not-both (reaches (b .0) h ps v) (b .1) (a (b .0))
+
+pub reach-root : (k r : ℕ) (ps : List ℕ) → reaches k r ps r ≡ true
+unfolding reaches
+reach-root zero r ps = eq-eqb r r refl
+reach-root (suc k) r ps = or-left (eqb r r) (reaches k r ps (parent ps r)) (eq-eqb r r refl)
+
+-- below is handed on
+pub below-below : (ps : List ℕ) (h k v : ℕ) → Below ps k v → Below ps h k → Below ps h v
+unfolding reaches
+below-below ps h k v (zero, r) b = rw (eqb-true v k r) b
+below-below ps h k v (suc j, r) b =
+    ⊎-elim (λ (e : eqb v k ≡ true). rw (eqb-true v k e) b) (λ (e : reaches j k ps (parent ps v) ≡ true). below-up ps h v (below-below ps h k (parent ps v) (j, e) b))
+    (or-cases (eqb v k) (reaches j k ps (parent ps v)) r)
+
+-- what is above one that avoids h avoids it, so one that avoids h is not below one that is below h
+pub avoids-below : (ps : List ℕ) (h k v : ℕ) → Avoids ps h v → Below ps h k → Avoids ps k v
+avoids-below ps h k v a b j =
+    ⊎-elim (λ (e : reaches j k ps v ≡ true). absurd (below-avoids ps h v (below-below ps h k v (j, e) b) a)) (λ (e : reaches j k ps v ≡ false). e)
+    (test (reaches j k ps v))
+
+-- whatever lies on the way from a vertex below h lies below h
+pub way-below : (ps : List ℕ) (h t v : ℕ) → Way ps h t v → Below ps h t → Below ps h v
+way-below ps h t v start b = b
+way-below ps h t v (onward {v = u} w e) b = below-on ps h u e (way-below ps h t u w b)
+
+-- THE PARENT OF ONE VERTEX CHANGED
+module _ (ps : List ℕ) (h t : ℕ) where
+  abbrev qs : List ℕ
+  qs = set ps h t
+
+  pub parent-other : (v : ℕ) → v ≢ h → parent qs v ≡ parent ps v
+  parent-other v e = getD-set-other ps h v t no-parent e
+
+  pub parent-same : h < length ps → parent qs h ≡ t
+  parent-same l = getD-set-same ps h t no-parent l
+
+  -- a walk that avoids the vertex is the same
+  pub walk-same : (k r v : ℕ) → Avoids ps h v → reaches k r qs v ≡ reaches k r ps v
+  unfolding reaches
+  walk-same zero r v a = refl
+  walk-same (suc k) r v a = rw (parent-other v (avoids-here ps h v a), walk-same k r (parent ps v) (avoids-on ps h v a))
+
+  pub avoids-same : (r v : ℕ) → Avoids ps h v → Avoids ps r v → Avoids qs r v
+  avoids-same r v a b k = walk-same k r v a ∙ b k
+
+  -- a walk that meets the root does so still, by way of the new parent
+  module _ (r : ℕ) (l : h < length ps) (a : Avoids ps h t) (b : Below ps r t) where
+    here : (v : ℕ) → v ≡ h → Below qs r v
+    here v z = below-up qs r v (rw (z, parent-same l) (b .0, walk-same (b .0) r t a ∙ b .1))
+
+    pub walk-changed : (k v : ℕ) → reaches k r ps v ≡ true → Below qs r v
+    unfolding reaches
+    walk-changed zero v e = (0, e)
+    walk-changed (suc k) v e =
+        ⊎-elim (λ (f : eqb v r ≡ true). (0, f)) (λ (f : reaches k r ps (parent ps v) ≡ true). at (walk-changed k (parent ps v) f) (ℕ-discrete v h))
+        (or-cases (eqb v r) (reaches k r ps (parent ps v)) e)
+      where
+        at : Below qs r (parent ps v) → Dec (v ≡ h) → Below qs r v
+        at w (yes z) = here v z
+        at w (no z) = below-up qs r v (rw (parent-other v z) w)

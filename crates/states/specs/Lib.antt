@@ -1,0 +1,6 @@
+-- What the contracts cite. Assumes nothing.
+pub mod Fields
+pub mod Pins
+pub mod Walks
+pub mod Table
+pub mod Tree
