@@ -1,2 +1,3 @@
 -- Laws. Assumes nothing.
 pub mod CopyLaws
+pub mod OpenLaws

@@ -1,1 +1,3 @@
--- Assumes nothing.
+-- What the public calls promise. Assumes nothing.
+pub mod Calls
+pub mod Look

@@ -1,2 +1,33 @@
-// The public calls.
-pub mod buffers; // copies into the caller's buffers
+// The public calls, gathered here: open_card, pin, ban, clear, set_budget, take_back, look, write_card and replay. None requires
+// anything of its caller: whatever is handed in gets an answer, and after a refusal the board and all buffers are as they were.
+pub mod buffers; // buffers.rt: copies into the caller's buffers
+pub mod open; // open.rt: a board from a card
+pub use board::Board;
+pub use board::Answered;
+pub use board::commands::pin;
+pub use board::commands::ban;
+pub use board::commands::clear;
+pub use board::commands::set_budget;
+pub use board::commands::take_back;
+pub use open::open_card;
+
+// What opening gives: 0 and the board, or the number of the refusal and the blank board.
+pub struct Opened {
+    pub answer: u32,
+    pub board: Board,
+}
+
+// What writing gives: 0 and the number of bytes written, or the number of the refusal and 0.
+pub struct Written {
+    pub answer: u32,
+    pub length: usize,
+}
+
+// What a look shows: the total and the number of cuts of a plan, or of a cheapest tree that is over the budget; that there is no tree
+// (with one cut); or the number of a refusal.
+pub enum View {
+    Plan(u32, u32),
+    Over(u32, u32),
+    NoTree,
+    Refused(u32),
+}
