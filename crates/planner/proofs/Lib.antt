@@ -1,3 +1,4 @@
 -- Laws. Assumes nothing.
 pub mod CopyLaws
 pub mod OpenLaws
+pub mod LookLaws

@@ -2,6 +2,7 @@
 // anything of its caller: whatever is handed in gets an answer, and after a refusal the board and all buffers are as they were.
 pub mod buffers; // buffers.rt: copies into the caller's buffers
 pub mod open; // open.rt: a board from a card
+pub mod look; // look.rt: what a look shows
 pub use board::Board;
 pub use board::Answered;
 pub use board::commands::pin;

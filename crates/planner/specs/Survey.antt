@@ -1,0 +1,26 @@
+-- What planning finds of an instance, before it is copied into the caller's buffers. Assumes nothing: these are definitions.
+use mathlib.Core.Path.{_≡_}
+use mathlib.Core.List.{List, _++_}
+use Prim.Native.Nat.{ℕ, _*_, _-_, _/_, _%_}
+use lib.ListN.{take, drop, replicate}
+use Rattle.base.specs.Lists.{tabulate}
+use Rattle.instance.specs.Limits.{cut-words}
+use Rattle.instance.specs.Instance.{Instance}
+use Rattle.instance.specs.Cuts.{cuts-in}
+use Rattle.instance.specs.States.{outcome}
+use Rattle.states.specs.Table.{Usable-table, state-by}
+use Rattle.planner.specs.declared.look.Survey.{Survey}
+use Rattle.planner.specs.Look.{view, pairs, Parents-shown, Cuts-shown}
+
+pub record Surveys (s : Instance) (r : Survey) : Type 0 where
+  pub result : r .view ≡ view (outcome s) (pairs (r .view))
+  pub parents-found : Parents-shown (outcome s) s (take (s .n) (r .parents))
+  pub cuts-found : Cuts-shown (outcome s) s (cuts-in (pairs (r .view)) (r .cuts))
+  pub zeros : drop (2 * pairs (r .view)) (r .cuts) ≡ replicate (cut-words - 2 * pairs (r .view)) 0
+  pub table : Usable-table s (r .used)
+
+-- copied out: buffers before and after (with a prime)
+pub record Displays (r : Survey) (weights : List ℕ) (n root : ℕ) (ps ps′ ss ss′ cs cs′ : List ℕ) : Type 0 where
+  pub parents : ps′ ≡ take n (r .parents) ++ drop n ps
+  pub states : ss′ ≡ tabulate (n * n) (λ i. state-by n root (r .used) weights (i / n) (i % n)) ++ drop (n * n) ss
+  pub cuts : cs′ ≡ r .cuts ++ drop cut-words cs

@@ -1,0 +1,43 @@
+// A look at a board: what was found by planning is copied into the caller's three buffers.
+ghost use mathlib.Core.Path.{_≡_};
+ghost use Prim.Native.Nat.{_*_, _≤_};
+ghost use lib.ListN.{length};
+ghost use Rattle.planner.specs.Look.{too-short};
+ghost use Rattle.planner.specs.Survey.{Displays};
+use crate::buffers;
+use crate::View;
+use instance::limits::CUT_WORDS;
+
+// What planning found of a board's instance: the view, the parents, the cuts as pairs of words, and 1 at each arc that some
+// arborescence within budget uses.
+pub struct Survey {
+    pub view: View,
+    pub parents: [u8; 32],
+    pub cuts: [u32; 122],
+    pub used: [u8; 1024],
+}
+
+fn is_too_short(n: u32, parents: usize, states: usize, cuts: usize) -> bool
+    requires { ⌜ n ≤ 32 ⌝ }
+    ensures { λ r. ⌜ r ≡ too-short n parents states cuts ⌝ }
+{
+    if parents < (n as usize) {
+        return true;
+    }
+    if states < ((n * n) as usize) {
+        return true;
+    }
+    cuts < CUT_WORDS
+}
+
+fn display(found: Survey, weights: &[u32; 1024], n: u32, root: u32, parents: &mut [u8], states: &mut [u8], cuts: &mut [u32])
+    requires { ⌜ (n ≤ 32) × (n ≤ length (now parents)) × (n * n ≤ length (now states)) × (122 ≤ length (now cuts)) ⌝ }
+    ensures { λ _. ⌜ Displays found (now (weights .entry)) n root (now (parents .entry)) (now (parents .exit)) (now (states .entry)) (now (states .exit)) (now (cuts .entry)) (now (cuts .exit)) ⌝ }
+{
+    let tree = found.parents;
+    let words = found.cuts;
+    let used = found.used;
+    buffers::copy_bytes(&tree, n as usize, parents);
+    buffers::copy_words(&words, cuts);
+    states::show::write_states(&used, weights, n, root, states);
+}
