@@ -2,3 +2,4 @@
 pub mod CopyLaws
 pub mod OpenLaws
 pub mod LookLaws
+pub mod CallSteps

@@ -14,7 +14,7 @@ use Rattle.instance.specs.States.{Outcome, plan, over, no-tree, outcome, states
 use Rattle.states.specs.Table.{state-by}
 use Rattle.planner.specs.declared.View.{View}
 use Rattle.planner.specs.declared.look.Survey.{Survey}
-use Rattle.planner.specs.Look.{view, pairs, Parents-shown, Cuts-shown, Shows}
+use Rattle.planner.specs.Look.{Buffers, view, pairs, Parents-shown, Cuts-shown, Shows}
 use Rattle.planner.specs.Survey.{Surveys, Displays}
 
 -- cuts are read from the front of the words
@@ -47,28 +47,33 @@ pairs-few no-tree s k ws h c =
     let e : k ≡ 1 = sym (length-cuts k 0 ws) ∙ ap length (c .1) in
     omega arith
 
-module _ (s : Instance) (r : Survey) (ps ps′ ss ss′ cs cs′ : List ℕ) (small : s .n ≤ 32) (tree-size : length (r .parents) ≡ 32) (cuts-size : length (r .cuts) ≡ cut-words)
-    (room : s .n ≤ length ps) (cut-room : cut-words ≤ length cs) (f : Surveys s r) (d : Displays r (s .weights) (s .n) (s .root) ps ps′ ss ss′ cs cs′)
+module _ (s : Instance) (r : Survey) (old new : Buffers) (small : s .n ≤ 32) (tree-size : length (r .parents) ≡ 32) (cuts-size : length (r .cuts) ≡ cut-words)
+    (room : s .n ≤ length (old .parents)) (cut-room : cut-words ≤ length (old .cuts)) (f : Surveys s r) (d : Displays r (s .weights) (s .n) (s .root) old new)
     (right : tabulate (s .n * s .n) (λ i. state-by (s .n) (s .root) (r .used) (s .weights) (i / s .n) (i % s .n)) ≡ states s) where
-  few : 2 * pairs (r .view) ≤ cut-words
-  few = pairs-few (outcome s) s (pairs (r .view)) (r .cuts) small (f .cuts-found)
+  abbrev pairs-found : ℕ
+  pairs-found = pairs (r .view)
+
+  few : 2 * pairs-found ≤ cut-words
+  few = pairs-few (outcome s) s pairs-found (r .cuts) small (f .cuts-found)
 
   tree-long : length (take (s .n) (r .parents)) ≡ s .n
   tree-long = length-take-le (s .n) (r .parents) (omega arith)
 
   -- THE LOOK SHOWS WHAT WAS FOUND
-  pub shows : Shows s (r .view) ps ps′ ss ss′ cs cs′
+  pub shows : Shows s (r .view) old new
   shows =
+      let ps = drop (s .n) (old .parents) in
+      let cs = drop cut-words (old .cuts) in
       record {
         result = f .result;
-        states-shown = d .states ∙ ap (λ (l : List ℕ). l ++ drop (s .n * s .n) ss) right;
-        parents-shown = rw (d .parents, take-at (take (s .n) (r .parents)) (drop (s .n) ps) (s .n) tree-long) (f .parents-found);
+        states-shown = d .states ∙ ap (λ (l : List ℕ). l ++ drop (s .n * s .n) (old .states)) right;
+        parents-shown = rw (d .parents, take-at (take (s .n) (r .parents)) ps (s .n) tree-long) (f .parents-found);
         parents-length =
-            ap length (d .parents) ∙ length-append (take (s .n) (r .parents)) (drop (s .n) ps) ∙ rw (tree-long, length-drop (s .n) ps) (omega arith);
-        parents-after = rw (d .parents, drop-at (take (s .n) (r .parents)) (drop (s .n) ps) (s .n) tree-long);
-        cuts-shown = rw (d .cuts, cuts-in-front (pairs (r .view)) (r .cuts) (drop cut-words cs) (omega (arith, few))) (f .cuts-found);
+            ap length (d .parents) ∙ length-append (take (s .n) (r .parents)) ps ∙ rw (tree-long, length-drop (s .n) (old .parents)) (omega arith);
+        parents-after = rw (d .parents, drop-at (take (s .n) (r .parents)) ps (s .n) tree-long);
+        cuts-shown = rw (d .cuts, cuts-in-front pairs-found (r .cuts) cs (omega (arith, few))) (f .cuts-found);
         zeros =
-            rw (d .cuts, drop-append-le (2 * pairs (r .view)) (r .cuts) (drop cut-words cs) (omega (arith, few)), f .zeros,
-              take-at (replicate (cut-words - 2 * pairs (r .view)) 0) (drop cut-words cs) (cut-words - 2 * pairs (r .view)) (length-replicate (cut-words - 2 * pairs (r .view)) 0));
-        cuts-length = ap length (d .cuts) ∙ length-append (r .cuts) (drop cut-words cs) ∙ rw (length-drop cut-words cs) (omega arith);
-        cuts-after = rw (d .cuts, drop-at (r .cuts) (drop cut-words cs) cut-words cuts-size) }
+            rw (d .cuts, drop-append-le (2 * pairs-found) (r .cuts) cs (omega (arith, few)), f .zeros,
+              take-at (replicate (cut-words - 2 * pairs-found) 0) cs (cut-words - 2 * pairs-found) (length-replicate (cut-words - 2 * pairs-found) 0));
+        cuts-length = ap length (d .cuts) ∙ length-append (r .cuts) cs ∙ rw (length-drop cut-words (old .cuts)) (omega arith);
+        cuts-after = rw (d .cuts, drop-at (r .cuts) cs cut-words cuts-size) }

@@ -2,3 +2,4 @@
 pub mod Calls
 pub mod Look
 pub mod Survey
+pub mod Replay

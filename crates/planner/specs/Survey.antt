@@ -10,7 +10,7 @@ use Rattle.instance.specs.Cuts.{cuts-in}
 use Rattle.instance.specs.States.{outcome}
 use Rattle.states.specs.Table.{Usable-table, state-by}
 use Rattle.planner.specs.declared.look.Survey.{Survey}
-use Rattle.planner.specs.Look.{view, pairs, Parents-shown, Cuts-shown}
+use Rattle.planner.specs.Look.{Buffers, view, pairs, Parents-shown, Cuts-shown}
 
 pub record Surveys (s : Instance) (r : Survey) : Type 0 where
   pub result : r .view ≡ view (outcome s) (pairs (r .view))
@@ -19,8 +19,8 @@ pub record Surveys (s : Instance) (r : Survey) : Type 0 where
   pub zeros : drop (2 * pairs (r .view)) (r .cuts) ≡ replicate (cut-words - 2 * pairs (r .view)) 0
   pub table : Usable-table s (r .used)
 
--- copied out: buffers before and after (with a prime)
-pub record Displays (r : Survey) (weights : List ℕ) (n root : ℕ) (ps ps′ ss ss′ cs cs′ : List ℕ) : Type 0 where
-  pub parents : ps′ ≡ take n (r .parents) ++ drop n ps
-  pub states : ss′ ≡ tabulate (n * n) (λ i. state-by n root (r .used) weights (i / n) (i % n)) ++ drop (n * n) ss
-  pub cuts : cs′ ≡ r .cuts ++ drop cut-words cs
+-- copied out: the buffers before and after
+pub record Displays (r : Survey) (weights : List ℕ) (n root : ℕ) (old new : Buffers) : Type 0 where
+  pub parents : new .parents ≡ take n (r .parents) ++ drop n (old .parents)
+  pub states : new .states ≡ tabulate (n * n) (λ i. state-by n root (r .used) weights (i / n) (i % n)) ++ drop (n * n) (old .states)
+  pub cuts : new .cuts ≡ r .cuts ++ drop cut-words (old .cuts)

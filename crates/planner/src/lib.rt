@@ -1,6 +1,6 @@
 // The public calls, gathered here: open_card, pin, ban, clear, set_budget, take_back, look, write_card and replay. None requires
 // anything of its caller: whatever is handed in gets an answer, and after a refusal the board and all buffers are as they were.
-pub mod buffers; // buffers.rt: copies into the caller's buffers
+mod copies; // copies.rt: copies into the caller's buffers
 pub mod open; // open.rt: a board from a card
 pub mod look; // look.rt: what a look shows
 pub use board::Board;
@@ -24,11 +24,11 @@ pub struct Written {
     pub length: usize,
 }
 
-// What a look shows: the total and the number of cuts of a plan, or of a cheapest tree that is over the budget; that there is no tree
-// (with one cut); or the number of a refusal.
+// What a look shows: the total and the number of cuts of a plan, or of a cheapest tree that is over the budget; that there is no tree,
+// with one pair that shows it; or the number of a refusal.
 pub enum View {
     Plan(u32, u32),
     Over(u32, u32),
-    NoTree,
+    NoTree(u32),
     Refused(u32),
 }

@@ -2,9 +2,9 @@
 ghost use mathlib.Core.Path.{_≡_};
 ghost use Prim.Native.Nat.{_*_, _≤_};
 ghost use lib.ListN.{length};
-ghost use Rattle.planner.specs.Look.{too-short};
+ghost use Rattle.planner.specs.Look.{buffers, too-short};
 ghost use Rattle.planner.specs.Survey.{Displays};
-use crate::buffers;
+use crate::copies;
 use crate::View;
 use instance::limits::CUT_WORDS;
 
@@ -32,12 +32,12 @@ fn is_too_short(n: u32, parents: usize, states: usize, cuts: usize) -> bool
 
 fn display(found: Survey, weights: &[u32; 1024], n: u32, root: u32, parents: &mut [u8], states: &mut [u8], cuts: &mut [u32])
     requires { ⌜ (n ≤ 32) × (n ≤ length (now parents)) × (n * n ≤ length (now states)) × (122 ≤ length (now cuts)) ⌝ }
-    ensures { λ _. ⌜ Displays found (now (weights .entry)) n root (now (parents .entry)) (now (parents .exit)) (now (states .entry)) (now (states .exit)) (now (cuts .entry)) (now (cuts .exit)) ⌝ }
+    ensures { λ _. ⌜ Displays found (now (weights .entry)) n root (buffers (now (parents .entry)) (now (states .entry)) (now (cuts .entry))) (buffers (now (parents .exit)) (now (states .exit)) (now (cuts .exit))) ⌝ }
 {
     let tree = found.parents;
     let words = found.cuts;
     let used = found.used;
-    buffers::copy_bytes(&tree, n as usize, parents);
-    buffers::copy_words(&words, cuts);
+    copies::copy_bytes(&tree, n as usize, parents);
+    copies::copy_words(&words, cuts);
     states::show::write_states(&used, weights, n, root, states);
 }

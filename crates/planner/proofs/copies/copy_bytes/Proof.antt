@@ -5,8 +5,8 @@ use Prim.Native.Nat.{_+_, _-_, _≤_}
 use native.Mathlib.Omega.{arith}
 use lib.ListN.{length, take, drop, length-set}
 use Rattle.planner.proofs.CopyLaws.{copy-step, copy-end}
-use Rattle.planner.proofs.buffers.copy_bytes.Statement.{statement}
-use Rattle.planner.proofs.buffers.copy_bytes.Tie as tie
+use Rattle.planner.proofs.copies.copy_bytes.Statement.{statement}
+use Rattle.planner.proofs.copies.copy_bytes.Tie as tie
 
 abbrev Inv-loop : tie.InvT-loop
 Inv-loop from count out₀ i₀ out i = (i ≤ count) × (length out ≡ length out₀) × (out ≡ take i from ++ drop i out₀)

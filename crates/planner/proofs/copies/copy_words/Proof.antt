@@ -6,8 +6,8 @@ use native.Mathlib.Omega.{arith}
 use lib.ListN.{length, take, drop, length-set}
 use lib.Seq.{take-all}
 use Rattle.planner.proofs.CopyLaws.{copy-step, copy-end}
-use Rattle.planner.proofs.buffers.copy_words.Statement.{statement}
-use Rattle.planner.proofs.buffers.copy_words.Tie as tie
+use Rattle.planner.proofs.copies.copy_words.Statement.{statement}
+use Rattle.planner.proofs.copies.copy_words.Tie as tie
 
 abbrev Inv-loop : tie.InvT-loop
 Inv-loop from out₀ i₀ out i = (i ≤ 122) × (length out ≡ length out₀) × (out ≡ take i from ++ drop i out₀)

@@ -1,0 +1,80 @@
+-- Demand 3 in one definition: the card, the list of calls and the log; the board's own record is not named. Assumes nothing: these are
+-- definitions.
+use mathlib.Core.Path.{_≡_}
+use mathlib.Core.Bool.{Bool, true, false, _||_, not, cond}
+use mathlib.Core.List.{List, [], _∷_, _++_}
+use Prim.Native.Nat.{ℕ, zero, suc}
+use lib.Dec.{ltb, eqb}
+use lib.ListN.{length, drop}
+use Rattle.instance.specs.Instance.{Instance}
+use Rattle.card.specs.Card.{card-refusal, instance-in}
+use Rattle.board.specs.Model.{Command, pin, ban, clear, set-budget, undo, valid, answered}
+use Rattle.board.specs.Log.{Log, new-log, Noted, unnoted, note, effective}
+use Rattle.board.specs.ModelOf.{model-of, Answers}
+use Rattle.board.specs.declared.Board.{Board}
+use Rattle.board.specs.declared.Answered.{Answered}
+use Rattle.planner.specs.declared.View.{View}
+use Rattle.planner.specs.Look.{Buffers, answer-of, short-for, Shows, Untouched, Looks}
+
+-- THE LIST
+-- what it may hold: the log's commands, and "looks and writes", which "leave the board and the book as they were"
+pub data Call : Type 0 where
+  command : Command → Call
+  look : Call
+  write : Call
+
+-- kinds: 0 pin, 1 ban, 2 clear, 3 budget, 4 take-back, 5 a look, any other number a write
+unfoldable pub call : (kind first second : ℕ) → Call
+call zero a b = command (pin a b)
+call (suc zero) a b = command (ban a b)
+call (suc (suc zero)) a b = command (clear a b)
+call (suc (suc (suc zero))) a b = command (set-budget a)
+call (suc (suc (suc (suc zero)))) a b = command undo
+call (suc (suc (suc (suc (suc zero))))) a b = look
+call (suc (suc (suc (suc (suc (suc k)))))) a b = write
+
+unfoldable pub calls : (kinds firsts seconds : List ℕ) → List Call
+calls [] as′ bs = []
+calls (k ∷ ks) [] bs = []
+calls (k ∷ ks) (a ∷ as′) [] = []
+calls (k ∷ ks) (a ∷ as′) (b ∷ bs) = call k a b ∷ calls ks as′ bs
+
+-- THE LOG'S ANSWERS
+-- a look is refused by 14 exactly when a buffer is too short; a write, into a buffer of its own, never
+unfoldable pub log-call : (short : Bool) → Call → Log → Noted
+log-call short (command c) k = note c k
+log-call short look k = unnoted (cond short 14 0) k
+log-call short write k = unnoted 0 k
+
+unfoldable pub call-answers : (short : Bool) → List Call → Log → List ℕ
+call-answers short [] k = []
+call-answers short (c ∷ cs) k = log-call short c k .answer ∷ call-answers short cs (log-call short c k .log)
+
+unfoldable pub calls-after : (short : Bool) → List Call → Log → Log
+calls-after short [] k = k
+calls-after short (c ∷ cs) k = calls-after short cs (log-call short c k .log)
+
+-- ONE CALL on a board: the answer, the board that is left, and the buffers of a look
+unfoldable pub Makes : Call → Board → Answered → (old new : Buffers) → Type 0
+Makes (command c) b r old new = Answers (answered c (model-of b)) b r × (new ≡ old)
+Makes look b r old new = (v : View) × (r .answer ≡ answer-of v) × (r .board ≡ b) × Looks b v old new
+Makes write b r old new = (r .answer ≡ cond (valid (model-of b)) 0 15) × (r .board ≡ b) × (new ≡ old)
+
+-- THE WHOLE LIST on a freshly opened card, and a look at the end
+-- lists of unequal length, or no room for the answers
+unfoldable pub unfit : (kinds firsts seconds answers : ℕ) → Bool
+unfit k f s a = not (eqb f k) || (not (eqb s k) || ltb a k)
+
+-- a card that does not open, or lists that do not fit (14), leave everything as it was; else the answers are the log's, and the last look
+-- shows the effective instance, or gives 14 exactly when one of its buffers is too short
+unfoldable pub Replays-at : (refusal : ℕ) → (unfit short : Bool) → List Call → Log → View → (answers answers′ : List ℕ) → (old new : Buffers) → Type 0
+Replays-at (suc a) unfit short cs k r xs xs′ old new = (xs′ ≡ xs) × Untouched (suc a) r old new
+Replays-at zero true short cs k r xs xs′ old new = (xs′ ≡ xs) × Untouched 14 r old new
+Replays-at zero false true cs k r xs xs′ old new = (xs′ ≡ call-answers true cs k ++ drop (length cs) xs) × Untouched 14 r old new
+Replays-at zero false false cs k r xs xs′ old new =
+    (xs′ ≡ call-answers false cs k ++ drop (length cs) xs) × Shows (effective (calls-after false cs k)) r old new
+
+unfoldable pub Replays : (card kinds firsts seconds : List ℕ) → View → (answers answers′ : List ℕ) → (old new : Buffers) → Type 0
+Replays ws ks fs gs r xs xs′ old new =
+    Replays-at (card-refusal ws) (unfit (length ks) (length fs) (length gs) (length xs)) (short-for (instance-in ws .n) old) (calls ks fs gs)
+    (new-log (instance-in ws)) r xs xs′ old new
