@@ -3,3 +3,4 @@ pub mod CopyLaws
 pub mod OpenLaws
 pub mod LookLaws
 pub mod CallSteps
+pub mod ReplayLaws
