@@ -81,6 +81,16 @@ put-then xs ys zs p q r cs bs u v = record {
 pub ready-next : (xs ys : List ℕ) (p q : BitWriter) (bs : List ℕ) (k m : ℕ) → Put xs p bs ys q → length bs ≡ k → Ready xs p (k + m) → Ready ys q m
 ready-next xs ys p q bs k m u e r = record { few = u .few; room = omega (arith, u .moved, u .long, r .room) }
 
+-- room for fewer bits
+pub ready-fewer : (out : List ℕ) (w : BitWriter) (k m : ℕ) → m ≤ k → Ready out w k → Ready out w m
+ready-fewer out w k m h r = record { few = r .few; room = omega (arith, r .room) }
+
+-- room for a part of bits that all have room
+pub ready-part : (xs ys : List ℕ) (p q : BitWriter) (bs cs ds all : List ℕ) → Put xs p bs ys q → bs ++ (cs ++ ds) ≡ all → Ready xs p (length all) → Ready ys q (length cs)
+ready-part xs ys p q bs cs ds all u e r =
+    let l : length bs + (length cs + length ds) ≡ length all = simp length-append at (ap length e) in
+    record { few = u .few; room = omega (arith, u .moved, u .long, r .room) }
+
 -- WHOLE BYTES
 abbrev pub fresh : BitWriter
 fresh = record { at = 0; partial = 0; count = 0 }

@@ -3,3 +3,4 @@ pub mod WorkedCards
 pub mod OffsetLaws
 pub mod CellLaws
 pub mod ReadingLaws
+pub mod WritingLaws

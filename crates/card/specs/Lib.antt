@@ -2,3 +2,4 @@
 pub mod Card
 pub mod Offsets
 pub mod Reading
+pub mod Writing
