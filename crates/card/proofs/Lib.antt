@@ -4,3 +4,5 @@ pub mod OffsetLaws
 pub mod CellLaws
 pub mod ReadingLaws
 pub mod WritingLaws
+pub mod OpensLaws
+pub mod CardAgain

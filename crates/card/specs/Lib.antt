@@ -3,3 +3,4 @@ pub mod Card
 pub mod Offsets
 pub mod Reading
 pub mod Writing
+pub mod Same
