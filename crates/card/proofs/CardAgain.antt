@@ -2,24 +2,24 @@
 --
 -- Each field that was read is written before the bits that followed it, from the last one to the first: the cells from i on, followed
 -- by the filling, are the bits from the offset of cell i on.
-use mathlib.Core.Path.{_≡_, refl, ap, _∙_, sym}
-use mathlib.Core.Bool.{Bool, true, false, _&&_, cond}
+use mathlib.Core.Path.{_≡_, refl, ap, sym}
+use mathlib.Core.Bool.{Bool, true, false, cond}
 use mathlib.Core.List.{List, [], _∷_, _++_, append-assoc}
 use Prim.Native.Nat.{ℕ, zero, suc, _+_, _*_, _-_, _≤_, _<_}
 use native.Mathlib.Omega.{arith}
-use native.Mathlib.Nat.{add-zero, add-assoc}
+use native.Mathlib.Nat.{add-zero}
 use lib.Dec.{eqb}
 use lib.ListN.{length, drop, replicate, length-drop}
 use borrow.Author.Tests.{eqb-true}
 use Rattle.base.specs.Lists.{all-of}
 use Rattle.base.proofs.Tests.{and-left, and-right}
-use Rattle.bits.specs.Bits.{bits-of, bits-in, field, packed, are-bits, are-bytes}
+use Rattle.bits.specs.Bits.{bits-of, bits-in, field, are-bits, are-bytes}
 use Rattle.bits.proofs.ByteLaws.{length-bits-in, bits-in-are-bits, packed-bits-in}
 use Rattle.bits.proofs.FieldLaws.{field-written}
 use Rattle.instance.specs.Limits.{no-arc, free}
 use Rattle.instance.specs.Instance.{Instance, weight-at, mark-at}
 use Rattle.instance.specs.Valid.{valid-instance}
-use Rattle.card.specs.Card.{n-in, root-in, budget-in, on-card, bits-needed, bytes-needed, instance-in, card-refusal, cell-bits, instance-bits, card-of}
+use Rattle.card.specs.Card.{on-card, bits-needed, bytes-needed, instance-in, card-refusal, cell-bits, instance-bits, card-of}
 use Rattle.card.specs.Offsets.{offset, cell-field}
 use Rattle.card.proofs.OffsetLaws.{offset-start, offset-within}
 use Rattle.card.proofs.ReadingLaws.{length-known}
@@ -67,7 +67,7 @@ module _ (ws : List ℕ) (o : Opens ws) where
       let e = bits-in-are-bits ws in
       let k = length-known (n-of ws) (o .n-high) in
       let c : cell-bits 1024 0 s ++ drop (bits-needed (n-of ws)) bs ≡ drop 36 bs =
-          rw (offset-start (n-of ws) (root-of ws), o .end) at (cells-again s bs e 1024 (omega (arith, o .end, o .fits)) (weight-in ws) (mark-in ws) 1024 0 (omega arith)) in
+      rw (offset-start (n-of ws) (root-of ws), o .end) at (cells-again s bs e 1024 (omega (arith, o .end, o .fits)) (weight-in ws) (mark-in ws) 1024 0 (omega arith)) in
       simp append-assoc (rw (
         c,
         field-written 11 25 bs e (omega (arith, o .fits)),

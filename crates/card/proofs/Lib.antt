@@ -6,3 +6,5 @@ pub mod ReadingLaws
 pub mod WritingLaws
 pub mod OpensLaws
 pub mod CardAgain
+pub mod WrittenBits
+pub mod InstanceAgain

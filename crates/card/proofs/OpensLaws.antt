@@ -1,29 +1,28 @@
 -- What is known of a card that opens; its instance is valid. No card is refused by a number above 8. Assumes nothing.
-use mathlib.Core.Path.{_≡_, refl, ap, _∙_, sym}
-use mathlib.Core.Bool.{Bool, true, false, _&&_, _||_, not, cond}
+use mathlib.Core.Path.{_≡_, refl, _∙_, sym}
+use mathlib.Core.Bool.{Bool, true, false, _||_, not, cond}
 use mathlib.Core.List.{List}
-use Prim.Native.Nat.{ℕ, zero, suc, _+_, _*_, _/_, _%_, _^_, _≤_, _<_}
+use Prim.Native.Nat.{ℕ, zero, suc, _+_, _≤_, _<_}
 use native.Mathlib.Omega.{arith}
-use native.Mathlib.Nat.{zero-add}
 use lib.Dec.{ltb, leb, eqb}
 use lib.ListN.{length, drop}
 use borrow.Author.Tests.{le-leb, lt-ltb, ne-eqb}
 use Rattle.base.specs.Bounded.{all-below}
-use Rattle.base.specs.Lists.{all-of, tabulate-from, tabulate}
+use Rattle.base.specs.Lists.{all-of, tabulate}
 use Rattle.base.proofs.Tests.{and-both}
 use Rattle.base.proofs.BoundedLaws.{all-intro}
-use Rattle.bits.specs.Bits.{bits-in, field}
+use Rattle.bits.specs.Bits.{bits-in}
 use Rattle.bits.proofs.ByteLaws.{length-bits-in, bits-in-are-bits}
 use Rattle.bits.proofs.FieldLaws.{field-below}
-use Rattle.instance.specs.Limits.{max-vertices, max-budget, no-arc, free, cells}
-use Rattle.instance.specs.Instance.{Instance, weight-at, mark-at, can-be-arc}
+use Rattle.instance.specs.Limits.{max-vertices, max-budget, no-arc, free}
+use Rattle.instance.specs.Instance.{weight-at, mark-at}
 use Rattle.instance.specs.Valid.{cell-ok, cell-valid, header-valid, valid-instance}
 use Rattle.card.specs.Card.{n-in, root-in, budget-in, on-card, bits-needed, bytes-needed, instance-in, cells-refusal, cell-refusal, card-refusal}
 use Rattle.card.specs.Offsets.{offset, cell-field}
 use Rattle.card.specs.Reading.{header-of, weights-in, marks-in}
 use Rattle.card.proofs.OffsetLaws.{offset-within}
 use Rattle.card.proofs.CellLaws.{fields-by-index, length-fields, field-at, first-passes, each-passes, passes-ok, cells-refusal-most}
-use Rattle.card.proofs.ReadingLaws.{Header-known, header-known, length-known, rest-refusal, refusal-by-steps}
+use Rattle.card.proofs.ReadingLaws.{header-known, length-known, rest-refusal, refusal-by-steps}
 
 -- the header's numbers, straight from the bytes
 abbrev pub n-of : (card : List ℕ) → ℕ
