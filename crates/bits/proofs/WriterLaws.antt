@@ -19,7 +19,7 @@ use Rattle.bits.proofs.ByteLaws.{bits-in-append, bits-in-one, packed-bi
 -- The bits that wait and the new ones are one number, `bits`, of which `left` are not stored yet. The loop stores the upper eight.
 pub record Storing (before : List ℕ) (first some bits : ℕ) (out : List ℕ) (at left : ℕ) : Type 0 where
   pub stored : bits-in (take at out) ++ bits-of left bits ≡ bits-in (take first before) ++ bits-of some bits
-  pub kept : drop at out ≡ drop at before
+  pub unchanged : drop at out ≡ drop at before
   pub long : length out ≡ length before
   pub fewer : left ≤ some
   pub moved : 8 * at + left ≡ 8 * first + some
@@ -41,7 +41,7 @@ store-byte {before} {first} {some} {bits} out at left s h l =
     record {
       stored =
           rw (add-one, take-suc-set out at b h, bits-in-append (take at out) (b ∷ []), bits-in-one b, append-assoc, byte-then left bits l) (s .stored);
-      kept = drop-set-lt (at + 1) out at b (omega arith) ∙ dropped at (at + 1) out before (omega arith) (s .kept);
+      unchanged = drop-set-lt (at + 1) out at b (omega arith) ∙ dropped at (at + 1) out before (omega arith) (s .unchanged);
       long = length-set out at b ∙ s .long;
       fewer = omega (arith, s .fewer);
       moved = omega (arith, s .moved);
@@ -58,7 +58,7 @@ all-stored before w k v out at left s h =
     let c : bits-of left (b % 256) ≡ bits-of left b = rw e at (bits-of-cut (8 - left) left b) in
     record {
       all-put = rw c (s .stored ∙ rw (bits-of-join (w .count) k (w .partial) v) (sym (append-assoc (bits-in (take (w .at) before)) (bits-of (w .count) (w .partial)) (bits-of k v))));
-      kept = s .kept;
+      unchanged = s .unchanged;
       long = s .long;
       few = h;
       moved = rw (length-bits-of k v) (omega (arith, s .moved));
@@ -66,12 +66,12 @@ all-stored before w k v out at left s h =
 
 -- ONE CALL AFTER ANOTHER
 pub put-none : (out : List ℕ) (w : BitWriter) → w .count < 8 → Put out w [] out w
-put-none out w h = record { all-put = sym (append-nil (bits-put out w)); kept = refl; long = refl; few = h; moved = omega arith }
+put-none out w h = record { all-put = sym (append-nil (bits-put out w)); unchanged = refl; long = refl; few = h; moved = omega arith }
 
 pub put-then : (xs ys zs : List ℕ) (p q r : BitWriter) (cs bs : List ℕ) → Put xs p cs ys q → Put ys q bs zs r → Put xs p (cs ++ bs) zs r
 put-then xs ys zs p q r cs bs u v = record {
   all-put = v .all-put ∙ rw (u .all-put, append-assoc);
-  kept = v .kept ∙ dropped (q .at) (r .at) ys xs (omega (arith, v .moved, v .few, u .few)) (u .kept);
+  unchanged = v .unchanged ∙ dropped (q .at) (r .at) ys xs (omega (arith, v .moved, v .few, u .few)) (u .unchanged);
   long = v .long ∙ u .long;
   few = v .few;
   moved = rw (length-append cs bs) (omega (arith, u .moved, v .moved));
@@ -80,6 +80,16 @@ put-then xs ys zs p q r cs bs u v = record {
 -- room for what comes next
 pub ready-next : (xs ys : List ℕ) (p q : BitWriter) (bs : List ℕ) (k m : ℕ) → Put xs p bs ys q → length bs ≡ k → Ready xs p (k + m) → Ready ys q m
 ready-next xs ys p q bs k m u e r = record { few = u .few; room = omega (arith, u .moved, u .long, r .room) }
+
+-- room for fewer bits
+pub ready-fewer : (out : List ℕ) (w : BitWriter) (k m : ℕ) → m ≤ k → Ready out w k → Ready out w m
+ready-fewer out w k m h r = record { few = r .few; room = omega (arith, r .room) }
+
+-- room for a part of bits that all have room
+pub ready-part : (xs ys : List ℕ) (p q : BitWriter) (bs cs ds all : List ℕ) → Put xs p bs ys q → bs ++ (cs ++ ds) ≡ all → Ready xs p (length all) → Ready ys q (length cs)
+ready-part xs ys p q bs cs ds all u e r =
+    let l : length bs + (length cs + length ds) ≡ length all = simp length-append at (ap length e) in
+    record { few = u .few; room = omega (arith, u .moved, u .long, r .room) }
 
 -- WHOLE BYTES
 abbrev pub fresh : BitWriter
@@ -99,4 +109,4 @@ bytes-put xs ys r bs k u n l b =
     let e : bits-in (take k ys) ≡ bs = rw (none-put xs, h, a, bits-of-none, append-nil) at (u .all-put) in
     let t : length (take k ys) ≡ k = length-take-le k ys (omega (arith, u .long)) in
     let w : packed k bs ≡ take k ys = rw (t, e) at (packed-bits-in (take k ys) (all-of-take (λ x. ltb x 256) k ys b)) in
-    (a, sym (take-append-drop k ys) ∙ rw (w, ← rw a at (u .kept)))
+    (a, sym (take-append-drop k ys) ∙ rw (w, ← rw a at (u .unchanged)))

@@ -18,7 +18,7 @@ pub record Ready (out : List ℕ) (w : BitWriter) (width : ℕ) : Type 0 where
 -- bits were put behind those that stood there, and every byte from the new place on is as it was
 pub record Put (before : List ℕ) (w : BitWriter) (bits : List ℕ) (after : List ℕ) (r : BitWriter) : Type 0 where
   pub all-put : bits-put after r ≡ bits-put before w ++ bits
-  pub kept : drop (r .at) after ≡ drop (r .at) before
+  pub unchanged : drop (r .at) after ≡ drop (r .at) before
   pub long : length after ≡ length before
   pub few : r .count < 8
   pub moved : 8 * r .at + r .count ≡ 8 * w .at + w .count + length bits

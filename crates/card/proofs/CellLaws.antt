@@ -75,7 +75,8 @@ all-pass zero i f g h = refl
 all-pass (suc k) i f g h =
     rw (eq-eqb (cell-refusal (f i) (g i)) 0 (h i (omega arith) (omega arith))) (all-pass k (suc i) f g (λ j p q. h j (omega arith) (omega arith)))
 
-first-passes : (c rest : ℕ) → cond (eqb c 0) rest c ≡ 0 → (c ≡ 0) × (rest ≡ 0)
+-- the first answer that is not 0 is 0, so both are
+pub first-passes : (c rest : ℕ) → cond (eqb c 0) rest c ≡ 0 → (c ≡ 0) × (rest ≡ 0)
 first-passes zero rest e = (refl, e)
 first-passes (suc c) rest e = let q : suc c ≡ 0 = simp (ne-eqb (suc c) 0 (λ z. omega arith)) at e in absurd (omega arith)
 

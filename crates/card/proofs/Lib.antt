@@ -3,3 +3,8 @@ pub mod WorkedCards
 pub mod OffsetLaws
 pub mod CellLaws
 pub mod ReadingLaws
+pub mod WritingLaws
+pub mod OpensLaws
+pub mod CardAgain
+pub mod WrittenBits
+pub mod InstanceAgain

@@ -2,3 +2,5 @@
 pub mod Card
 pub mod Offsets
 pub mod Reading
+pub mod Writing
+pub mod Same

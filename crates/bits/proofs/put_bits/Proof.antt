@@ -41,7 +41,7 @@ add-left : tie.Need-add-left Inv-loop μ-loop
 add-left c = omega arith
 
 loop-holds : tie.Need-loop-holds Inv-loop μ-loop
-loop-holds c = record { stored = refl; kept = refl; long = refl; fewer = omega arith; moved = refl }
+loop-holds c = record { stored = refl; unchanged = refl; long = refl; fewer = omega arith; moved = refl }
 
 cast-out : tie.Need-cast-out Inv-loop μ-loop
 cast-out c = omega arith
