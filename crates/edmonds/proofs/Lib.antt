@@ -7,3 +7,4 @@ pub mod ChargeLaws
 pub mod FillLaws
 pub mod SearchLoop
 pub mod EntryLaws
+pub mod LevelLaws
