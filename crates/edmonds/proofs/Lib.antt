@@ -7,3 +7,6 @@ pub mod ChargeLaws
 pub mod FillLaws
 pub mod SearchLoop
 pub mod EntryLaws
+pub mod LevelLaws
+pub mod FirstCharges
+pub mod FinishLaws

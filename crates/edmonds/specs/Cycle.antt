@@ -4,6 +4,7 @@ use mathlib.Core.Bool.{Bool, true, false}
 use mathlib.Core.List.{List}
 use Prim.Native.Nat.{ℕ, _≤_, _<_}
 use lib.Dec.{leb}
+use lib.ListN.{length}
 use Rattle.instance.specs.Limits.{max-vertices}
 use Rattle.contraction.specs.Groups.{Labels, Group, Along, contracted, expanded, own-arcs}
 use Rattle.contraction.specs.Search.{Walk}
@@ -41,6 +42,7 @@ pub record Contracted (ls stamp : List ℕ) (n v : ℕ) (r : List ℕ) : Type 0 
   pub is : (u : ℕ) → u < n → at r u ≡ contracted (at ls) (on-cycle stamp v) v u
 
 pub record Own-arcs (ls tails heads : List ℕ) (n root : ℕ) (r : List ℕ) : Type 0 where
+  pub size : length r ≡ max-vertices
   pub is : (v : ℕ) → v < n → at r v ≡ own-arcs root (at ls) (at tails) (at heads) v
 
 -- a vertex of the cycle that a chosen arc enters
@@ -53,4 +55,5 @@ abbrev pub Entered : (ps ls stamp : List ℕ) (n v : ℕ) → Type 0
 Entered ps ls stamp n v = (e : ℕ) × Entry ps ls stamp n v e
 
 pub record Expanded (ps ls stamp tails heads : List ℕ) (n v e : ℕ) (r : List ℕ) : Type 0 where
+  pub size : length r ≡ max-vertices
   pub is : (u : ℕ) → u < n → at r u ≡ expanded (at ls) (at tails) (at heads) (on-cycle stamp v) (at ls e) (at ps) u

@@ -27,6 +27,7 @@ pub record Ready (ws ls tails heads : List ℕ) (n root left : ℕ) : Type 0 whe
 pub record Solved (ws ws′ ls : List ℕ) (n root left : ℕ) (cuts cuts′ : List ℕ) (k : ℕ) (found : Bool) (ps : List ℕ) (count set : ℕ) : Type 0 where
   pub size : length ws′ ≡ cells
   pub cuts-size : length cuts′ ≡ cut-words
+  pub parents-size : length ps ≡ max-vertices
   pub tree : found ≡ true → Tree n root (cost ws′) (at ls) (cuts-from (count - k) k cuts′) (at ps)
   pub lowered : found ≡ true → Lowered n (cost ws) (cost ws′) (cuts-from (count - k) k cuts′)
   pub fine : found ≡ true → Each (Fine n root) (cuts-from (count - k) k cuts′)
@@ -34,5 +35,6 @@ pub record Solved (ws ws′ ls : List ℕ) (n root left : ℕ) (cuts cuts′ : L
   pub most : found ≡ true → count + 2 ≤ k + left
   pub frame : found ≡ true → (i : ℕ) → (i < 2 * k) ⊎ (2 * count ≤ i) → at cuts′ i ≡ at cuts i
   pub root-none : found ≡ true → at ps root ≡ no-parent
+  pub no-set : found ≡ true → set ≡ 0
   pub closed : found ≡ false → Closed n root ws set
   pub none : found ≡ false → (ps ≡ replicate max-vertices no-parent) × (count ≡ 0)

@@ -92,7 +92,7 @@ loop-again c =
 
 -- src/expand.rt:13:1
 returns : tie.Need-returns Inv-loop μ-loop
-returns c = record { is = λ p l. c .before .loop .inv .1 .done p (omega arith) }
+returns c = record { size = c .before .loop .inv .1 .size; is = λ p l. c .before .loop .inv .1 .done p (omega arith) }
 
 pub own-parents-spec : {M : Type 1} → statement M
 own-parents-spec =
