@@ -7,3 +7,4 @@ pub mod WalkLaws
 pub mod ExchangeLaws
 pub mod TreeLaws
 pub mod TableLaws
+pub mod DetourLaws
