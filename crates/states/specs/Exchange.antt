@@ -31,6 +31,7 @@ pub record Below-table (parents : List ℕ) (h bound : ℕ) (below : List ℕ) :
 
 -- the least weight into k from a tail that is not marked as below
 pub record Least-outside (bound : ℕ) (m below : List ℕ) (k least : ℕ) : Type 0 where
+  pub most : least ≤ no-arc
   pub tail : least < no-arc → (x : ℕ) × (x < bound) × (getD below x 0 ≢ 1) × (getD m (cell x k) 0 ≡ least)
 
 -- d is what such a tail adds to the weight of k's own arc

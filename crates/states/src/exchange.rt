@@ -121,9 +121,11 @@ pub fn detours(m: &[u32; 1024], parents: &[u8; 32], n: u32, root: u32, head: u32
     let mut table = [0u32; 32];
     let mut t: u32 = 0;
     while t < n {
+        let mut d = 0;
         if under[t as usize] == 1 {
-            table[t as usize] = path_least(parents, &added, n, root, head, t);
+            d = path_least(parents, &added, n, root, head, t);
         }
+        table[t as usize] = d;
         t += 1;
     }
     table
