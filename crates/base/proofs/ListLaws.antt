@@ -2,12 +2,12 @@
 use mathlib.Core.Path.{_≡_, refl, sym, ap, _∙_, subst}
 use mathlib.Core.Bool.{Bool, true, false, _&&_, _||_, not, cond, true≢false}
 use mathlib.Core.List.{List, [], _∷_, _++_, map}
-use Prim.Native.Nat.{ℕ, zero, suc, _+_, _-_, _≤_, _<_}
+use Prim.Native.Nat.{ℕ, zero, suc, _+_, _<_}
 use native.Mathlib.Omega.{arith}
 use native.Mathlib.Numerals.{add-one}
 use native.Mathlib.Nat.{add-zero, add-suc, suc-add, zero-add}
 use lib.ListN.{length, getD, set, take}
-use lib.Seq.{take-suc-set, take-all, take-suc, take-length, ext-getD}
+use lib.Seq.{take-suc-set, take-all, ext-getD}
 use Rattle.base.specs.Lists.{tabulate-from, tabulate, select, any-of, all-of}
 use Rattle.base.proofs.Tests.{and-left, and-right, and-both, or-left, or-right}
 

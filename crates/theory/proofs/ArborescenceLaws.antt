@@ -1,12 +1,11 @@
 -- What an arc, a remaining arc and an arborescence are, taken apart and put together. Assumes nothing.
-use mathlib.Core.Path.{_≡_, refl, sym, ap, _∙_}
+use mathlib.Core.Path.{_≡_, refl, sym, _∙_}
 use mathlib.Core.Bool.{Bool, true, false, _&&_, not, cond}
 use mathlib.Core.List.{List}
 use Prim.Native.Nat.{ℕ, _<_}
-use native.Mathlib.Omega.{arith}
 use lib.Dec.{ltb, eqb}
-use lib.ListN.{length, getD}
-use borrow.Author.Tests.{ltb-true, lt-ltb, eqb-true, eqb-false, eq-eqb, not-true}
+use lib.ListN.{length}
+use borrow.Author.Tests.{ltb-true, eqb-true, eq-eqb, not-true}
 use Rattle.base.specs.Bounded.{all-below}
 use Rattle.base.proofs.Tests.{and-left, and-right, and-both}
 use Rattle.base.proofs.BoundedLaws.{all-at, all-intro}
@@ -31,7 +30,8 @@ ends n r t h e =
       tail-below = ltb-true t n (and-left (ltb t n) (ltb h n) below);
       head-below = ltb-true h n (and-right (ltb t n) (ltb h n) below);
       differ = not-true (eqb t h) (and-left (not (eqb t h)) (not (eqb h r)) apart);
-      not-root = not-true (eqb h r) (and-right (not (eqb t h)) (not (eqb h r)) apart) }
+      not-root = not-true (eqb h r) (and-right (not (eqb t h)) (not (eqb h r)) apart);
+    }
 
 module _ (s : Instance) (t h : ℕ) where
   pub arc-ends : is-arc s t h ≡ true → Ends (s .n) (s .root) t h
@@ -74,7 +74,8 @@ module _ (s : Instance) (ps : List ℕ) where
       let ok : remaining s (parent ps v) v && reaches (s .n) (s .root) ps v ≡ true = rw e at (parents-ok a v l) in
       record {
         arc = and-left (remaining s (parent ps v) v) (reaches (s .n) (s .root) ps v) ok;
-        reach = and-right (remaining s (parent ps v) v) (reaches (s .n) (s .root) ps v) ok }
+        reach = and-right (remaining s (parent ps v) v) (reaches (s .n) (s .root) ps v) ok;
+      }
 
   pub make-arborescence : length ps ≡ s .n → ((v : ℕ) → v < s .n → eqb v (s .root) ≡ true → parent ps v ≡ no-parent)
       → ((v : ℕ) → v < s .n → eqb v (s .root) ≡ false → Joined v) → is-arborescence s ps ≡ true
@@ -98,3 +99,8 @@ uses-one ps t g h p q = sym (eqb-true (parent ps h) t p) ∙ eqb-true (parent ps
 pub uses-parent : (ps : List ℕ) (h : ℕ) → uses ps (parent ps h) h ≡ true
 unfolding uses
 uses-parent ps h = eq-eqb (parent ps h) (parent ps h) refl
+
+-- an arc that an arborescence uses remains
+pub uses-remains : (s : Instance) (ps : List ℕ) (t h : ℕ) → is-arborescence s ps ≡ true → h < s .n → eqb h (s .root) ≡ false → uses ps t h ≡ true → remaining s t h ≡ true
+unfolding uses
+uses-remains s ps t h a l e u = rw (eqb-true (parent ps h) t u) at (joined s ps a h l e .arc)

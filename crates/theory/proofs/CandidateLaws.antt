@@ -1,18 +1,18 @@
 -- The candidates leave out no arborescence, so that a test over those that are selected from them is a statement about all lists
 -- of parents. Assumes nothing.
 use mathlib.Core.Path.{_≡_, refl, sym, ap, _∙_, subst}
-use mathlib.Core.Bool.{Bool, true, false, _&&_, _||_, not, cond}
-use mathlib.Core.List.{List, [], _∷_, _++_, map}
+use mathlib.Core.Bool.{Bool, true, false, _&&_, not, cond}
+use mathlib.Core.List.{List, [], _∷_, map}
 use mathlib.Core.Logic.{_↔_, ⊎-elim}
 use Prim.Native.Nat.{ℕ, zero, suc, _+_, _<_}
 use native.Mathlib.Omega.{arith}
 use native.Mathlib.Nat.{zero-add}
 use lib.Dec.{eqb}
-use lib.ListN.{length, getD, drop, drop-of-length-le}
+use lib.ListN.{drop, drop-of-length-le}
 use lib.Seq.{drop-cons}
 use borrow.Author.Tests.{eqb-true, eq-eqb, not-true, not-false}
 use Rattle.base.specs.Lists.{tabulate, select, any-of, all-of}
-use Rattle.base.proofs.Tests.{test, not-both, and-left, and-right, and-both, or-cases, or-left}
+use Rattle.base.proofs.Tests.{not-both, is-true, is-false, and-left, and-right, and-both, or-cases, or-left}
 use Rattle.base.proofs.ListLaws.{any-select, all-of-any, any-witness, any-map, any-append-left, any-append-right, any-tabulate}
 use Rattle.instance.specs.Limits.{no-parent}
 use Rattle.instance.specs.Instance.{Instance}
@@ -28,8 +28,8 @@ any-prefixed q [] ls x e f = e
 any-prefixed q (y ∷ xs) ls x e f =
     ⊎-elim
     (λ (p : eqb y x ≡ true).
-      any-append-left q (map (λ l. y ∷ l) ls) (prefixed xs ls)
-      (any-map q (λ l. y ∷ l) ls ∙ subst (λ (z : ℕ). any-of (λ l. q (z ∷ l)) ls ≡ true) (sym (eqb-true y x p)) f))
+    any-append-left q (map (λ l. y ∷ l) ls) (prefixed xs ls)
+    (any-map q (λ l. y ∷ l) ls ∙ subst (λ (z : ℕ). any-of (λ l. q (z ∷ l)) ls ≡ true) (sym (eqb-true y x p)) f))
     (λ (p : any-of (λ z. eqb z x) xs ≡ true). any-append-right q (map (λ l. y ∷ l) ls) (prefixed xs ls) (any-prefixed q xs ls x p f))
     (or-cases (eqb y x) (any-of (λ z. eqb z x) xs) e)
 
@@ -69,6 +69,7 @@ module _ (s : Instance) (p : List ℕ → Bool) (sound : (ps : List ℕ) → p p
       found e =
           let w = any-witness (λ x. p x && q x) (candidates s) (sym (any-select p q (candidates s)) ∙ e) in
           (w .0, and-left (p (w .0)) (q (w .0)) (w .1), and-right (p (w .0)) (q (w .0)) (w .1))
+
       here : ((ps : List ℕ) × (p ps ≡ true) × (q ps ≡ true)) → any-of q (select p (candidates s)) ≡ true
       here w =
           any-select p q (candidates s)
@@ -79,19 +80,16 @@ module _ (s : Instance) (p : List ℕ → Bool) (sound : (ps : List ℕ) → p p
     where
       fails : Bool
       fails = any-of (λ x. not (q x)) (select p (candidates s))
+
       each : all-of q (select p (candidates s)) ≡ true → (ps : List ℕ) → p ps ≡ true → q ps ≡ true
       each e ps h =
-          ⊎-elim (λ (y : q ps ≡ true). y)
-          (λ (n : q ps ≡ false).
-            absurd (not-both fails (any-selected (λ x. not (q x)) .1 (ps, h, ap not n)) (not-true fails (sym (all-of-any q (select p (candidates s))) ∙ e))))
-          (test (q ps))
+          is-true (q ps)
+          (λ n. not-both fails (any-selected (λ x. not (q x)) .1 (ps, h, ap not n)) (not-true fails (sym (all-of-any q (select p (candidates s))) ∙ e)))
+
       whole : ((ps : List ℕ) → p ps ≡ true → q ps ≡ true) → all-of q (select p (candidates s)) ≡ true
       whole h =
-          ⊎-elim
-          (λ (y : fails ≡ true).
-            let w = any-selected (λ x. not (q x)) .0 y in absurd (not-both (q (w .0)) (h (w .0) (w .1)) (not-true (q (w .0)) (w .2))))
-          (λ (n : fails ≡ false). all-of-any q (select p (candidates s)) ∙ ap not n)
-          (test fails)
+          let none = is-false fails (λ y. let w = any-selected (λ x. not (q x)) .0 y in not-both (q (w .0)) (h (w .0) (w .1)) (not-true (q (w .0)) (w .2))) in
+          all-of-any q (select p (candidates s)) ∙ ap not none
 
   -- a test that not all pass has one that fails it
   pub one-fails : (q : List ℕ → Bool) → all-of q (select p (candidates s)) ≡ false → (ps : List ℕ) × (p ps ≡ true) × (q ps ≡ false)
@@ -100,6 +98,4 @@ module _ (s : Instance) (p : List ℕ → Bool) (sound : (ps : List ℕ) → p p
       (w .0, w .1, not-true (q (w .0)) (w .2))
 
   pub none-passes : (q : List ℕ → Bool) → any-of q (select p (candidates s)) ≡ false → (ps : List ℕ) → p ps ≡ true → q ps ≡ false
-  none-passes q e ps h =
-      ⊎-elim (λ (y : q ps ≡ true). absurd (not-both (any-of q (select p (candidates s))) (any-selected q .1 (ps, h, y)) e))
-      (λ (n : q ps ≡ false). n) (test (q ps))
+  none-passes q e ps h = is-false (q ps) (λ y. not-both (any-of q (select p (candidates s))) (any-selected q .1 (ps, h, y)) e)

@@ -4,15 +4,14 @@
 -- The idea: an arborescence has an arc into every set without the root. Go from a member of the set from parent to parent; the
 -- root is met, which is outside, so some arc on the way has its head inside and its tail outside. So each cut charges some arc
 -- of the arborescence with its value, and by feasibility no arc is charged with more than its weight.
-use mathlib.Core.Path.{_≡_, refl, sym, ap, _∙_, subst}
-use mathlib.Core.Bool.{Bool, true, false, _&&_, _||_, not, cond}
+use mathlib.Core.Path.{_≡_, refl, subst}
+use mathlib.Core.Bool.{Bool, true, false, _&&_, not, cond}
 use mathlib.Core.List.{List, [], _∷_}
 use mathlib.Core.Logic.{⊎-elim, _≢_}
-use Prim.Native.Nat.{ℕ, zero, suc, _+_, _*_, _-_, _/_, _%_, _^_, _≤_, _<_}
+use Prim.Native.Nat.{ℕ, zero, suc, _+_, _/_, _%_, _^_, _≤_, _<_}
 use native.Mathlib.Omega.{arith}
 use native.Mathlib.Nat.{pow-zero, div-lt-iff-lt-mul, pow-suc}
 use lib.Dec.{ltb, eqb}
-use lib.ListN.{getD}
 use lib.Pow.{pow-pos}
 use borrow.Author.Tests.{eqb-true, eqb-false, ne-eqb, not-true, ltb-true}
 use Rattle.base.specs.Bounded.{sum-below}
@@ -32,12 +31,12 @@ member zero c l m = absurd (omega (arith, rw (pow-zero 2) at m))
 member (suc n) c l m =
     ⊎-elim (λ (e : inside c n ≡ true). (n, omega arith, e))
     (λ (e : inside c n ≡ false).
-      let even = eqb-false (c / 2 ^ n % 2) 1 e in
-      let small : c / 2 ^ n < 2 = div-lt-iff-lt-mul (pow-pos n) .1 (omega (arith, m, pow-suc 2 n)) in
-      let not-one : c / 2 ^ n ≢ 1 = λ h. even (rw h) in
-      let below : c < 2 ^ n = omega (arith, div-lt-iff-lt-mul {k = 2 ^ n} {x = c} {y = 1} (pow-pos n) .0 (omega arith)) in
-      let r = member n c l below in
-      (r .0, omega (arith, r .1), r .2))
+    let even = eqb-false (c / 2 ^ n % 2) 1 e in
+    let small : c / 2 ^ n < 2 = div-lt-iff-lt-mul (pow-pos n) .1 (omega (arith, m, pow-suc 2 n)) in
+    let not-one : c / 2 ^ n ≢ 1 = λ h. even (rw h) in
+    let below : c < 2 ^ n = omega (arith, div-lt-iff-lt-mul {k = 2 ^ n} {x = c} {y = 1} (pow-pos n) .0 (omega arith)) in
+    let r = member n c l below in
+    (r .0, omega (arith, r .1), r .2))
     (test (inside c n))
 
 pub cond-add : (b : Bool) (x y : ℕ) → cond b 0 (x + y) ≡ cond b 0 x + cond b 0 y
@@ -63,10 +62,10 @@ module _ (s : Instance) (ps : List ℕ) (a : is-arborescence s ps ≡ true) wher
   entry-from c o (suc k) v l i r =
       ⊎-elim (λ (e : eqb v (s .root) ≡ true). absurd (not-both (inside c v) i (rw (eqb-true v (s .root) e) o)))
       (λ (e : eqb v (s .root) ≡ false).
-        ⊎-elim
-        (λ (j : inside c (parent ps v) ≡ true).
-          entry-from c o k (parent ps v) (remaining-ends s (parent ps v) v (joined s ps a v l e .arc) .tail-below) j (rw e at r))
-        (λ (j : inside c (parent ps v) ≡ false). record { v = v; below = l; not-root = e; out = j; into = i }) (test (inside c (parent ps v))))
+      ⊎-elim
+      (λ (j : inside c (parent ps v) ≡ true).
+      entry-from c o k (parent ps v) (remaining-ends s (parent ps v) v (joined s ps a v l e .arc) .tail-below) j (rw e at r))
+      (λ (j : inside c (parent ps v) ≡ false). record { v = v; below = l; not-root = e; out = j; into = i }) (test (inside c (parent ps v))))
       (test (eqb v (s .root)))
 
   -- AN ARBORESCENCE ENTERS EVERY SET
@@ -76,8 +75,8 @@ module _ (s : Instance) (ps : List ℕ) (a : is-arborescence s ps ≡ true) wher
       let sizes = and-left (ltb 0 c && ltb c (2 ^ s .n)) (not (inside c (s .root))) ok in
       let o = not-true (inside c (s .root)) (and-right (ltb 0 c && ltb c (2 ^ s .n)) (not (inside c (s .root))) ok) in
       let m =
-          member (s .n) c (ltb-true 0 c (and-left (ltb 0 c) (ltb c (2 ^ s .n)) sizes))
-          (ltb-true c (2 ^ s .n) (and-right (ltb 0 c) (ltb c (2 ^ s .n)) sizes)) in
+      member (s .n) c (ltb-true 0 c (and-left (ltb 0 c) (ltb c (2 ^ s .n)) sizes))
+      (ltb-true c (2 ^ s .n) (and-right (ltb 0 c) (ltb c (2 ^ s .n)) sizes)) in
       let e : eqb (m .0) (s .root) ≡ false = ne-eqb (m .0) (s .root) (λ e. not-both (inside c (m .0)) (m .2) (rw e o)) in
       entry-from c o (s .n) (m .0) (m .1) (m .2) (joined s ps a (m .0) (m .1) e .reach)
 
@@ -114,8 +113,8 @@ module _ (s : Instance) (ps : List ℕ) (a : is-arborescence s ps ≡ true) wher
       let none = sum-zero (s .n) in
       let add = sum-add (s .n) (share c) (paid cs) in
       let split =
-          sum-eq (s .n) (paid (c ∷ cs)) (λ v. share c v + paid cs v)
-          (λ v l. cond-add (eqb v (s .root)) (cond (enters (c .set) (parent ps v) v) (c .value) 0) (charged cs (parent ps v) v)) in
+      sum-eq (s .n) (paid (c ∷ cs)) (λ v. share c v + paid cs v)
+      (λ v l. cond-add (eqb v (s .root)) (cond (enters (c .set) (parent ps v) v) (c .value) 0) (charged cs (parent ps v) v)) in
       omega arith
 
   module _ (cs : List Cut) (f : Feasible s cs) where
@@ -149,7 +148,7 @@ reduced-excludes s cs t h f r past ps fit =
     let end = remaining-ends s t h r in
     ne-eqb (parent ps h) t
     (λ e.
-      let w = weak-duality-with s ps (fits-arborescence s ps fit) cs f h (end .head-below) (end .not-root) in
-      let least : values cs + reduced-cost s cs t h ≤ total s ps = subst (λ (x : ℕ). values cs + reduced-cost s cs x h ≤ total s ps) e w in
-      let most = fits-total s ps fit in
-      omega arith)
+    let w = weak-duality-with s ps (fits-arborescence s ps fit) cs f h (end .head-below) (end .not-root) in
+    let least : values cs + reduced-cost s cs t h ≤ total s ps = subst (λ (x : ℕ). values cs + reduced-cost s cs x h ≤ total s ps) e w in
+    let most = fits-total s ps fit in
+    omega arith)

@@ -3,16 +3,16 @@
 use mathlib.Core.Path.{_≡_, refl, sym, subst}
 use mathlib.Core.Bool.{Bool, true, false, _||_, not}
 use mathlib.Core.List.{List}
-use mathlib.Core.Logic.{_↔_, ⊎-elim}
+use mathlib.Core.Logic.{_↔_}
 use Prim.Native.Nat.{ℕ, _≤_}
 use native.Mathlib.Omega.{arith}
 use lib.Dec.{leb, eqb}
 use borrow.Author.Tests.{eqb-true, eq-eqb, leb-true, leb-false}
-use Rattle.base.proofs.Tests.{test}
+use Rattle.base.proofs.Tests.{is-false}
 use Rattle.instance.specs.Instance.{Instance}
 use Rattle.instance.specs.Arborescence.{remaining, parent, is-arborescence, total, uses}
 use Rattle.instance.specs.Cuts.{Cut, values, Feasible, No-entry}
-use Rattle.instance.specs.States.{bound, fits}
+use Rattle.instance.specs.States.{bound}
 use Rattle.theory.specs.Usable.{usable, restricted, forced}
 use Rattle.theory.proofs.ArborescenceLaws.{remaining-ends}
 use Rattle.theory.proofs.StateLaws.{fits-arborescence, fits-total, make-fits}
@@ -23,12 +23,13 @@ use Rattle.theory.proofs.Restriction.{restricted-arborescence, restrict
 module _ (s : Instance) (t₀ h₀ : ℕ) (small : s .n ≤ 32) (r : remaining s t₀ h₀ ≡ true) where
   pub forced-arborescence : (ps : List ℕ) → (is-arborescence (restricted s (forced t₀ h₀)) ps ≡ true) ↔ ((is-arborescence s ps ≡ true) × (uses ps t₀ h₀ ≡ true))
   unfolding forced uses
-  forced-arborescence ps =
-      ((λ a.
-         let end = remaining-ends s t₀ h₀ r in
-         let x = restricted-arborescence s (forced t₀ h₀) small ps .0 a in
-         (x .0, rw (eq-eqb h₀ h₀ refl) at (x .1 h₀ (end .head-below) (end .not-root)))),
-       (λ x. restricted-arborescence s (forced t₀ h₀) small ps .1 (x .0, λ v l e. at v (x .1) (eqb v h₀) refl)))
+  forced-arborescence ps = (
+    (λ a.
+        let end = remaining-ends s t₀ h₀ r in
+        let x = restricted-arborescence s (forced t₀ h₀) small ps .0 a in
+        (x .0, rw (eq-eqb h₀ h₀ refl) at (x .1 h₀ (end .head-below) (end .not-root)))),
+    (λ x. restricted-arborescence s (forced t₀ h₀) small ps .1 (x .0, λ v l e. at v (x .1) (eqb v h₀) refl)),
+  )
     where
       at : (v : ℕ) → eqb (parent ps h₀) t₀ ≡ true → (b : Bool) → eqb v h₀ ≡ b → not b || eqb (parent ps v) t₀ ≡ true
       at v u true e = subst (λ (x : ℕ). eqb (parent ps x) t₀ ≡ true) (sym (eqb-true v h₀ e)) u
@@ -41,6 +42,7 @@ module _ (s : Instance) (t₀ h₀ : ℕ) (small : s .n ≤ 32) (r : remaining s
     where
       on : Instance
       on = restricted s (forced t₀ h₀)
+
       at : (b : Bool) → leb (total on ps) (bound s) ≡ b → usable s t₀ h₀ ≡ b
       at true l =
           let x = forced-arborescence ps .0 a in
@@ -50,20 +52,17 @@ module _ (s : Instance) (t₀ h₀ : ℕ) (small : s .n ≤ 32) (r : remaining s
       at false l =
           usable-none s t₀ h₀ .1
           (λ qs fit.
-            ⊎-elim
-            (λ (u : uses qs t₀ h₀ ≡ true).
-              let b = forced-arborescence qs .1 (fits-arborescence s qs fit, u) in
-              let same = restricted-total s (forced t₀ h₀) small qs b in
-              let least = weak-duality on qs b cs f in
-              let most = fits-total s qs fit in
-              let m = leb-false (total on ps) (bound s) l in
-              absurd (omega arith))
-            (λ (u : uses qs t₀ h₀ ≡ false). u) (test (uses qs t₀ h₀)))
+          is-false (uses qs t₀ h₀)
+          (λ u.
+          let b = forced-arborescence qs .1 (fits-arborescence s qs fit, u) in
+          let same = restricted-total s (forced t₀ h₀) small qs b in
+          let least = weak-duality on qs b cs f in
+          let most = fits-total s qs fit in
+          let m = leb-false (total on ps) (bound s) l in
+          omega arith))
 
   pub forced-unusable : (c : Cut) → No-entry (restricted s (forced t₀ h₀)) c → usable s t₀ h₀ ≡ false
   forced-unusable c e =
       usable-none s t₀ h₀ .1
       (λ qs fit.
-        ⊎-elim
-        (λ (u : uses qs t₀ h₀ ≡ true). absurd (no-entry (restricted s (forced t₀ h₀)) qs (forced-arborescence qs .1 (fits-arborescence s qs fit, u)) c e))
-        (λ (u : uses qs t₀ h₀ ≡ false). u) (test (uses qs t₀ h₀)))
+      is-false (uses qs t₀ h₀) (λ u. no-entry (restricted s (forced t₀ h₀)) qs (forced-arborescence qs .1 (fits-arborescence s qs fit, u)) c e))

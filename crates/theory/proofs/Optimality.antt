@@ -1,21 +1,19 @@
 -- What cuts settle: an arborescence whose total they add to is cheapest, a set that no remaining arc enters leaves none; and which
 -- states follow without listing anything. Assumes nothing.
-use mathlib.Core.Path.{_≡_, refl, sym, _∙_}
-use mathlib.Core.Bool.{Bool, true, false}
+use mathlib.Core.Path.{_≡_, refl}
+use mathlib.Core.Bool.{true, false}
 use mathlib.Core.List.{List}
-use mathlib.Core.Logic.{⊎-elim}
 use mathlib.Core.Option.{some}
 use Prim.Native.Nat.{ℕ, _+_, _≤_, _<_}
 use native.Mathlib.Omega.{arith}
-use borrow.Author.Tests.{ne-eqb}
-use Rattle.base.proofs.Tests.{test, not-both}
+use Rattle.base.proofs.Tests.{not-both, is-false}
 use Rattle.instance.specs.Instance.{Instance, is-arc}
-use Rattle.instance.specs.Arborescence.{remaining, parent, is-arborescence, total, uses}
+use Rattle.instance.specs.Arborescence.{remaining, is-arborescence, total, uses}
 use Rattle.instance.specs.Candidates.{cheapest}
 use Rattle.instance.specs.Cuts.{Cut, values, Feasible, reduced-cost, No-entry}
-use Rattle.instance.specs.States.{Outcome, plan, over, no-tree, outcome, bound, fits, state}
+use Rattle.instance.specs.States.{plan, over, no-tree, outcome, bound, fits, state}
 use Rattle.theory.specs.Readings.{None-uses, Least-total, No-arborescence}
-use Rattle.theory.proofs.ArborescenceLaws.{arc-ends, joined}
+use Rattle.theory.proofs.ArborescenceLaws.{arc-ends, uses-remains}
 use Rattle.theory.proofs.StateLaws.{fits-arborescence, fits-total, state-reads}
 use Rattle.theory.proofs.OutcomeLaws.{cheapest-some, outcome-reads}
 use Rattle.theory.proofs.Duality.{weak-duality, no-entry, reduced-excludes}
@@ -37,8 +35,7 @@ module _ (s : Instance) where
 
   -- A SET THAT NO REMAINING ARC ENTERS
   pub shut-none : (c : Cut) → No-entry s c → No-arborescence s
-  shut-none c e ps =
-      ⊎-elim (λ (a : is-arborescence s ps ≡ true). absurd (no-entry s ps a c e)) (λ (a : is-arborescence s ps ≡ false). a) (test (is-arborescence s ps))
+  shut-none c e ps = is-false (is-arborescence s ps) (λ a. no-entry s ps a c e)
 
   pub shut-outcome : (c : Cut) → No-entry s c → outcome s ≡ no-tree
   shut-outcome c e = outcome-reads s .fails .1 (shut-none c e)
@@ -61,19 +58,20 @@ module _ (s : Instance) where
         let r = outcome-reads s .exceeds v .0 e in
         unfit-excluded
         (λ ps p.
-          let l = r .0 .least ps (fits-arborescence s ps p) in
-          let m = fits-total s ps p in
-          omega (arith, r .1))
+        let l = r .0 .least ps (fits-arborescence s ps p) in
+        let m = fits-total s ps p in
+        omega (arith, r .1))
+
+    pub shut-excluded : (c : Cut) → No-entry s c → state s t h ≡ 1
+    shut-excluded c e = none-excluded (shut-outcome c e)
 
     pub lost-excluded : remaining s t h ≡ false → state s t h ≡ 1
-    unfolding uses
     lost-excluded r =
+        let end = arc-ends s t h x in
         unused-excluded
         (λ ps p.
-          let end = arc-ends s t h x in
-          ne-eqb (parent ps h) t
-          (λ e.
-            not-both (remaining s t h) (rw e at (joined s ps (fits-arborescence s ps p) h (end .head-below) (end .not-root) .arc)) r))
+        is-false (uses ps t h)
+        (λ u. not-both (remaining s t h) (uses-remains s ps t h (fits-arborescence s ps p) (end .head-below) (end .not-root) u) r))
 
     pub reduced-excluded : (cs : List Cut) → Feasible s cs → remaining s t h ≡ true → bound s < values cs + reduced-cost s cs t h → state s t h ≡ 1
     reduced-excluded cs f r past = unused-excluded (reduced-excludes s cs t h f r past)

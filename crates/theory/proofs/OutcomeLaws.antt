@@ -1,20 +1,20 @@
 -- The cheapest total and the outcome are those that document 01's words allow, and the only ones. Assumes nothing.
-use mathlib.Core.Path.{_≡_, refl, sym, ap, _∙_, subst}
+use mathlib.Core.Path.{_≡_, refl, sym, ap, subst}
 use mathlib.Core.Bool.{Bool, true, false, _||_, _&&_, cond, true≢false}
 use mathlib.Core.List.{List, [], _∷_}
-use mathlib.Core.Logic.{_↔_, ⊎-elim}
+use mathlib.Core.Logic.{_↔_}
 use mathlib.Core.Option.{Option, none, some}
 use Prim.Native.Nat.{ℕ, min, _≤_, _<_}
 use native.Mathlib.Omega.{arith}
 use native.Mathlib.Nat.{le-antisymm}
 use lib.Dec.{leb, eqb}
-use borrow.Author.Tests.{leb-true, leb-false, le-leb, lt-leb, eqb-true, eq-eqb}
-use Rattle.base.specs.Lists.{select, any-of, all-of}
-use Rattle.base.proofs.Tests.{test, not-both, and-both, or-left, or-right}
+use borrow.Author.Tests.{leb-true, leb-false, le-leb, eqb-true, eq-eqb}
+use Rattle.base.specs.Lists.{any-of, all-of}
+use Rattle.base.proofs.Tests.{not-both, is-false, and-both, or-left, or-right}
 use Rattle.base.proofs.ListLaws.{all-mono}
 use Rattle.instance.specs.Instance.{Instance}
 use Rattle.instance.specs.Arborescence.{is-arborescence, total}
-use Rattle.instance.specs.Candidates.{candidates, arborescences, lesser, least-total, cheapest}
+use Rattle.instance.specs.Candidates.{arborescences, lesser, least-total, cheapest}
 use Rattle.instance.specs.States.{Outcome, plan, over, no-tree, outcome-at, outcome}
 use Rattle.theory.specs.Readings.{Least-total, No-arborescence, Outcome-reads}
 use Rattle.theory.proofs.CandidateLaws.{any-selected, all-selected}
@@ -28,14 +28,16 @@ Least-of s pss (some v) = (any-of (λ ps. eqb (total s ps) v) pss ≡ true) × (
 least-step : (s : Instance) (ps : List ℕ) (pss : List (List ℕ)) (o : Option ℕ) → Least-of s pss o → Least-of s (ps ∷ pss) (lesser (total s ps) o)
 unfolding Least-of lesser any-of all-of
 least-step s ps pss none e =
-    let v = total s ps in
-    (or-left (eqb v v) (any-of (λ qs. eqb (total s qs) v) pss) (eq-eqb v v refl),
-     and-both (leb v v) (all-of (λ qs. leb v (total s qs)) pss) (le-leb v v (omega arith))
-     (subst (λ (qss : List (List ℕ)). all-of (λ qs. leb v (total s qs)) qss ≡ true) (sym e) refl))
+    let v = total s ps in (
+      or-left (eqb v v) (any-of (λ qs. eqb (total s qs) v) pss) (eq-eqb v v refl),
+      and-both (leb v v) (all-of (λ qs. leb v (total s qs)) pss) (le-leb v v (omega arith))
+          (subst (λ (qss : List (List ℕ)). all-of (λ qs. leb v (total s qs)) qss ≡ true) (sym e) refl),
+    )
 least-step s ps pss (some w) e = (attained (leb (total s ps) w) refl, below)
   where
     v : ℕ
     v = total s ps
+
     attained : (b : Bool) → leb v w ≡ b → eqb v (min v w) || any-of (λ qs. eqb (total s qs) (min v w)) pss ≡ true
     attained true c =
         let l : v ≤ w = leb-true v w c in
@@ -45,11 +47,12 @@ least-step s ps pss (some w) e = (attained (leb (total s ps) w) refl, below)
         let is : w ≡ min v w = omega arith in
         or-right (eqb v (min v w)) (any-of (λ qs. eqb (total s qs) (min v w)) pss)
         (subst (λ (x : ℕ). any-of (λ qs. eqb (total s qs) x) pss ≡ true) is (e .0))
+
     below : leb (min v w) v && all-of (λ qs. leb (min v w) (total s qs)) pss ≡ true
     below =
         and-both (leb (min v w) v) (all-of (λ qs. leb (min v w) (total s qs)) pss) (le-leb (min v w) v (omega arith))
         (all-mono (λ qs. leb w (total s qs)) (λ qs. leb (min v w) (total s qs)) pss
-         (λ qs q. let l : w ≤ total s qs = leb-true w (total s qs) q in le-leb (min v w) (total s qs) (omega arith)) (e .1))
+        (λ qs q. let l : w ≤ total s qs = leb-true w (total s qs) q in le-leb (min v w) (total s qs) (omega arith)) (e .1))
 
 least-of : (s : Instance) (pss : List (List ℕ)) → Least-of s pss (least-total s pss)
 unfolding Least-of least-total
@@ -69,18 +72,18 @@ module _ (s : Instance) where
   unfolding Least-of Cheapest-reads arborescences any-of
   from-list none e =
       λ ps.
-        ⊎-elim
-        (λ (a : is-arborescence s ps ≡ true).
-          let one = any-selected s (is-arborescence s) all-are (λ _. true) .1 (ps, a, refl) in
-          absurd (true≢false (sym (subst (λ (pss : List (List ℕ)). any-of (λ _. true) pss ≡ true) e one))))
-        (λ (a : is-arborescence s ps ≡ false). a) (test (is-arborescence s ps))
+      is-false (is-arborescence s ps)
+      (λ a.
+      let one = any-selected s (is-arborescence s) all-are (λ _. true) .1 (ps, a, refl) in
+      true≢false (sym (subst (λ (pss : List (List ℕ)). any-of (λ _. true) pss ≡ true) e one)))
   from-list (some v) e =
       let w = any-selected s (is-arborescence s) all-are (λ ps. eqb (total s ps) v) .0 (e .0) in
       record {
         parents = w .0;
         found = w .1;
         attained = eqb-true (total s (w .0)) v (w .2);
-        least = λ ps a. leb-true v (total s ps) (all-selected s (is-arborescence s) all-are (λ qs. leb v (total s qs)) .0 (e .1) ps a) }
+        least = λ ps a. leb-true v (total s ps) (all-selected s (is-arborescence s) all-are (λ qs. leb v (total s qs)) .0 (e .1) ps a);
+      }
 
   cheapest-reads : Cheapest-reads s (cheapest s)
   unfolding cheapest
@@ -132,21 +135,24 @@ module _ (s : Instance) where
       record {
         plans = λ v. ((λ e. subst (λ (x : ℕ). Least-total s x × (x ≤ s .budget)) (plan-once w v e) (a, l)), (λ b. ap plan (least-once s w v a (b .0))));
         exceeds = λ v. ((λ e. absurd (plan-not-over w v e)), (λ b. let same = least-once s w v a (b .0) in absurd (omega (arith, b .1))));
-        fails = ((λ e. absurd (plan-not-none w e)), (λ b. absurd (least-some s w a b))) }
+        fails = ((λ e. absurd (plan-not-none w e)), (λ b. absurd (least-some s w a b)));
+      }
 
   over-reads : (w : ℕ) → Least-total s w → s .budget < w → Outcome-reads s (over w)
   over-reads w a l =
       record {
         plans = λ v. ((λ e. absurd (plan-not-over v w (sym e))), (λ b. let same = least-once s w v a (b .0) in absurd (omega (arith, b .1))));
         exceeds = λ v. ((λ e. subst (λ (x : ℕ). Least-total s x × (s .budget < x)) (over-once w v e) (a, l)), (λ b. ap over (least-once s w v a (b .0))));
-        fails = ((λ e. absurd (over-not-none w e)), (λ b. absurd (least-some s w a b))) }
+        fails = ((λ e. absurd (over-not-none w e)), (λ b. absurd (least-some s w a b)));
+      }
 
   none-reads : No-arborescence s → Outcome-reads s no-tree
   none-reads a =
       record {
         plans = λ v. ((λ e. absurd (plan-not-none v (sym e))), (λ b. absurd (least-some s v (b .0) a)));
         exceeds = λ v. ((λ e. absurd (over-not-none v (sym e))), (λ b. absurd (least-some s v (b .0) a)));
-        fails = ((λ _. a), (λ _. refl)) }
+        fails = ((λ _. a), (λ _. refl));
+      }
 
   pub outcome-reads : Outcome-reads s (outcome s)
   unfolding outcome outcome-at Cheapest-reads
@@ -155,6 +161,7 @@ module _ (s : Instance) where
       within : (w : ℕ) → Least-total s w → (b : Bool) → leb w (s .budget) ≡ b → Outcome-reads s (cond b (plan w) (over w))
       within w a true e = plan-reads w a (leb-true w (s .budget) e)
       within w a false e = over-reads w a (leb-false w (s .budget) e)
+
       at : (o : Option ℕ) → Cheapest-reads s o → Outcome-reads s (outcome-at (s .budget) o)
       at none r = none-reads r
       at (some w) r = within w r (leb w (s .budget)) refl

@@ -1,30 +1,24 @@
 -- Instances whose weights are a matrix of what remains of another, or of some of it: their remaining arcs, arborescences, totals
 -- and cuts. The algorithm works on such a matrix. Assumes nothing.
-use mathlib.Core.Path.{_≡_, refl, sym, ap, _∙_, subst}
-use mathlib.Core.Bool.{Bool, true, false, _&&_, _||_, not, cond, and-true}
-use mathlib.Core.List.{List, []}
-use mathlib.Core.Logic.{_↔_, ⊎-elim}
+use mathlib.Core.Path.{_≡_, refl, sym, ap, _∙_}
+use mathlib.Core.Bool.{Bool, true, false, _&&_, not, cond, and-true}
+use mathlib.Core.List.{List}
+use mathlib.Core.Logic.{_↔_}
 use Prim.Native.Nat.{ℕ, _+_, _*_, _/_, _%_, _≤_, _<_}
 use native.Mathlib.Omega.{arith}
-use lib.Dec.{leb, eqb}
-use lib.ListN.{getD}
-use borrow.Author.Tests.{eqb-true, eqb-false, eq-eqb, leb-true, leb-false}
-use Rattle.base.specs.Bounded.{any-below, sum-below}
-use Rattle.base.proofs.Tests.{test, not-both, same-test, and-left, and-right, and-both, and-false-right}
+use lib.Dec.{eqb}
+use borrow.Author.Tests.{eq-eqb}
+use Rattle.base.proofs.Tests.{not-both, is-true, same-test, and-left, and-right, and-both, and-false-right}
 use Rattle.base.proofs.BoundedLaws.{any-false, sum-eq}
 use Rattle.base.proofs.ListLaws.{getD-tabulate}
-use Rattle.instance.specs.Limits.{no-arc, free, pinned, banned, cells}
-use Rattle.instance.specs.Instance.{Instance, cell, weight-at, weight, mark, can-be-arc, is-arc}
-use Rattle.instance.specs.Arborescence.{is-pinned, other-pinned, remaining, parent, reaches, is-arborescence, total, uses}
-use Rattle.instance.specs.Cuts.{Cut, values, Feasible, Proves, No-entry}
-use Rattle.instance.specs.States.{bound, fits}
+use Rattle.instance.specs.Limits.{no-arc, cells}
+use Rattle.instance.specs.Instance.{Instance, weight-at, weight, mark, can-be-arc, is-arc}
+use Rattle.instance.specs.Arborescence.{is-pinned, other-pinned, remaining, parent, is-arborescence, total}
+use Rattle.instance.specs.Cuts.{Cut, Feasible, Proves, No-entry}
 use Rattle.instance.specs.Matrix.{matrix-where, matrix, unmarked}
-use Rattle.theory.specs.Usable.{usable, restricted, forced}
-use Rattle.theory.proofs.ArborescenceLaws.{Ends, arc-ends, arc-weight, remaining-arc, remaining-ends, Joined, parents-size, root-parent, joined, make-arborescence}
-use Rattle.theory.proofs.StateLaws.{fits-arborescence, fits-total, make-fits}
-use Rattle.theory.proofs.Duality.{weak-duality, no-entry}
+use Rattle.theory.specs.Usable.{restricted}
+use Rattle.theory.proofs.ArborescenceLaws.{arc-ends, arc-weight, remaining-arc, remaining-ends, parents-size, root-parent, joined, make-arborescence}
 use Rattle.theory.proofs.SameArcs.{Same-arcs, same-back, same-arborescence, same-total, same-feasible, same-proves, same-no-entry}
-use Rattle.theory.proofs.Usable.{usable-some, usable-none}
 
 -- an unmarked instance has no pins
 unmarked-other : (n r : ℕ) (ws : List ℕ) (t h : ℕ) → other-pinned (unmarked n r ws) t h ≡ false
@@ -68,12 +62,12 @@ module _ (s : Instance) (q : ℕ → ℕ → Bool) (small : s .n ≤ 32) where
       only : is-arc (restricted s q) t h ≡ true → remaining s t h && q t h ≡ true
       only x =
           let end = arc-ends (restricted s q) t h x in
-          ⊎-elim (λ (e : remaining s t h && q t h ≡ true). e)
-          (λ (e : remaining s t h && q t h ≡ false).
-            let l : t < 32 = omega (arith, end .tail-below) in
-            let m : h < 32 = omega (arith, end .head-below) in
-            absurd (not-both (eqb (weight (restricted s q) t h) no-arc) (eq-eqb (weight (restricted s q) t h) no-arc (goes t h l m e)) (arc-weight (restricted s q) t h x)))
-          (test (remaining s t h && q t h))
+          is-true (remaining s t h && q t h)
+          (λ e.
+          let l : t < 32 = omega (arith, end .tail-below) in
+          let m : h < 32 = omega (arith, end .head-below) in
+          not-both (eqb (weight (restricted s q) t h) no-arc) (eq-eqb (weight (restricted s q) t h) no-arc (goes t h l m e)) (arc-weight (restricted s q) t h x))
+
       whole : remaining s t h && q t h ≡ true → is-arc (restricted s q) t h ≡ true
       whole e =
           let x = remaining-arc s t h (and-left (remaining s t h) (q t h) e) in
@@ -88,25 +82,29 @@ module _ (s : Instance) (q : ℕ → ℕ → Bool) (small : s .n ≤ 32) where
   pub restricted-arborescence : (ps : List ℕ) → (is-arborescence (restricted s q) ps ≡ true)
       ↔ ((is-arborescence s ps ≡ true) × ((v : ℕ) → v < s .n → eqb v (s .root) ≡ false → q (parent ps v) v ≡ true))
   unfolding unmarked
-  restricted-arborescence ps = (λ a. (whole a, λ v l e. and-right (remaining s (parent ps v) v) (q (parent ps v) v) (kept a v l e)), back)
+  restricted-arborescence ps = (λ a. (whole a, λ v l e. and-right (remaining s (parent ps v) v) (q (parent ps v) v) (both a v l e)), back)
     where
-      kept : is-arborescence (restricted s q) ps ≡ true → (v : ℕ) → v < s .n → eqb v (s .root) ≡ false → remaining s (parent ps v) v && q (parent ps v) v ≡ true
-      kept a v l e = sym (restricted-remaining (parent ps v) v) ∙ joined (restricted s q) ps a v l e .arc
+      both : is-arborescence (restricted s q) ps ≡ true → (v : ℕ) → v < s .n → eqb v (s .root) ≡ false → remaining s (parent ps v) v && q (parent ps v) v ≡ true
+      both a v l e = sym (restricted-remaining (parent ps v) v) ∙ joined (restricted s q) ps a v l e .arc
+
       whole : is-arborescence (restricted s q) ps ≡ true → is-arborescence s ps ≡ true
       whole a =
           make-arborescence s ps (parents-size (restricted s q) ps a) (root-parent (restricted s q) ps a)
           (λ v l e.
-            record {
-              arc = and-left (remaining s (parent ps v) v) (q (parent ps v) v) (kept a v l e);
-              reach = joined (restricted s q) ps a v l e .reach })
+          record {
+            arc = and-left (remaining s (parent ps v) v) (q (parent ps v) v) (both a v l e);
+            reach = joined (restricted s q) ps a v l e .reach;
+          })
+
       back : (is-arborescence s ps ≡ true) × ((v : ℕ) → v < s .n → eqb v (s .root) ≡ false → q (parent ps v) v ≡ true) → is-arborescence (restricted s q) ps ≡ true
       back x =
           make-arborescence (restricted s q) ps (parents-size s ps (x .0)) (root-parent s ps (x .0))
           (λ v l e.
-            let j = joined s ps (x .0) v l e in
-            record {
-              arc = restricted-remaining (parent ps v) v ∙ and-both (remaining s (parent ps v) v) (q (parent ps v) v) (j .arc) (x .1 v l e);
-              reach = j .reach })
+          let j = joined s ps (x .0) v l e in
+          record {
+            arc = restricted-remaining (parent ps v) v ∙ and-both (remaining s (parent ps v) v) (q (parent ps v) v) (j .arc) (x .1 v l e);
+            reach = j .reach;
+          })
 
   pub restricted-total : (ps : List ℕ) → is-arborescence (restricted s q) ps ≡ true → total (restricted s q) ps ≡ total s ps
   unfolding total unmarked
@@ -127,7 +125,8 @@ matrix-same s small =
       vertices = refl;
       roots = refl;
       arcs = λ t h. restricted-remaining s (λ _ _. true) small t h ∙ and-true (remaining s t h);
-      weights = restricted-same-weight s (λ _ _. true) small }
+      weights = restricted-same-weight s (λ _ _. true) small;
+    }
 
 module _ (s : Instance) (small : s .n ≤ 32) where
   abbrev whole : Instance

@@ -1,18 +1,18 @@
 -- Instances with the same vertices, the same root and the same remaining arcs at the same weights have the same arborescences,
 -- totals and cuts, whatever else their lists hold. Assumes nothing.
 use mathlib.Core.Path.{_≡_, refl, sym, ap, _∙_, subst}
-use mathlib.Core.Bool.{Bool, true, false, _&&_, cond}
+use mathlib.Core.Bool.{Bool, true, false, cond}
 use mathlib.Core.List.{List, [], _∷_}
-use Prim.Native.Nat.{ℕ, _+_, _≤_, _<_}
+use Prim.Native.Nat.{ℕ, _≤_, _<_}
 use lib.Dec.{eqb}
 use lib.ListN.{length}
 use Rattle.base.specs.Bounded.{sum-below}
 use Rattle.base.proofs.BoundedLaws.{sum-eq}
-use Rattle.instance.specs.Limits.{no-parent, cut-limit}
+use Rattle.instance.specs.Limits.{cut-limit}
 use Rattle.instance.specs.Instance.{Instance, weight}
-use Rattle.instance.specs.Arborescence.{remaining, parent, reaches, is-arborescence, total}
+use Rattle.instance.specs.Arborescence.{remaining, parent, is-arborescence, total}
 use Rattle.instance.specs.Cuts.{Cut, charged, set-ok, sets-ok, Feasible, Proves, No-entry}
-use Rattle.theory.proofs.ArborescenceLaws.{Joined, parents-size, root-parent, joined, make-arborescence}
+use Rattle.theory.proofs.ArborescenceLaws.{parents-size, root-parent, joined, make-arborescence}
 
 pub record Same-arcs (a b : Instance) : Type 0 where
   pub vertices : a .n ≡ b .n
@@ -26,7 +26,8 @@ same-back a b e =
       vertices = sym (e .vertices);
       roots = sym (e .roots);
       arcs = λ t h. sym (e .arcs t h);
-      weights = λ t h r. sym (e .weights t h (e .arcs t h ∙ r)) }
+      weights = λ t h r. sym (e .weights t h (e .arcs t h ∙ r));
+    }
 
 module _ (a b : Instance) (e : Same-arcs a b) where
   at-root : (v : ℕ) → eqb v (b .root) ≡ eqb v (a .root)
@@ -39,8 +40,8 @@ module _ (a b : Instance) (e : Same-arcs a b) where
   same-arborescence ps x =
       make-arborescence b ps (parents-size a ps x ∙ e .vertices) (λ v l r. root-parent a ps x v (below v l) (sym (at-root v) ∙ r))
       (λ v l r.
-        let j = joined a ps x v (below v l) (sym (at-root v) ∙ r) in
-        record { arc = sym (e .arcs (parent ps v) v) ∙ j .arc; reach = rw (e .vertices, e .roots) at (j .reach) })
+      let j = joined a ps x v (below v l) (sym (at-root v) ∙ r) in
+      record { arc = sym (e .arcs (parent ps v) v) ∙ j .arc; reach = rw (e .vertices, e .roots) at (j .reach) })
 
   pub same-total : (ps : List ℕ) → is-arborescence a ps ≡ true → total a ps ≡ total b ps
   unfolding total
@@ -67,7 +68,8 @@ module _ (a b : Instance) (e : Same-arcs a b) where
   same-feasible cs f =
       record {
         sets = sym (same-sets cs) ∙ f .sets;
-        covered = λ t h r. let x = e .arcs t h ∙ r in subst (λ (w : ℕ). charged cs t h ≤ w) (e .weights t h x) (f .covered t h x) }
+        covered = λ t h r. let x = e .arcs t h ∙ r in subst (λ (w : ℕ). charged cs t h ≤ w) (e .weights t h x) (f .covered t h x);
+      }
 
   pub same-proves : (cs : List Cut) (v : ℕ) → Proves a cs v → Proves b cs v
   same-proves cs v p =
@@ -75,11 +77,13 @@ module _ (a b : Instance) (e : Same-arcs a b) where
         feasible = same-feasible cs (p .feasible);
         positive = p .positive;
         few = subst (λ (k : ℕ). length cs ≤ cut-limit k) (e .vertices) (p .few);
-        adds = p .adds }
+        adds = p .adds;
+      }
 
   pub same-no-entry : (c : Cut) → No-entry a c → No-entry b c
   same-no-entry c p =
       record {
         set-good = sym (same-set (c .set)) ∙ p .set-good;
         value-zero = p .value-zero;
-        shut = λ t h r. p .shut t h (e .arcs t h ∙ r) }
+        shut = λ t h r. p .shut t h (e .arcs t h ∙ r);
+      }

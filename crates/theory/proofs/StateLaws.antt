@@ -1,7 +1,7 @@
 -- The computed state of each cell is the one that document 01's words allow, and the only one; so is the list of all states.
 -- Assumes nothing.
 use mathlib.Core.Path.{_≡_, refl, sym, ap, _∙_, subst}
-use mathlib.Core.Bool.{Bool, true, false, _&&_, cond}
+use mathlib.Core.Bool.{Bool, true, false, cond}
 use mathlib.Core.List.{List}
 use mathlib.Core.Logic.{_⊎_, inl, inr, ⊎-elim}
 use Prim.Native.Nat.{ℕ, zero, suc, _+_, _*_, _/_, _%_, _≤_, _<_}
@@ -17,7 +17,7 @@ use Rattle.base.proofs.ListLaws.{length-tabulate, getD-tabulate, tabulate-is}
 use Rattle.instance.specs.Instance.{Instance, is-arc}
 use Rattle.instance.specs.Arborescence.{is-arborescence, total, uses}
 use Rattle.instance.specs.States.{bound, fits, fitting, state-over, state, states}
-use Rattle.theory.specs.Readings.{Some-fits, Some-uses, Some-avoids, None-uses, All-use, State-reads, States-read}
+use Rattle.theory.specs.Readings.{Some-uses, Some-avoids, None-uses, All-use, State-reads, States-read}
 use Rattle.theory.proofs.CandidateLaws.{any-selected, all-selected, one-fails, none-passes}
 
 -- FITTING LISTS
@@ -45,7 +45,8 @@ module _ (s : Instance) (t h : ℕ) where
         present = λ x. absurd (not-both (is-arc s t h) x e);
         excluded = λ x. absurd (not-both (is-arc s t h) x e);
         optional = λ x. absurd (not-both (is-arc s t h) x e);
-        mandatory = λ x. absurd (not-both (is-arc s t h) x e) }
+        mandatory = λ x. absurd (not-both (is-arc s t h) x e);
+      }
   reads-cases true false w e some none all one =
       let shut = none refl in
       record {
@@ -54,9 +55,11 @@ module _ (s : Instance) (t h : ℕ) where
         excluded = λ _. ((λ _. shut), (λ _. refl));
         optional = λ _. ((λ (x : _≡_ {A = ℕ} 1 2). absurd (omega arith)), (λ x. absurd (not-both (uses (x .0 .0) t h) (x .0 .2) (shut (x .0 .0) (x .0 .1)))));
         mandatory =
-            λ _.
-              ((λ (x : _≡_ {A = ℕ} 1 3). absurd (omega arith)),
-               (λ x. absurd (not-both (uses (x .0 .0) t h) (x .1 (x .0 .0) (x .0 .1)) (shut (x .0 .0) (x .0 .1))))) }
+            λ _. (
+              (λ (x : _≡_ {A = ℕ} 1 3). absurd (omega arith)),
+              (λ x. absurd (not-both (uses (x .0 .0) t h) (x .1 (x .0 .0) (x .0 .1)) (shut (x .0 .0) (x .0 .1)))),
+            );
+      }
   reads-cases true true true e some none all one =
       let w = some refl in
       let every = all refl in
@@ -65,7 +68,8 @@ module _ (s : Instance) (t h : ℕ) where
         present = λ _. (omega arith, omega arith);
         excluded = λ _. ((λ (x : _≡_ {A = ℕ} 3 1). absurd (omega arith)), (λ x. absurd (not-both (uses (w .0) t h) (w .2) (x (w .0) (w .1)))));
         optional = λ _. ((λ (x : _≡_ {A = ℕ} 3 2). absurd (omega arith)), (λ x. absurd (not-both (uses (x .1 .0) t h) (every (x .1 .0) (x .1 .1)) (x .1 .2))));
-        mandatory = λ _. ((λ _. ((w .0, w .1), every)), (λ _. refl)) }
+        mandatory = λ _. ((λ _. ((w .0, w .1), every)), (λ _. refl));
+      }
   reads-cases true true false e some none all one =
       let w = some refl in
       let x = one refl in
@@ -74,7 +78,8 @@ module _ (s : Instance) (t h : ℕ) where
         present = λ _. (omega arith, omega arith);
         excluded = λ _. ((λ (y : _≡_ {A = ℕ} 2 1). absurd (omega arith)), (λ y. absurd (not-both (uses (w .0) t h) (w .2) (y (w .0) (w .1)))));
         optional = λ _. ((λ _. (w, x)), (λ _. refl));
-        mandatory = λ _. ((λ (y : _≡_ {A = ℕ} 2 3). absurd (omega arith)), (λ y. absurd (not-both (uses (x .0) t h) (y .1 (x .0) (x .1)) (x .2)))) }
+        mandatory = λ _. ((λ (y : _≡_ {A = ℕ} 2 3). absurd (omega arith)), (λ y. absurd (not-both (uses (x .0) t h) (y .1 (x .0) (x .1)) (x .2))));
+      }
 
   pub state-reads : State-reads s t h (state s t h)
   unfolding state state-over fitting
@@ -84,6 +89,7 @@ module _ (s : Instance) (t h : ℕ) where
     where
       used : List ℕ → Bool
       used ps = uses ps t h
+
       sound : (ps : List ℕ) → fits s ps ≡ true → is-arborescence s ps ≡ true
       sound ps = fits-arborescence s ps
 
@@ -92,9 +98,9 @@ module _ (s : Instance) (t h : ℕ) where
   reads-once v w a b =
       ⊎-elim
       (λ (e : is-arc s t h ≡ true).
-        ⊎-elim (λ (x : v ≡ 1). x ∙ sym (b .excluded e .1 (a .excluded e .0 x)))
-        (⊎-elim (λ (x : v ≡ 2). x ∙ sym (b .optional e .1 (a .optional e .0 x))) (λ (x : v ≡ 3). x ∙ sym (b .mandatory e .1 (a .mandatory e .0 x))))
-        (one-of v (a .present e .0) (a .present e .1)))
+      ⊎-elim (λ (x : v ≡ 1). x ∙ sym (b .excluded e .1 (a .excluded e .0 x)))
+      (⊎-elim (λ (x : v ≡ 2). x ∙ sym (b .optional e .1 (a .optional e .0 x))) (λ (x : v ≡ 3). x ∙ sym (b .mandatory e .1 (a .mandatory e .0 x))))
+      (one-of v (a .present e .0) (a .present e .1)))
       (λ (e : is-arc s t h ≡ false). a .absent e ∙ sym (b .absent e))
       (test (is-arc s t h))
     where
@@ -113,21 +119,22 @@ module _ (s : Instance) where
   abbrev cell-state : ℕ → ℕ
   cell-state i = state s (i / s .n) (i % s .n)
 
-  states-are : states s ≡ tabulate (s .n * s .n) cell-state
+  pub states-tabulate : states s ≡ tabulate (s .n * s .n) (λ i. state s (i / s .n) (i % s .n))
   unfolding states state
-  states-are = refl
+  states-tabulate = refl
 
   pub states-read : States-read s (states s)
   states-read =
       record {
-        size = ap length states-are ∙ length-tabulate (s .n * s .n) cell-state;
+        size = ap length states-tabulate ∙ length-tabulate (s .n * s .n) cell-state;
         reads =
             λ t h l m.
-              subst (λ (v : ℕ). State-reads s t h v)
-              (sym
-               (ap (λ (vs : List ℕ). getD vs (t * s .n + h) 0) states-are ∙ getD-tabulate (s .n * s .n) cell-state (t * s .n + h) 0 (digits-lt l m)
-               ∙ ap (λ (x : ℕ). state s x ((t * s .n + h) % s .n)) (digits-div t m) ∙ ap (λ (x : ℕ). state s t x) (digits-mod t m)))
-              (state-reads s t h) }
+            subst (λ (v : ℕ). State-reads s t h v)
+            (sym
+            (ap (λ (vs : List ℕ). getD vs (t * s .n + h) 0) states-tabulate ∙ getD-tabulate (s .n * s .n) cell-state (t * s .n + h) 0 (digits-lt l m)
+            ∙ ap (λ (x : ℕ). state s x ((t * s .n + h) % s .n)) (digits-div t m) ∙ ap (λ (x : ℕ). state s t x) (digits-mod t m)))
+            (state-reads s t h);
+      }
 
   -- a cell in the dense list is a tail and a head
   some-vertex : (i : ℕ) → i < s .n * s .n → 0 < s .n
@@ -141,7 +148,7 @@ module _ (s : Instance) where
   states-only vs r =
       tabulate-is (s .n * s .n) vs cell-state 0 (r .size)
       (λ i l.
-        let z = some-vertex i l in
-        sym (ap (λ (j : ℕ). getD vs j 0) (div-add-mod' i (s .n)))
-        ∙ state-only s (i / s .n) (i % s .n) (getD vs (i / s .n * s .n + i % s .n) 0) (r .reads (i / s .n) (i % s .n) (div-lt-iff-lt-mul z .1 l) (mod-lt i z)))
-      ∙ sym states-are
+      let z = some-vertex i l in
+      sym (ap (λ (j : ℕ). getD vs j 0) (div-add-mod' i (s .n)))
+      ∙ state-only s (i / s .n) (i % s .n) (getD vs (i / s .n * s .n + i % s .n) 0) (r .reads (i / s .n) (i % s .n) (div-lt-iff-lt-mul z .1 l) (mod-lt i z)))
+      ∙ sym states-tabulate

@@ -1,23 +1,23 @@
 -- The state of an arc from usability alone: an arborescence has exactly one arc into each head, so an arc is mandatory exactly
 -- where it is usable and no other arc into its head is. Assumes nothing.
-use mathlib.Core.Path.{_≡_, refl, sym, ap, _∙_}
+use mathlib.Core.Path.{_≡_, refl, ap}
 use mathlib.Core.Bool.{Bool, true, false, _&&_, not, cond}
 use mathlib.Core.List.{List}
 use mathlib.Core.Logic.{_↔_, ⊎-elim}
 use Prim.Native.Nat.{ℕ, _+_, _<_}
 use lib.Dec.{eqb}
-use borrow.Author.Tests.{eqb-true, ne-eqb, eq-eqb, not-true}
+use borrow.Author.Tests.{eq-eqb, not-true}
 use Rattle.base.specs.Bounded.{any-below}
-use Rattle.base.specs.Lists.{any-of, all-of}
-use Rattle.base.proofs.Tests.{test, not-both, and-left, and-right, and-both}
+use Rattle.base.specs.Lists.{all-of}
+use Rattle.base.proofs.Tests.{test, not-both, is-true, is-false, and-left, and-right, and-both}
 use Rattle.base.proofs.BoundedLaws.{any-intro, any-found}
 use Rattle.instance.specs.Instance.{Instance, is-arc}
-use Rattle.instance.specs.Arborescence.{remaining, parent, is-arborescence, uses}
+use Rattle.instance.specs.Arborescence.{remaining, parent, uses}
 use Rattle.instance.specs.Cuts.{Cut, values, Feasible, reduced-cost}
 use Rattle.instance.specs.States.{bound, fits, fitting, state-over, state}
 use Rattle.theory.specs.Readings.{Some-uses, None-uses, All-use}
 use Rattle.theory.specs.Usable.{usable}
-use Rattle.theory.proofs.ArborescenceLaws.{arc-ends, remaining-ends, joined, uses-one, uses-parent}
+use Rattle.theory.proofs.ArborescenceLaws.{arc-ends, remaining-ends, joined, uses-one, uses-parent, uses-remains}
 use Rattle.theory.proofs.CandidateLaws.{any-selected, all-selected, none-passes}
 use Rattle.theory.proofs.StateLaws.{fits-arborescence, state-reads}
 use Rattle.theory.proofs.Duality.{reduced-excludes}
@@ -29,20 +29,19 @@ module _ (s : Instance) (t h : ℕ) where
 
   pub usable-none : (usable s t h ≡ false) ↔ None-uses s t h
   unfolding usable fitting
-  usable-none =
-      (none-passes s (fits s) (fits-arborescence s) (λ ps. uses ps t h),
-       (λ u.
-         ⊎-elim
-         (λ (e : usable s t h ≡ true). let w = usable-some .0 e in absurd (not-both (uses (w .0) t h) (w .2) (u (w .0) (w .1))))
-         (λ (e : usable s t h ≡ false). e) (test (usable s t h))))
+  usable-none = (
+    none-passes s (fits s) (fits-arborescence s) (λ ps. uses ps t h),
+    (λ u. is-false (usable s t h) (λ e. let w = usable-some .0 e in not-both (uses (w .0) t h) (w .2) (u (w .0) (w .1)))),
+  )
 
-  -- a usable arc remains
-  pub usable-remains : is-arc s t h ≡ true → usable s t h ≡ true → remaining s t h ≡ true
-  unfolding uses
-  usable-remains x e =
-      let w = usable-some .0 e in
-      let end = arc-ends s t h x in
-      rw (eqb-true (parent (w .0) h) t (w .2)) at (joined s (w .0) (fits-arborescence s (w .0) (w .1)) h (end .head-below) (end .not-root) .arc)
+  -- into a vertex that is not the root only remaining arcs are usable
+  pub usable-remains : h < s .n → eqb h (s .root) ≡ false → usable s t h ≡ true → remaining s t h ≡ true
+  usable-remains l e u =
+      let w = usable-some .0 u in
+      uses-remains s (w .0) t h (fits-arborescence s (w .0) (w .1)) l e (w .2)
+
+  pub lost-unusable : h < s .n → eqb h (s .root) ≡ false → remaining s t h ≡ false → usable s t h ≡ false
+  lost-unusable l e r = is-false (usable s t h) (λ u. not-both (remaining s t h) (usable-remains l e u) r)
 
   -- a reduced cost past the bound
   pub reduced-unusable : (cs : List Cut) → Feasible s cs → remaining s t h ≡ true → bound s < values cs + reduced-cost s cs t h → usable s t h ≡ false
@@ -63,15 +62,13 @@ module _ (s : Instance) (t h : ℕ) (x : is-arc s t h ≡ true) where
   all-use : other-usable ≡ false → All-use s t h
   unfolding uses
   all-use e ps p =
-      ⊎-elim (λ (u : eqb (parent ps h) t ≡ true). u)
-      (λ (u : eqb (parent ps h) t ≡ false).
-        let end = arc-ends s t h x in
-        let g = parent ps h in
-        let below = remaining-ends s g h (joined s ps (fits-arborescence s ps p) h (end .head-below) (end .not-root) .arc) .tail-below in
-        let can = usable-some s g h .1 (ps, p, uses-parent ps h) in
-        absurd
-        (not-both other-usable (any-intro (s .n) (λ k. not (eqb k t) && usable s k h) g below (and-both (not (eqb g t)) (usable s g h) (ap not u) can)) e))
-      (test (eqb (parent ps h) t))
+      is-true (eqb (parent ps h) t)
+      (λ u.
+      let end = arc-ends s t h x in
+      let g = parent ps h in
+      let below = remaining-ends s g h (joined s ps (fits-arborescence s ps p) h (end .head-below) (end .not-root) .arc) .tail-below in
+      let can = usable-some s g h .1 (ps, p, uses-parent ps h) in
+      not-both other-usable (any-intro (s .n) (λ k. not (eqb k t) && usable s k h) g below (and-both (not (eqb g t)) (usable s g h) (ap not u) can)) e)
 
   all-not-other : all-of (λ ps. uses ps t h) (fitting s) ≡ not other-usable
   unfolding fitting
@@ -79,11 +76,12 @@ module _ (s : Instance) (t h : ℕ) (x : is-arc s t h ≡ true) where
     where
       used : Bool
       used = all-of (λ ps. uses ps t h) (fitting s)
+
       all-used : (used ≡ true) ↔ All-use s t h
       all-used = all-selected s (fits s) (fits-arborescence s) (λ ps. uses ps t h)
+
       at : (b : Bool) → other-usable ≡ b → used ≡ not b
-      at true e =
-          ⊎-elim (λ (u : used ≡ true). absurd (other-avoids e (all-used .0 u))) (λ (u : used ≡ false). u) (test used)
+      at true e = is-false used (λ u. other-avoids e (all-used .0 u))
       at false e = all-used .1 (all-use e)
 
   arc-state : state s t h ≡ cond (usable s t h) (cond other-usable 2 3) 1

@@ -1,7 +1,7 @@
 -- Document 01's words on outcomes and link states, read as statements about all lists of parents, where `instance` computes them
 -- from a listing. The theorems that the two agree are in proofs/. Assumes nothing: these are definitions.
 use mathlib.Core.Path.{_≡_}
-use mathlib.Core.Bool.{Bool, true, false}
+use mathlib.Core.Bool.{true, false}
 use mathlib.Core.List.{List}
 use mathlib.Core.Logic.{_↔_}
 use Prim.Native.Nat.{ℕ, _+_, _*_, _≤_, _<_}
