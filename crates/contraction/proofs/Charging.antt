@@ -28,7 +28,7 @@ module _ (n : ℕ) (label : ℕ → ℕ) (g : ℕ) (c : Cut) (is : (v : ℕ) →
   unfolding enters
   enters-yes t h l m e ne = rw (is h m, is t l, eq-eqb (label h) g e, ne-eqb (label t) g ne)
 
-  enters-no : (t h : ℕ) → t < n → h < n → (label h ≢ g) ⊎ (label t ≡ g) → enters (c .set) t h ≡ false
+  pub enters-no : (t h : ℕ) → t < n → h < n → (label h ≢ g) ⊎ (label t ≡ g) → enters (c .set) t h ≡ false
   unfolding enters
   enters-no t h l m (inl ne) = rw (is h m, is t l, ne-eqb (label h) g ne) (and-false-right (not (eqb (label t) g)) false refl)
   enters-no t h l m (inr e) = rw (is h m, is t l, eq-eqb (label t) g e)

@@ -1,0 +1,303 @@
+-- One level of planning: with no cycle it is solved; with one, the contracted level is ready, and what solves it solves this level, once
+-- the cycle is expanded. Assumes nothing.
+use mathlib.Core.Path.{_≡_, refl, sym, ap, _∙_, subst}
+use mathlib.Core.Bool.{Bool, true, false, cond}
+use mathlib.Core.List.{List, [], _++_}
+use mathlib.Core.Logic.{_≢_, _⊎_, inl, inr, ⊎-elim}
+use Prim.Native.Nat.{ℕ, _+_, _*_, _-_, _≤_, _<_}
+use native.Mathlib.Omega.{arith}
+use lib.Dec.{eqb}
+use lib.ListN.{length, set, length-set, replicate}
+use lib.Seq.{getD-set-same, getD-set-other}
+use borrow.Author.Tests.{eq-eqb, ne-eqb, eqb-true, eqb-false}
+use Rattle.base.proofs.Tests.{test, not-both}
+use Rattle.instance.specs.Limits.{max-vertices, no-parent, cut-words}
+use Rattle.instance.specs.Cuts.{Cut, cuts-from}
+use Rattle.contraction.specs.Counting.{count-below, groups}
+use Rattle.contraction.specs.Groups.{Labels, Group, Chosen, Cycle, Lowered, contracted, expanded, own-arcs}
+use Rattle.contraction.specs.Trees.{Each, none-left, Reached, here, step, Tree, Fine}
+use Rattle.contraction.proofs.CountingLaws.{count-more, count-one}
+use Rattle.contraction.proofs.EachLaws.{each-append, tree-same}
+use Rattle.contraction.proofs.Lowering.{lowered-none, lowered-twice, lowered-there, chosen-lowered}
+use Rattle.contraction.proofs.NoCycle.{own-tree}
+use Rattle.contraction.proofs.Expansion.{expand-tree}
+use Rattle.contraction.proofs.SearchLaws as search-laws
+use Rattle.edmonds.specs.Cells.{at, cost}
+use Rattle.edmonds.specs.Charge.{Enters, Closed, Charged-group}
+use Rattle.edmonds.specs.Cycle.{Searchable, Met, No-cycle, on-cycle, Contracted, Own-arcs, Entry, Entered, Expanded}
+use Rattle.edmonds.specs.Level.{Ready, Solved}
+use Rattle.edmonds.proofs.CutLaws.{no-cuts, cuts-joined}
+
+-- a set that no arc enters was one before the arcs were lowered
+pub closed-before : {n root : ℕ} {ws ws′ : List ℕ} {cs : List Cut} {s : ℕ} → Lowered n (cost ws) (cost ws′) cs → Closed n root ws′ s → Closed n root ws s
+closed-before lo c = record { proper = c .proper; shut = λ t h l m th. c .shut t h l m (lowered-there lo t h l m th) }
+
+module _ {ws ls tails heads : List ℕ} {n root left : ℕ} (r : Ready ws ls tails heads n root left) where
+  pub searchable : Searchable ls tails n root
+  searchable = record { small = r .small; labels = r .labels; arc = λ g gr. r .chosen .tail-below g gr }
+
+  root-below : root < n
+  root-below = r .labels .root-below
+
+  pub solved-plain : {cuts ps : List ℕ} {k : ℕ} → length cuts ≡ cut-words → No-cycle ls tails n root → Own-arcs ls tails heads n root ps
+      → Solved ws ws ls n root left cuts cuts k true ps k 0
+  solved-plain {cuts} {ps} {k} size nc own =
+      let e = no-cuts k cuts in
+      let sm = r .small in
+      let t = own-tree n root (cost ws) (at ls) (at tails) (at heads) (r .labels) (r .chosen) (omega arith) nc in
+      record {
+        size = r .size;
+        cuts-size = size;
+        parents-size = own .size;
+        tree = λ _. rw e (tree-same n root (cost ws) (at ls) (at ls) (own-arcs root (at ls) (at tails) (at heads)) (at ps) root-below (λ v l. refl) (own .is) [] t);
+        lowered = λ _. rw e (lowered-none n (cost ws));
+        fine = λ _. rw e none-left;
+        least = λ _. omega arith;
+        most = λ _. omega (arith, r .two);
+        frame = λ _ i why. refl;
+        root-none = λ _. own .is root root-below ∙ rw (eq-eqb (at ls root) (at ls root) refl);
+        closed = λ x. absurd (not-both true refl x);
+        none = λ x. absurd (not-both true refl x) }
+
+  -- A CYCLE AT v, contracted to the labels lc
+  module _ {stamp : List ℕ} {v : ℕ} (mt : Met ls tails stamp n root v) {lc : List ℕ} (ct : Contracted ls stamp n v lc) where
+    abbrev on : ℕ → Bool
+    on = on-cycle stamp v
+
+    cycle-at : {w : ℕ → ℕ → ℕ} → Chosen n root w (at ls) (at tails) (at heads) → Cycle n root w (at ls) (at tails) (at heads) on v
+    cycle-at {w} ch = search-laws.cycle n root (at ls) (at tails) (at stamp) (mt .first) (mt .last) v (mt .walk) w (at heads) ch (mt .met)
+
+    cycle : Cycle n root (cost ws) (at ls) (at tails) (at heads) on v
+    cycle = cycle-at (r .chosen)
+
+    pub v-below : v < n
+    v-below = mt .walk .v-below
+
+    v-label : at ls v ≡ v
+    v-label = mt .walk .v-label
+
+    label-on : (u : ℕ) → u < n → on (at ls u) ≡ true → at lc u ≡ v
+    label-on u l i = ct .is u l ∙ rw i
+
+    label-off : (u : ℕ) → u < n → on (at ls u) ≡ false → at lc u ≡ at ls u
+    label-off u l o = ct .is u l ∙ rw o
+
+    label-v : at lc v ≡ v
+    label-v = label-on v v-below (rw v-label (cycle .c-on))
+
+    label-root : at lc root ≡ at ls root
+    label-root = label-off root root-below (cycle .root-off)
+
+    pub root-not-v : at lc root ≢ v
+    root-not-v e = not-both (on v) (cycle .c-on) (subst (λ (x : ℕ). on x ≡ false) (sym label-root ∙ e) (cycle .root-off))
+
+    back-on : (u : ℕ) → u < n → at lc u ≡ v → on (at ls u) ≡ true
+    back-on u l e =
+        ⊎-elim (λ (i : on (at ls u) ≡ true). i)
+        (λ (o : on (at ls u) ≡ false). absurd (not-both (on v) (cycle .c-on) (subst (λ (x : ℕ). on x ≡ false) (sym (label-off u l o) ∙ e) o))) (test (on (at ls u)))
+
+    coarse-labels : Labels n root (at lc)
+    coarse-labels =
+        record {
+          below =
+              λ u l.
+                ⊎-elim (λ (i : on (at ls u) ≡ true). rw (label-on u l i) v-below)
+                (λ (o : on (at ls u) ≡ false). rw (label-off u l o) (r .labels .below u l)) (test (on (at ls u)));
+          self =
+              λ u l.
+                ⊎-elim (λ (i : on (at ls u) ≡ true). rw (label-on u l i) label-v)
+                (λ (o : on (at ls u) ≡ false).
+                  let self = r .labels .self u l in
+                  rw (label-off u l o) (label-off (at ls u) (r .labels .below u l) (rw self o) ∙ self)) (test (on (at ls u)));
+          root-below = root-below }
+
+    -- a contracted group other than v's is a group off the cycle
+    off : (g : ℕ) → Group n root (at lc) g → g ≢ v → Group n root (at ls) g × (on g ≡ false)
+    off g gr ne =
+        ⊎-elim (λ (i : on (at ls g) ≡ true). absurd (ne (sym (gr .1) ∙ label-on g (gr .0) i)))
+        (λ (o : on (at ls g) ≡ false).
+          let e : at ls g ≡ g = sym (label-off g (gr .0) o) ∙ gr .1 in
+          ((gr .0, e, λ x. gr .2 (x ∙ sym label-root)), rw e at o)) (test (on (at ls g)))
+
+    -- FEWER GROUPS, and two at least
+    still-own : (u : ℕ) → u < n → eqb (at lc u) u ≡ true → eqb (at ls u) u ≡ true
+    still-own u l e =
+        ⊎-elim
+        (λ (i : on (at ls u) ≡ true). let uv : u ≡ v = sym (eqb-true (at lc u) u e) ∙ label-on u l i in eq-eqb (at ls u) u (rw uv v-label))
+        (λ (o : on (at ls u) ≡ false). eq-eqb (at ls u) u (sym (label-off u l o) ∙ eqb-true (at lc u) u e)) (test (on (at ls u)))
+
+    -- the group of the tail of v's arc is another of the cycle
+    pub fewer : groups n (at lc) + 1 ≤ groups n (at ls)
+    fewer =
+        let tb = cycle .tail-below v (cycle .c-on) in
+        let u = at ls (at tails v) in
+        let ub : u < n = r .labels .below (at tails v) tb in
+        let us : at ls u ≡ u = r .labels .self (at tails v) tb in
+        let lu : at lc u ≡ v = label-on u ub (rw us (cycle .tail-on v (cycle .c-on))) in
+        count-more n (λ x. eqb (at lc x) x) (λ x. eqb (at ls x) x) still-own u ub
+        (ne-eqb (at lc u) u (λ e. cycle .tail-out v (cycle .c-on) (sym e ∙ lu))) (eq-eqb (at ls u) u us)
+
+    pub two-left : 2 ≤ groups n (at lc)
+    two-left =
+        let ρ = at lc root in
+        let ρs = coarse-labels .self root root-below in
+        let a = count-one n (λ x. eqb x ρ) ρ (coarse-labels .below root root-below) (eq-eqb ρ ρ refl) in
+        let b =
+            count-more n (λ x. eqb x ρ) (λ x. eqb (at lc x) x) (λ x l e. eq-eqb (at lc x) x (rw (eqb-true x ρ e) ρs)) v v-below
+            (ne-eqb v ρ (λ e. root-not-v (sym e))) (eq-eqb (at lc v) v label-v) in
+        omega arith
+
+    pub three : 3 ≤ left
+    three = let f = fewer in let t = two-left in let en = r .enough in omega arith
+
+    -- THE CONTRACTED GROUP, charged
+    module _ {ws′ cuts cuts′ : List ℕ} {k : ℕ} {found : Bool} {t h k′ s : ℕ} (ch : Charged-group ws ws′ lc n v cuts cuts′ k found t h k′ s) where
+      pub stopped : found ≡ false → Solved ws ws′ ls n root left cuts cuts′ k false (replicate max-vertices no-parent) 0 s
+      stopped no-found =
+          record {
+            size = ch .size;
+            cuts-size = ch .cuts-size;
+            parents-size = refl;
+            tree = λ x. absurd (not-both false x refl);
+            lowered = λ x. absurd (not-both false x refl);
+            fine = λ x. absurd (not-both false x refl);
+            least = λ x. absurd (not-both false x refl);
+            most = λ x. absurd (not-both false x refl);
+            frame = λ x. absurd (not-both false x refl);
+            root-none = λ x. absurd (not-both false x refl);
+            closed = λ _. ch .closed no-found root root-below root-not-v v v-below label-v;
+            none = λ _. (refl, refl) }
+
+      module _ (is-found : found ≡ true) where
+        v-32 : v < 32
+        v-32 = omega (arith, v-below, r .small)
+
+        -- the arcs chosen now: v's is the one that was charged, the others are as they were
+        chosen : Chosen n root (cost ws′) (at lc) (at (set tails v t)) (at (set heads v h))
+        chosen =
+            record {
+              head-below = λ g gr. arc g gr .head-below;
+              head-in = λ g gr. arc g gr .head-in;
+              tail-below = λ g gr. arc g gr .tail-below;
+              tail-out = λ g gr. arc g gr .tail-out;
+              free = λ g gr. arc g gr .free }
+          where
+            at-v : Enters ws′ lc n v (at (set tails v t) v) (at (set heads v h) v)
+            at-v =
+                let zt = r .tails-size in
+                let zh = r .heads-size in
+                let b = v-32 in
+                rw (getD-set-same tails v t 0 (omega arith), getD-set-same heads v h 0 (omega arith)) (ch .arc is-found)
+
+            arc : (g : ℕ) → Group n root (at lc) g → Enters ws′ lc n g (at (set tails v t) g) (at (set heads v h) g)
+            arc g gr =
+                ⊎-elim (λ (e : eqb g v ≡ true). subst (λ (x : ℕ). Enters ws′ lc n x (at (set tails v t) x) (at (set heads v h) x)) (sym (eqb-true g v e)) at-v)
+                (λ (e : eqb g v ≡ false).
+                  let ne = eqb-false g v e in
+                  let o = off g gr ne in
+                  let gf = o .0 in
+                  let hb = r .chosen .head-below g gf in
+                  let hi = r .chosen .head-in g gf in
+                  let tb = r .chosen .tail-below g gf in
+                  rw (getD-set-other tails v g t 0 ne, getD-set-other heads v g h 0 ne)
+                  (record {
+                    tail-below = tb;
+                    head-below = hb;
+                    tail-out =
+                        λ x.
+                          ⊎-elim (λ (i : on (at ls (at tails g)) ≡ true). ne (sym x ∙ label-on (at tails g) tb i))
+                          (λ (i : on (at ls (at tails g)) ≡ false). r .chosen .tail-out g gf (sym (label-off (at tails g) tb i) ∙ x)) (test (on (at ls (at tails g))));
+                    head-in = label-off (at heads g) hb (rw hi (o .1)) ∙ hi;
+                    free = chosen-lowered (ch .lowered) (r .chosen) .free g gf }))
+                (test (eqb g v))
+
+        pub ready : Ready ws′ lc (set tails v t) (set heads v h) n root (left - 1)
+        ready =
+            let f = fewer in
+            let two = two-left in
+            let en = r .enough in
+            let zt = r .tails-size in
+            let zh = r .heads-size in
+            record {
+              size = ch .size;
+              tails-size = simp length-set zt;
+              heads-size = simp length-set zh;
+              small = r .small;
+              labels = coarse-labels;
+              chosen = chosen;
+              enough = omega arith;
+              two = omega arith }
+
+        -- THE CONTRACTED LEVEL, solved
+        module _ {ws″ cuts″ ps : List ℕ} {found′ : Bool} {m s′ : ℕ} (so : Solved ws′ ws″ lc n root (left - 1) cuts′ cuts″ k′ found′ ps m s′) where
+          pub none-below : found′ ≡ false → Solved ws ws″ ls n root left cuts cuts″ k found′ ps m s′
+          none-below e =
+              record {
+                size = so .size;
+                cuts-size = so .cuts-size;
+                parents-size = so .parents-size;
+                tree = λ x. absurd (not-both found′ x e);
+                lowered = λ x. absurd (not-both found′ x e);
+                fine = λ x. absurd (not-both found′ x e);
+                least = λ x. absurd (not-both found′ x e);
+                most = λ x. absurd (not-both found′ x e);
+                frame = λ x. absurd (not-both found′ x e);
+                root-none = λ x. absurd (not-both found′ x e);
+                closed = λ x. closed-before (ch .lowered) (so .closed x);
+                none = so .none }
+
+          module _ (th : found′ ≡ true) where
+            entered-at : {g : ℕ} → Reached n root (at lc) (at ps) g → g ≡ v → Entered ps ls stamp n v
+            entered-at (here e) x = absurd (root-not-v (sym e ∙ x))
+            entered-at (step u l e p rest) x = (u, record { below = l; on = back-on u l (e ∙ x); has = p })
+
+            pub entered : Entered ps ls stamp n v
+            entered = entered-at (so .tree th .reached v v-below) label-v
+
+            abbrev cs : List Cut
+            cs = cuts-from (m - k) k cuts″
+
+            joined : cuts-from (k′ - k) k cuts′ ++ cuts-from (m - k′) k′ cuts″ ≡ cs
+            joined = cuts-joined k k′ m cuts′ cuts″ (ch .least) (so .least th) (so .frame th)
+
+            lowered : Lowered n (cost ws) (cost ws″) cs
+            lowered = subst (Lowered n (cost ws) (cost ws″)) joined (lowered-twice (ch .lowered) (so .lowered th))
+
+            coarse-tree : Tree n root (cost ws″) (contracted (at ls) on v) cs (at ps)
+            coarse-tree =
+                tree-same n root (cost ws″) (at lc) (contracted (at ls) on v) (at ps) (at ps) root-below (λ u l. sym (ct .is u l)) (λ u l. refl) cs
+                (subst (λ (x : List Cut). Tree n root (cost ws″) (at lc) x (at ps)) joined
+                (ch .lifts is-found root root-not-v (cost ws″) (cuts-from (m - k′) k′ cuts″) (at ps) (so .tree th)))
+
+            module _ {e : ℕ} (en : Entry ps ls stamp n v e) {ps′ : List ℕ} (ex : Expanded ps ls stamp tails heads n v e ps′) where
+              fine-tree : Tree n root (cost ws″) (at ls) cs (at ps′)
+              fine-tree =
+                  tree-same n root (cost ws″) (at ls) (at ls) (expanded (at ls) (at tails) (at heads) on (at ls e) (at ps)) (at ps′) root-below (λ u l. refl) (ex .is) cs
+                  (expand-tree n root (cost ws″) (at ls) (at tails) (at heads) on v (cycle-at (chosen-lowered lowered (r .chosen))) cs (at ps) coarse-tree e (en .below) (en .on) (en .has))
+
+              pub expands : Solved ws ws″ ls n root left cuts cuts″ k true ps′ m 0
+              expands =
+                  let kk = ch .least in
+                  let kk′ = ch .most in
+                  let km = so .least th in
+                  let mm = so .most th in
+                  let lp = three in
+                  record {
+                    size = so .size;
+                    cuts-size = so .cuts-size;
+                    parents-size = ex .size;
+                    tree = λ _. fine-tree;
+                    lowered = λ _. lowered;
+                    fine =
+                        λ _.
+                          subst (Each (Fine n root)) joined
+                          (each-append (cuts-from (k′ - k) k cuts′) (cuts-from (m - k′) k′ cuts″) (ch .fine is-found root root-below root-not-v) (so .fine th));
+                    least = λ _. omega arith;
+                    most = λ _. omega arith;
+                    frame =
+                        λ _ i why.
+                          ⊎-elim (λ (d : i < 2 * k). so .frame th i (inl (omega arith)) ∙ ch .frame i (inl d))
+                          (λ (d : 2 * m ≤ i). so .frame th i (inr d) ∙ ch .frame i (inr (omega arith))) why;
+                    root-none = λ _. ex .is root root-below ∙ rw (cycle .root-off) (so .root-none th);
+                    closed = λ x. absurd (not-both true refl x);
+                    none = λ x. absurd (not-both true refl x) }

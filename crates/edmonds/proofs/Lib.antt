@@ -1,0 +1,10 @@
+-- Laws that the functions' proofs cite. Assumes nothing.
+pub mod CheapestLaws
+pub mod LowerLaws
+pub mod MembersLaws
+pub mod CutLaws
+pub mod ChargeLaws
+pub mod FillLaws
+pub mod SearchLoop
+pub mod EntryLaws
+pub mod LevelLaws

@@ -1,0 +1,308 @@
+-- `edmonds::plan::plan_groups` meets its contract: one level by the laws of LevelLaws, one law for each way to return. The measure is the
+-- bound on the number of groups. Assumes nothing.
+use Prim.Native.Nat.{ℕ, _<_}
+use native.Mathlib.Omega.{arith}
+use borrow.Author.Tests.{not-true, not-false}
+use borrow.Fn.Kinds.{In}
+use borrow.Fn.PlainCycle.{Measures, is, falls, and}
+use Rattle.edmonds.proofs.LevelLaws.{searchable, solved-plain, three, stopped, ready, none-below, entered, expands}
+use Rattle.edmonds.proofs.plan.plan_groups.Reads as plan
+use Rattle.edmonds.proofs.plan.plan_groups.Kinds as kinds
+use Rattle.edmonds.proofs.plan.+plan_groups.Lts-plan_groups as lts
+use Rattle.edmonds.proofs.charge.charge_group.Reads as charge-group
+use Rattle.edmonds.proofs.contract.contracted_labels.Reads as contracted-labels
+use Rattle.edmonds.proofs.cycle.find_cycle.Reads as find-cycle
+use Rattle.edmonds.proofs.expand.entry_vertex.Reads as entry-vertex
+use Rattle.edmonds.proofs.expand.expand_cycle.Reads as expand-cycle
+use Rattle.edmonds.proofs.expand.own_parents.Reads as own-parents
+use Rattle.edmonds.proofs.plan.+plan_groups.{statement}
+use Rattle.edmonds.proofs.plan.+plan_groups.Tie.{close}
+
+abbrev μ : Measures 5 kinds.ps ℕ
+μ κs a = a .1 .1 .1 .1 .1 .1 .0
+
+abbrev at-measure : ℕ → In 5 kinds.ps
+at-measure t = and 5 kinds.ps (is 5 kinds.ps μ t) plan.Pre
+
+abbrev below : ℕ → In 5 kinds.ps
+below t = and 5 kinds.ps (falls 5 kinds.ps _<_ μ t) plan.Pre
+
+abbrev callees : ℕ → lts.Claims
+callees t =
+    (find-cycle.Asked, find-cycle.Learnt, own-parents.Asked, own-parents.Learnt, contracted-labels.Asked, contracted-labels.Learnt, charge-group.Asked,
+    charge-group.Learnt, below t, plan.Post, entry-vertex.Asked, entry-vertex.Learnt, expand-cycle.Asked, expand-cycle.Learnt)
+
+find-cycle-requires : (t : ℕ) → lts.Need-find-cycle-requires (callees t) (at-measure t) plan.Post
+find-cycle-requires t c κs =
+    let st = c in
+    let r = st .pre .1 .0 in
+    searchable r
+
+own-parents-requires : (t : ℕ) → lts.Need-own-parents-requires (callees t) (at-measure t) plan.Post
+own-parents-requires t c κs =
+    let fc = c .before .before in
+    let st = fc .before in
+    let r = st .pre .1 .0 in
+    (r .small, r .labels .root-below, r .labels .below)
+
+returns : (t : ℕ) → lts.Need-returns (callees t) (at-measure t) plan.Post
+returns t c =
+    let t1 = c .before in
+    let fc = t1 .before .before in
+    let st = fc .before in
+    let r = st .pre .1 .0 in
+    solved-plain r (st .pre .1 .1) (fc .find-cycle .ensures .none (not-true (fc .find-cycle .result .found) (t1 .if1 .taken))) (c .own-parents .ensures)
+
+contracted-labels-requires : (t : ℕ) → lts.Need-contracted-labels-requires (callees t) (at-measure t) plan.Post
+contracted-labels-requires t c κs =
+    let e1 = c .before .before in
+    let fc = e1 .before .before in
+    let st = fc .before in
+    let r = st .pre .1 .0 in
+    let mt = fc .find-cycle .ensures .cycle (not-false (fc .find-cycle .result .found) (e1 .if1 .left)) in
+    (r .small, mt .walk .v-below, r .labels .below)
+
+charge-group-requires : (t : ℕ) → lts.Need-charge-group-requires (callees t) (at-measure t) plan.Post
+charge-group-requires t c κs =
+    let cl = c .before .before .before in
+    let e1 = cl .before .before .before in
+    let fc = e1 .before .before in
+    let st = fc .before in
+    let r = st .pre .1 .0 in
+    let mt = fc .find-cycle .ensures .cycle (not-false (fc .find-cycle .result .found) (e1 .if1 .left)) in
+    let ct = cl .contracted-labels .ensures in
+    let h = three r mt ct in
+    let room = st .pre .1 .2 in
+    (r .size, st .pre .1 .1, r .small, mt .walk .v-below, omega arith)
+
+returns-2 : (t : ℕ) → lts.Need-returns-2 (callees t) (at-measure t) plan.Post
+returns-2 t c =
+    let cg = c .before .before in
+    let cl = cg .before .before .before .before in
+    let e1 = cl .before .before .before in
+    let fc = e1 .before .before in
+    let st = fc .before in
+    let r = st .pre .1 .0 in
+    let mt = fc .find-cycle .ensures .cycle (not-false (fc .find-cycle .result .found) (e1 .if1 .left)) in
+    let ct = cl .contracted-labels .ensures in
+    let ch = cg .charge-group .ensures in
+    stopped r mt ct ch (not-true (cg .charge-group .result .found) (c .if2 .taken))
+
+cast-i : (t : ℕ) → lts.Need-cast-i (callees t) (at-measure t) plan.Post
+cast-i t c =
+    let e2 = c in
+    let cg = e2 .before .before in
+    let cl = cg .before .before .before .before in
+    let e1 = cl .before .before .before in
+    let fc = e1 .before .before in
+    let st = fc .before in
+    let r = st .pre .1 .0 in
+    let mt = fc .find-cycle .ensures .cycle (not-false (fc .find-cycle .result .found) (e1 .if1 .left)) in
+    let ct = cl .contracted-labels .ensures in
+    let ch = cg .charge-group .ensures in
+    let yes-arc = not-false (cg .charge-group .result .found) (e2 .if2 .left) in
+    let v = mt .walk .v-below in
+    let m = r .small in
+    omega arith
+
+cast-tails2 : (t : ℕ) → lts.Need-cast-tails2 (callees t) (at-measure t) plan.Post
+cast-tails2 t c =
+    let e2 = c .before .before .before in
+    let cg = e2 .before .before in
+    let cl = cg .before .before .before .before in
+    let e1 = cl .before .before .before in
+    let fc = e1 .before .before in
+    let st = fc .before in
+    let r = st .pre .1 .0 in
+    let mt = fc .find-cycle .ensures .cycle (not-false (fc .find-cycle .result .found) (e1 .if1 .left)) in
+    let ct = cl .contracted-labels .ensures in
+    let ch = cg .charge-group .ensures in
+    let yes-arc = not-false (cg .charge-group .result .found) (e2 .if2 .left) in
+    let v = ch .arc yes-arc .tail-below in
+    let m = r .small in
+    omega arith
+
+array-write-tails2 : (t : ℕ) → lts.Need-array-write-tails2 (callees t) (at-measure t) plan.Post
+array-write-tails2 t c =
+    let e2 = c .before .before .before in
+    let cg = e2 .before .before in
+    let cl = cg .before .before .before .before in
+    let e1 = cl .before .before .before in
+    let fc = e1 .before .before in
+    let st = fc .before in
+    let r = st .pre .1 .0 in
+    let mt = fc .find-cycle .ensures .cycle (not-false (fc .find-cycle .result .found) (e1 .if1 .left)) in
+    let ct = cl .contracted-labels .ensures in
+    let ch = cg .charge-group .ensures in
+    let yes-arc = not-false (cg .charge-group .result .found) (e2 .if2 .left) in
+    let v = mt .walk .v-below in
+    let m = r .small in
+    omega arith
+
+cast-heads2 : (t : ℕ) → lts.Need-cast-heads2 (callees t) (at-measure t) plan.Post
+cast-heads2 t c =
+    let e2 = c .before .before .before .before in
+    let cg = e2 .before .before in
+    let cl = cg .before .before .before .before in
+    let e1 = cl .before .before .before in
+    let fc = e1 .before .before in
+    let st = fc .before in
+    let r = st .pre .1 .0 in
+    let mt = fc .find-cycle .ensures .cycle (not-false (fc .find-cycle .result .found) (e1 .if1 .left)) in
+    let ct = cl .contracted-labels .ensures in
+    let ch = cg .charge-group .ensures in
+    let yes-arc = not-false (cg .charge-group .result .found) (e2 .if2 .left) in
+    let v = ch .arc yes-arc .head-below in
+    let m = r .small in
+    omega arith
+
+array-write-heads2 : (t : ℕ) → lts.Need-array-write-heads2 (callees t) (at-measure t) plan.Post
+array-write-heads2 t c =
+    let e2 = c .before .before .before .before in
+    let cg = e2 .before .before in
+    let cl = cg .before .before .before .before in
+    let e1 = cl .before .before .before in
+    let fc = e1 .before .before in
+    let st = fc .before in
+    let r = st .pre .1 .0 in
+    let mt = fc .find-cycle .ensures .cycle (not-false (fc .find-cycle .result .found) (e1 .if1 .left)) in
+    let ct = cl .contracted-labels .ensures in
+    let ch = cg .charge-group .ensures in
+    let yes-arc = not-false (cg .charge-group .result .found) (e2 .if2 .left) in
+    let v = mt .walk .v-below in
+    let m = r .small in
+    omega arith
+
+sub-plan-groups : (t : ℕ) → lts.Need-sub-plan-groups (callees t) (at-measure t) plan.Post
+sub-plan-groups t c =
+    let e2 = c .before .before .before .before .before .before .before .before in
+    let cg = e2 .before .before in
+    let cl = cg .before .before .before .before in
+    let e1 = cl .before .before .before in
+    let fc = e1 .before .before in
+    let st = fc .before in
+    let r = st .pre .1 .0 in
+    let mt = fc .find-cycle .ensures .cycle (not-false (fc .find-cycle .result .found) (e1 .if1 .left)) in
+    let ct = cl .contracted-labels .ensures in
+    let ch = cg .charge-group .ensures in
+    let yes-arc = not-false (cg .charge-group .result .found) (e2 .if2 .left) in
+    let two = r .two in
+    omega arith
+
+plan-groups-requires : (t : ℕ) → lts.Need-plan-groups-requires (callees t) (at-measure t) plan.Post
+plan-groups-requires t c κs =
+    let e2 = c .before .before .before .before .before .before .before .before .before in
+    let cg = e2 .before .before in
+    let cl = cg .before .before .before .before in
+    let e1 = cl .before .before .before in
+    let fc = e1 .before .before in
+    let st = fc .before in
+    let r = st .pre .1 .0 in
+    let mt = fc .find-cycle .ensures .cycle (not-false (fc .find-cycle .result .found) (e1 .if1 .left)) in
+    let ct = cl .contracted-labels .ensures in
+    let ch = cg .charge-group .ensures in
+    let yes-arc = not-false (cg .charge-group .result .found) (e2 .if2 .left) in
+    let m = st .pre .0 in
+    let h = three r mt ct in
+    let most = ch .most in
+    let room = st .pre .1 .2 in
+    (omega arith, (ready r mt ct ch yes-arc, ch .cuts-size, omega arith))
+
+returns-3 : (t : ℕ) → lts.Need-returns-3 (callees t) (at-measure t) plan.Post
+returns-3 t c =
+    let pg = c .before .before in
+    let e2 = pg .before .before .before .before .before .before .before .before .before .before in
+    let cg = e2 .before .before in
+    let cl = cg .before .before .before .before in
+    let e1 = cl .before .before .before in
+    let fc = e1 .before .before in
+    let st = fc .before in
+    let r = st .pre .1 .0 in
+    let mt = fc .find-cycle .ensures .cycle (not-false (fc .find-cycle .result .found) (e1 .if1 .left)) in
+    let ct = cl .contracted-labels .ensures in
+    let ch = cg .charge-group .ensures in
+    let yes-arc = not-false (cg .charge-group .result .found) (e2 .if2 .left) in
+    let so = pg .plan-groups .ensures in
+    none-below r mt ct ch yes-arc so (not-true (pg .plan-groups .result .found) (c .if3 .taken))
+
+entry-vertex-requires : (t : ℕ) → lts.Need-entry-vertex-requires (callees t) (at-measure t) plan.Post
+entry-vertex-requires t c κs =
+    let e3 = c .before .before .before in
+    let pg = e3 .before .before in
+    let e2 = pg .before .before .before .before .before .before .before .before .before .before in
+    let cg = e2 .before .before in
+    let cl = cg .before .before .before .before in
+    let e1 = cl .before .before .before in
+    let fc = e1 .before .before in
+    let st = fc .before in
+    let r = st .pre .1 .0 in
+    let mt = fc .find-cycle .ensures .cycle (not-false (fc .find-cycle .result .found) (e1 .if1 .left)) in
+    let ct = cl .contracted-labels .ensures in
+    let ch = cg .charge-group .ensures in
+    let yes-arc = not-false (cg .charge-group .result .found) (e2 .if2 .left) in
+    let so = pg .plan-groups .ensures in
+    let yes-tree = not-false (pg .plan-groups .result .found) (e3 .if3 .left) in
+    (r .small, mt .walk .v-below, r .labels .below, entered r mt ct ch yes-arc so yes-tree)
+
+expand-cycle-requires : (t : ℕ) → lts.Need-expand-cycle-requires (callees t) (at-measure t) plan.Post
+expand-cycle-requires t c κs =
+    let ev = c .before .before in
+    let e3 = ev .before .before .before .before in
+    let pg = e3 .before .before in
+    let e2 = pg .before .before .before .before .before .before .before .before .before .before in
+    let cg = e2 .before .before in
+    let cl = cg .before .before .before .before in
+    let e1 = cl .before .before .before in
+    let fc = e1 .before .before in
+    let st = fc .before in
+    let r = st .pre .1 .0 in
+    let mt = fc .find-cycle .ensures .cycle (not-false (fc .find-cycle .result .found) (e1 .if1 .left)) in
+    let ct = cl .contracted-labels .ensures in
+    let ch = cg .charge-group .ensures in
+    let yes-arc = not-false (cg .charge-group .result .found) (e2 .if2 .left) in
+    let so = pg .plan-groups .ensures in
+    let yes-tree = not-false (pg .plan-groups .result .found) (e3 .if3 .left) in
+    (so .parents-size, r .small, mt .walk .v-below, ev .entry-vertex .ensures .below, r .labels .below)
+
+returns-4 : (t : ℕ) → lts.Need-returns-4 (callees t) (at-measure t) plan.Post
+returns-4 t c =
+    let ec = c in
+    let ev = ec .before .before .before in
+    let e3 = ev .before .before .before .before in
+    let pg = e3 .before .before in
+    let e2 = pg .before .before .before .before .before .before .before .before .before .before in
+    let cg = e2 .before .before in
+    let cl = cg .before .before .before .before in
+    let e1 = cl .before .before .before in
+    let fc = e1 .before .before in
+    let st = fc .before in
+    let r = st .pre .1 .0 in
+    let mt = fc .find-cycle .ensures .cycle (not-false (fc .find-cycle .result .found) (e1 .if1 .left)) in
+    let ct = cl .contracted-labels .ensures in
+    let ch = cg .charge-group .ensures in
+    let yes-arc = not-false (cg .charge-group .result .found) (e2 .if2 .left) in
+    let so = pg .plan-groups .ensures in
+    let yes-tree = not-false (pg .plan-groups .result .found) (e3 .if3 .left) in
+    expands r mt ct ch yes-arc so yes-tree (ev .entry-vertex .ensures) (ec .expand-cycle .ensures)
+
+pub +plan-groups-spec : {M : Type 1} → statement M
++plan-groups-spec =
+    close μ λ t.
+      lts.spec (callees t) (at-measure t) plan.Post
+      (find-cycle-requires t)
+      (own-parents-requires t)
+      (returns t)
+      (contracted-labels-requires t)
+      (charge-group-requires t)
+      (returns-2 t)
+      (cast-i t)
+      (cast-tails2 t)
+      (array-write-tails2 t)
+      (cast-heads2 t)
+      (array-write-heads2 t)
+      (sub-plan-groups t)
+      (plan-groups-requires t)
+      (returns-3 t)
+      (entry-vertex-requires t)
+      (expand-cycle-requires t)
+      (returns-4 t)

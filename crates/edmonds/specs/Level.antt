@@ -1,0 +1,39 @@
+-- One level of planning: what it needs, and what it gives. Assumes nothing: these are definitions.
+use mathlib.Core.Path.{_≡_}
+use mathlib.Core.Bool.{Bool, true, false}
+use mathlib.Core.List.{List}
+use mathlib.Core.Logic.{_⊎_}
+use Prim.Native.Nat.{ℕ, _+_, _*_, _-_, _≤_, _<_}
+use lib.ListN.{length, replicate}
+use Rattle.instance.specs.Limits.{max-vertices, no-parent, cells, cut-words}
+use Rattle.instance.specs.Cuts.{cuts-from}
+use Rattle.contraction.specs.Counting.{groups}
+use Rattle.contraction.specs.Groups.{Labels, Chosen, Lowered}
+use Rattle.contraction.specs.Trees.{Each, Tree, Fine}
+use Rattle.edmonds.specs.Cells.{at, cost}
+use Rattle.edmonds.specs.Charge.{Closed}
+
+pub record Ready (ws ls tails heads : List ℕ) (n root left : ℕ) : Type 0 where
+  pub size : length ws ≡ cells
+  pub tails-size : length tails ≡ max-vertices
+  pub heads-size : length heads ≡ max-vertices
+  pub small : n ≤ max-vertices
+  pub labels : Labels n root (at ls)
+  pub chosen : Chosen n root (cost ws) (at ls) (at tails) (at heads)
+  pub enough : groups n (at ls) ≤ left
+  pub two : 2 ≤ left
+
+-- The cuts of this level and those below it stand from place k up to count. The matrix holds the reduced costs that they leave.
+pub record Solved (ws ws′ ls : List ℕ) (n root left : ℕ) (cuts cuts′ : List ℕ) (k : ℕ) (found : Bool) (ps : List ℕ) (count set : ℕ) : Type 0 where
+  pub size : length ws′ ≡ cells
+  pub cuts-size : length cuts′ ≡ cut-words
+  pub parents-size : length ps ≡ max-vertices
+  pub tree : found ≡ true → Tree n root (cost ws′) (at ls) (cuts-from (count - k) k cuts′) (at ps)
+  pub lowered : found ≡ true → Lowered n (cost ws) (cost ws′) (cuts-from (count - k) k cuts′)
+  pub fine : found ≡ true → Each (Fine n root) (cuts-from (count - k) k cuts′)
+  pub least : found ≡ true → k ≤ count
+  pub most : found ≡ true → count + 2 ≤ k + left
+  pub frame : found ≡ true → (i : ℕ) → (i < 2 * k) ⊎ (2 * count ≤ i) → at cuts′ i ≡ at cuts i
+  pub root-none : found ≡ true → at ps root ≡ no-parent
+  pub closed : found ≡ false → Closed n root ws set
+  pub none : found ≡ false → (ps ≡ replicate max-vertices no-parent) × (count ≡ 0)

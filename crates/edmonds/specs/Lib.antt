@@ -1,0 +1,5 @@
+-- What the planner's functions give. Assumes nothing.
+pub mod Cells
+pub mod Charge
+pub mod Cycle
+pub mod Level

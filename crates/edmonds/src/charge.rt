@@ -1,0 +1,159 @@
+// Charging a group: its cheapest entering arc is found, every arc that enters it is lowered by that weight, and the group is written
+// down as a cut of that value. A weight of 0 gives no cut.
+
+ghost use mathlib.Core.Path.{_≡_};
+ghost use Prim.Native.Nat.{_+_, _*_, _≤_, _<_};
+ghost use lib.ListN.{set, length};
+ghost use Rattle.edmonds.specs.Charge.{Cheapest, Affords, Lowered-cells, Members, Charged-group};
+use instance::CutIndex;
+use instance::Vertex;
+
+pub const NO_ARC: u32 = 1048575;
+
+pub const NO_VERTEX: usize = 255;
+
+// The cheapest arc into a group; the weight is NO_ARC where there is none.
+pub struct Entering {
+    pub tail: usize,
+    pub head: usize,
+    pub weight: u32,
+}
+
+pub fn cheapest_arc(w: &[u32; 1024], label: &[u8; 32], n: usize, g: Vertex) -> Entering
+    requires { ⌜ (n ≤ 32) × (g .0 < n) ⌝ }
+    ensures { λ r. ⌜ Cheapest (now (w .entry)) (now (label .entry)) n (g .0) 1024 (r .tail) (r .head) (r .weight) ⌝ }
+{
+    let group = g.0 as u8;
+    let mut tail: usize = NO_VERTEX;
+    let mut head: usize = NO_VERTEX;
+    let mut best: u32 = NO_ARC;
+    let mut t: usize = 0;
+    while t < n {
+        if label[t] != group {
+            let mut h: usize = 0;
+            while h < n {
+                if label[h] == group {
+                    let x = w[32 * t + h];
+                    if x < best {
+                        best = x;
+                        tail = t;
+                        head = h;
+                    }
+                }
+                h += 1;
+            }
+        }
+        t += 1;
+    }
+    Entering {
+        tail,
+        head,
+        weight: best,
+    }
+}
+
+// Lowers each arc into a group by a value.
+pub fn lower_arcs(w: &mut [u32; 1024], label: &[u8; 32], n: usize, g: Vertex, value: u32)
+    requires { ⌜ (length (now w) ≡ 1024) × (n ≤ 32) × (g .0 < n) × Affords (now w) (now label) n (g .0) value ⌝ }
+    ensures { λ _. ⌜ Lowered-cells (now (w .entry)) (now (w .exit)) (now (label .entry)) n (g .0) value 0 1024 ⌝ }
+{
+    let group = g.0 as u8;
+    let mut t: usize = 0;
+    while t < n {
+        if label[t] != group {
+            let mut h: usize = 0;
+            while h < n {
+                if label[h] == group {
+                    let x = w[32 * t + h];
+                    if x < NO_ARC {
+                        w[32 * t + h] = x - value;
+                    }
+                }
+                h += 1;
+            }
+        }
+        t += 1;
+    }
+}
+
+// The vertices of a group as bits.
+pub fn members(label: &[u8; 32], n: usize, g: Vertex) -> u32
+    requires { ⌜ (n ≤ 32) × (g .0 < n) ⌝ }
+    ensures { λ r. ⌜ Members (now (label .entry)) (g .0) n r ⌝ }
+{
+    let group = g.0 as u8;
+    let mut set: u32 = 0;
+    let mut v: usize = 0;
+    while v < n {
+        if label[v] == group {
+            set += 1u32 << v;
+        }
+        v += 1;
+    }
+    set
+}
+
+// Writes a cut at its place.
+pub fn put_cut(cuts: &mut [u32; 122], c: CutIndex, set: u32, value: u32)
+    requires { ⌜ c .0 < 61 ⌝ }
+    ensures { λ _. ⌜ now (cuts .exit) ≡ lib.ListN.set (lib.ListN.set (now (cuts .entry)) (2 * c .0) set) (2 * c .0 + 1) value ⌝ }
+{
+    let k = c.0 as usize;
+    cuts[2 * k] = set;
+    cuts[2 * k + 1] = value;
+}
+
+// The arc that a charged group chose, and the place of the next cut; or, where no arc enters, the group's vertices.
+pub struct Charged {
+    pub found: bool,
+    pub tail: usize,
+    pub head: usize,
+    pub next: u32,
+    pub set: u32,
+}
+
+pub fn charge_group(
+    w: &mut [u32; 1024],
+    label: &[u8; 32],
+    n: usize,
+    g: Vertex,
+    cuts: &mut [u32; 122],
+    c: CutIndex,
+) -> Charged
+    requires { ⌜ (length (now w) ≡ 1024) × (length (now cuts) ≡ 122) × (n ≤ 32) × (g .0 < n) × (c .0 < 61) ⌝ }
+    ensures { λ r. ⌜ Charged-group (now (w .entry)) (now (w .exit)) (now (label .entry)) n (g .0) (now (cuts .entry)) (now (cuts .exit)) (c .0) (r .found) (r .tail) (r .head) (r .next) (r .set) ⌝ }
+{
+    let group = g.0;
+    let k = c.0;
+    let arc = cheapest_arc(w, label, n, Vertex(group));
+    let value = arc.weight;
+    if value == NO_ARC {
+        let set = members(label, n, Vertex(group));
+        return Charged {
+            found: false,
+            tail: NO_VERTEX,
+            head: NO_VERTEX,
+            next: k,
+            set,
+        };
+    }
+    if value == 0 {
+        return Charged {
+            found: true,
+            tail: arc.tail,
+            head: arc.head,
+            next: k,
+            set: 0,
+        };
+    }
+    lower_arcs(w, label, n, Vertex(group), value);
+    let set = members(label, n, Vertex(group));
+    put_cut(cuts, CutIndex(k), set, value);
+    Charged {
+        found: true,
+        tail: arc.tail,
+        head: arc.head,
+        next: k + 1,
+        set: 0,
+    }
+}

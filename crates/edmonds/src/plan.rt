@@ -1,0 +1,102 @@
+// Planning: "a closed ring of positions is drawn together and the smaller sheet is planned". Each call has fewer groups.
+
+ghost use mathlib.Core.Path.{_≡_};
+ghost use Prim.Native.Nat.{_+_, _≤_};
+ghost use lib.ListN.{length};
+ghost use Rattle.edmonds.specs.Level.{Ready, Solved};
+use super::charge::charge_group;
+use super::contract::contracted_labels;
+use super::cycle::find_cycle;
+use super::expand::NO_PARENT;
+use super::expand::entry_vertex;
+use super::expand::expand_cycle;
+use super::expand::own_parents;
+use instance::CutIndex;
+use instance::Vertex;
+
+// An arborescence by its parents, with the number of cuts; or, where there is none, a set that no arc enters.
+pub struct Planned {
+    pub found: bool,
+    pub parents: [u8; 32],
+    pub count: u32,
+    pub set: u32,
+}
+
+// Plans groups of which each but the root's has chosen an arc of weight 0. There are at most left groups.
+pub fn plan_groups(
+    w: &mut [u32; 1024],
+    label: &[u8; 32],
+    tails: &[u8; 32],
+    heads: &[u8; 32],
+    n: usize,
+    root: Vertex,
+    left: u32,
+    cuts: &mut [u32; 122],
+    c: CutIndex,
+) -> Planned
+    requires { ⌜ Ready (now w) (now label) (now tails) (now heads) n (root .0) left × (length (now cuts) ≡ 122) × (c .0 + left ≤ 63) ⌝ }
+    ensures { λ r. ⌜ Solved (now (w .entry)) (now (w .exit)) (now (label .entry)) n (root .0) left (now (cuts .entry)) (now (cuts .exit)) (c .0) (r .found) (r .parents) (r .count) (r .set) ⌝ }
+{
+    let k = c.0;
+    let r = root.0;
+    let walked = find_cycle(label, tails, n, Vertex(r));
+    if !walked.found {
+        let parents = own_parents(label, tails, heads, n, Vertex(r));
+        return Planned {
+            found: true,
+            parents,
+            count: k,
+            set: 0,
+        };
+    }
+    let at = walked.at;
+    let stamp = walked.stamp;
+    let coarse = contracted_labels(label, &stamp, n, Vertex(at));
+    let next = charge_group(w, &coarse, n, Vertex(at), cuts, CutIndex(k));
+    if !next.found {
+        return Planned {
+            found: false,
+            parents: [NO_PARENT; 32],
+            count: 0,
+            set: next.set,
+        };
+    }
+    let i = at as usize;
+    let mut tails2 = *tails;
+    let mut heads2 = *heads;
+    tails2[i] = next.tail as u8;
+    heads2[i] = next.head as u8;
+    let inner = plan_groups(
+        w,
+        &coarse,
+        &tails2,
+        &heads2,
+        n,
+        Vertex(r),
+        left - 1,
+        cuts,
+        CutIndex(next.next),
+    );
+    if !inner.found {
+        return inner;
+    }
+    let mut parents = inner.parents;
+    let e = entry_vertex(&parents, label, &stamp, n, Vertex(at));
+    let entry = e.0;
+    expand_cycle(
+        &mut parents,
+        label,
+        &stamp,
+        tails,
+        heads,
+        n,
+        Vertex(at),
+        Vertex(entry),
+    );
+    Planned {
+        found: true,
+        parents,
+        count: inner.count,
+        set: 0,
+    }
+}
