@@ -5,3 +5,4 @@ pub mod Walks
 pub mod Table
 pub mod Tree
 pub mod Exchange
+pub mod Judge
