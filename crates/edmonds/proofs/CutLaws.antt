@@ -4,7 +4,7 @@ use mathlib.Core.List.{List, [], _∷_, _++_}
 use mathlib.Core.Logic.{_⊎_, inl, inr, ⊎-elim}
 use Prim.Native.Nat.{ℕ, zero, suc, _+_, _*_, _-_, _≤_, _<_}
 use native.Mathlib.Omega.{arith}
-use native.Mathlib.Nat.{zero-add, suc-add}
+use native.Mathlib.Nat.{zero-add, suc-add, sub-zero}
 use lib.ListN.{length, set, length-set, getD}
 use lib.Seq.{getD-set-same, getD-set-other}
 use Rattle.instance.specs.Cuts.{Cut, cuts-from}
@@ -51,3 +51,9 @@ cuts-joined k m j l l′ a b frame =
     ap (λ (x : List Cut). x ++ cuts-from (j - m) m l′) (cuts-same (m - k) k l l′ (λ i lo lt. sym (frame i (inl (omega arith)))))
     ∙ cuts-append (m - k) (j - m) k m l′ (omega arith)
     ∙ ap (λ (x : ℕ). cuts-from x k l′) (omega arith)
+
+-- the same from the first place on
+pub cuts-begun : (m j : ℕ) (l l′ : List ℕ) → m ≤ j → ((i : ℕ) → (i < 2 * m) ⊎ (2 * j ≤ i) → at l′ i ≡ at l i)
+    → cuts-from m 0 l ++ cuts-from (j - m) m l′ ≡ cuts-from j 0 l′
+cuts-begun m j l l′ b frame =
+    ap (λ (x : ℕ). cuts-from x 0 l ++ cuts-from (j - m) m l′) (sym (sub-zero m)) ∙ cuts-joined 0 m j l l′ (omega arith) b frame ∙ ap (λ (x : ℕ). cuts-from x 0 l′) (sub-zero j)

@@ -56,8 +56,10 @@ module _ {ws ls tails heads : List ℕ} {n root left : ℕ} (r : Ready ws ls tai
         most = λ _. omega (arith, r .two);
         frame = λ _ i why. refl;
         root-none = λ _. own .is root root-below ∙ rw (eq-eqb (at ls root) (at ls root) refl);
+        no-set = λ _. refl;
         closed = λ x. absurd (not-both true refl x);
-        none = λ x. absurd (not-both true refl x) }
+        none = λ x. absurd (not-both true refl x);
+      }
 
   -- A CYCLE AT v, contracted to the labels lc
   module _ {stamp : List ℕ} {v : ℕ} (mt : Met ls tails stamp n root v) {lc : List ℕ} (ct : Contracted ls stamp n v lc) where
@@ -101,23 +103,24 @@ module _ {ws ls tails heads : List ℕ} {n root left : ℕ} (r : Ready ws ls tai
         record {
           below =
               λ u l.
-                ⊎-elim (λ (i : on (at ls u) ≡ true). rw (label-on u l i) v-below)
-                (λ (o : on (at ls u) ≡ false). rw (label-off u l o) (r .labels .below u l)) (test (on (at ls u)));
+              ⊎-elim (λ (i : on (at ls u) ≡ true). rw (label-on u l i) v-below)
+              (λ (o : on (at ls u) ≡ false). rw (label-off u l o) (r .labels .below u l)) (test (on (at ls u)));
           self =
               λ u l.
-                ⊎-elim (λ (i : on (at ls u) ≡ true). rw (label-on u l i) label-v)
-                (λ (o : on (at ls u) ≡ false).
-                  let self = r .labels .self u l in
-                  rw (label-off u l o) (label-off (at ls u) (r .labels .below u l) (rw self o) ∙ self)) (test (on (at ls u)));
-          root-below = root-below }
+              ⊎-elim (λ (i : on (at ls u) ≡ true). rw (label-on u l i) label-v)
+              (λ (o : on (at ls u) ≡ false).
+              let self = r .labels .self u l in
+              rw (label-off u l o) (label-off (at ls u) (r .labels .below u l) (rw self o) ∙ self)) (test (on (at ls u)));
+          root-below = root-below;
+        }
 
     -- a contracted group other than v's is a group off the cycle
     off : (g : ℕ) → Group n root (at lc) g → g ≢ v → Group n root (at ls) g × (on g ≡ false)
     off g gr ne =
         ⊎-elim (λ (i : on (at ls g) ≡ true). absurd (ne (sym (gr .1) ∙ label-on g (gr .0) i)))
         (λ (o : on (at ls g) ≡ false).
-          let e : at ls g ≡ g = sym (label-off g (gr .0) o) ∙ gr .1 in
-          ((gr .0, e, λ x. gr .2 (x ∙ sym label-root)), rw e at o)) (test (on (at ls g)))
+        let e : at ls g ≡ g = sym (label-off g (gr .0) o) ∙ gr .1 in
+        ((gr .0, e, λ x. gr .2 (x ∙ sym label-root)), rw e at o)) (test (on (at ls g)))
 
     -- FEWER GROUPS, and two at least
     still-own : (u : ℕ) → u < n → eqb (at lc u) u ≡ true → eqb (at ls u) u ≡ true
@@ -143,8 +146,8 @@ module _ {ws ls tails heads : List ℕ} {n root left : ℕ} (r : Ready ws ls tai
         let ρs = coarse-labels .self root root-below in
         let a = count-one n (λ x. eqb x ρ) ρ (coarse-labels .below root root-below) (eq-eqb ρ ρ refl) in
         let b =
-            count-more n (λ x. eqb x ρ) (λ x. eqb (at lc x) x) (λ x l e. eq-eqb (at lc x) x (rw (eqb-true x ρ e) ρs)) v v-below
-            (ne-eqb v ρ (λ e. root-not-v (sym e))) (eq-eqb (at lc v) v label-v) in
+        count-more n (λ x. eqb x ρ) (λ x. eqb (at lc x) x) (λ x l e. eq-eqb (at lc x) x (rw (eqb-true x ρ e) ρs)) v v-below
+        (ne-eqb v ρ (λ e. root-not-v (sym e))) (eq-eqb (at lc v) v label-v) in
         omega arith
 
     pub three : 3 ≤ left
@@ -165,8 +168,10 @@ module _ {ws ls tails heads : List ℕ} {n root left : ℕ} (r : Ready ws ls tai
             most = λ x. absurd (not-both false x refl);
             frame = λ x. absurd (not-both false x refl);
             root-none = λ x. absurd (not-both false x refl);
+            no-set = λ x. absurd (not-both false x refl);
             closed = λ _. ch .closed no-found root root-below root-not-v v v-below label-v;
-            none = λ _. (refl, refl) }
+            none = λ _. (refl, refl);
+          }
 
       module _ (is-found : found ≡ true) where
         v-32 : v < 32
@@ -180,7 +185,8 @@ module _ {ws ls tails heads : List ℕ} {n root left : ℕ} (r : Ready ws ls tai
               head-in = λ g gr. arc g gr .head-in;
               tail-below = λ g gr. arc g gr .tail-below;
               tail-out = λ g gr. arc g gr .tail-out;
-              free = λ g gr. arc g gr .free }
+              free = λ g gr. arc g gr .free;
+            }
           where
             at-v : Enters ws′ lc n v (at (set tails v t) v) (at (set heads v h) v)
             at-v =
@@ -193,22 +199,23 @@ module _ {ws ls tails heads : List ℕ} {n root left : ℕ} (r : Ready ws ls tai
             arc g gr =
                 ⊎-elim (λ (e : eqb g v ≡ true). subst (λ (x : ℕ). Enters ws′ lc n x (at (set tails v t) x) (at (set heads v h) x)) (sym (eqb-true g v e)) at-v)
                 (λ (e : eqb g v ≡ false).
-                  let ne = eqb-false g v e in
-                  let o = off g gr ne in
-                  let gf = o .0 in
-                  let hb = r .chosen .head-below g gf in
-                  let hi = r .chosen .head-in g gf in
-                  let tb = r .chosen .tail-below g gf in
-                  rw (getD-set-other tails v g t 0 ne, getD-set-other heads v g h 0 ne)
-                  (record {
-                    tail-below = tb;
-                    head-below = hb;
-                    tail-out =
-                        λ x.
-                          ⊎-elim (λ (i : on (at ls (at tails g)) ≡ true). ne (sym x ∙ label-on (at tails g) tb i))
-                          (λ (i : on (at ls (at tails g)) ≡ false). r .chosen .tail-out g gf (sym (label-off (at tails g) tb i) ∙ x)) (test (on (at ls (at tails g))));
-                    head-in = label-off (at heads g) hb (rw hi (o .1)) ∙ hi;
-                    free = chosen-lowered (ch .lowered) (r .chosen) .free g gf }))
+                let ne = eqb-false g v e in
+                let o = off g gr ne in
+                let gf = o .0 in
+                let hb = r .chosen .head-below g gf in
+                let hi = r .chosen .head-in g gf in
+                let tb = r .chosen .tail-below g gf in
+                rw (getD-set-other tails v g t 0 ne, getD-set-other heads v g h 0 ne)
+                (record {
+                  tail-below = tb;
+                  head-below = hb;
+                  tail-out =
+                      λ x.
+                      ⊎-elim (λ (i : on (at ls (at tails g)) ≡ true). ne (sym x ∙ label-on (at tails g) tb i))
+                      (λ (i : on (at ls (at tails g)) ≡ false). r .chosen .tail-out g gf (sym (label-off (at tails g) tb i) ∙ x)) (test (on (at ls (at tails g))));
+                  head-in = label-off (at heads g) hb (rw hi (o .1)) ∙ hi;
+                  free = chosen-lowered (ch .lowered) (r .chosen) .free g gf;
+                }))
                 (test (eqb g v))
 
         pub ready : Ready ws′ lc (set tails v t) (set heads v h) n root (left - 1)
@@ -226,7 +233,8 @@ module _ {ws ls tails heads : List ℕ} {n root left : ℕ} (r : Ready ws ls tai
               labels = coarse-labels;
               chosen = chosen;
               enough = omega arith;
-              two = omega arith }
+              two = omega arith;
+            }
 
         -- THE CONTRACTED LEVEL, solved
         module _ {ws″ cuts″ ps : List ℕ} {found′ : Bool} {m s′ : ℕ} (so : Solved ws′ ws″ lc n root (left - 1) cuts′ cuts″ k′ found′ ps m s′) where
@@ -243,8 +251,10 @@ module _ {ws ls tails heads : List ℕ} {n root left : ℕ} (r : Ready ws ls tai
                 most = λ x. absurd (not-both found′ x e);
                 frame = λ x. absurd (not-both found′ x e);
                 root-none = λ x. absurd (not-both found′ x e);
+                no-set = λ x. absurd (not-both found′ x e);
                 closed = λ x. closed-before (ch .lowered) (so .closed x);
-                none = so .none }
+                none = so .none;
+              }
 
           module _ (th : found′ ≡ true) where
             entered-at : {g : ℕ} → Reached n root (at lc) (at ps) g → g ≡ v → Entered ps ls stamp n v
@@ -290,14 +300,16 @@ module _ {ws ls tails heads : List ℕ} {n root left : ℕ} (r : Ready ws ls tai
                     lowered = λ _. lowered;
                     fine =
                         λ _.
-                          subst (Each (Fine n root)) joined
-                          (each-append (cuts-from (k′ - k) k cuts′) (cuts-from (m - k′) k′ cuts″) (ch .fine is-found root root-below root-not-v) (so .fine th));
+                        subst (Each (Fine n root)) joined
+                        (each-append (cuts-from (k′ - k) k cuts′) (cuts-from (m - k′) k′ cuts″) (ch .fine is-found root root-below root-not-v) (so .fine th));
                     least = λ _. omega arith;
                     most = λ _. omega arith;
                     frame =
                         λ _ i why.
-                          ⊎-elim (λ (d : i < 2 * k). so .frame th i (inl (omega arith)) ∙ ch .frame i (inl d))
-                          (λ (d : 2 * m ≤ i). so .frame th i (inr d) ∙ ch .frame i (inr (omega arith))) why;
+                        ⊎-elim (λ (d : i < 2 * k). so .frame th i (inl (omega arith)) ∙ ch .frame i (inl d))
+                        (λ (d : 2 * m ≤ i). so .frame th i (inr d) ∙ ch .frame i (inr (omega arith))) why;
                     root-none = λ _. ex .is root root-below ∙ rw (cycle .root-off) (so .root-none th);
+                    no-set = λ _. refl;
                     closed = λ x. absurd (not-both true refl x);
-                    none = λ x. absurd (not-both true refl x) }
+                    none = λ x. absurd (not-both true refl x);
+                  }

@@ -8,3 +8,5 @@ pub mod FillLaws
 pub mod SearchLoop
 pub mod EntryLaws
 pub mod LevelLaws
+pub mod FirstCharges
+pub mod FinishLaws

@@ -35,5 +35,6 @@ pub record Solved (ws ws′ ls : List ℕ) (n root left : ℕ) (cuts cuts′ : L
   pub most : found ≡ true → count + 2 ≤ k + left
   pub frame : found ≡ true → (i : ℕ) → (i < 2 * k) ⊎ (2 * count ≤ i) → at cuts′ i ≡ at cuts i
   pub root-none : found ≡ true → at ps root ≡ no-parent
+  pub no-set : found ≡ true → set ≡ 0
   pub closed : found ≡ false → Closed n root ws set
   pub none : found ≡ false → (ps ≡ replicate max-vertices no-parent) × (count ≡ 0)

@@ -3,3 +3,4 @@ pub mod Cells
 pub mod Charge
 pub mod Cycle
 pub mod Level
+pub mod Planned

@@ -4,6 +4,7 @@ ghost use mathlib.Core.Path.{_≡_};
 ghost use Prim.Native.Nat.{_+_, _≤_};
 ghost use lib.ListN.{length};
 ghost use Rattle.edmonds.specs.Level.{Ready, Solved};
+use super::Planned;
 use super::charge::charge_group;
 use super::contract::contracted_labels;
 use super::cycle::find_cycle;
@@ -13,14 +14,6 @@ use super::expand::expand_cycle;
 use super::expand::own_parents;
 use instance::CutIndex;
 use instance::Vertex;
-
-// An arborescence by its parents, with the number of cuts; or, where there is none, a set that no arc enters.
-pub struct Planned {
-    pub found: bool,
-    pub parents: [u8; 32],
-    pub count: u32,
-    pub set: u32,
-}
 
 // Plans groups of which each but the root's has chosen an arc of weight 0. There are at most left groups.
 pub fn plan_groups(

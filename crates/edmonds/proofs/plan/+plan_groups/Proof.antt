@@ -28,9 +28,22 @@ abbrev below : ℕ → In 5 kinds.ps
 below t = and 5 kinds.ps (falls 5 kinds.ps _<_ μ t) plan.Pre
 
 abbrev callees : ℕ → lts.Claims
-callees t =
-    (find-cycle.Asked, find-cycle.Learnt, own-parents.Asked, own-parents.Learnt, contracted-labels.Asked, contracted-labels.Learnt, charge-group.Asked,
-    charge-group.Learnt, below t, plan.Post, entry-vertex.Asked, entry-vertex.Learnt, expand-cycle.Asked, expand-cycle.Learnt)
+callees t = (
+  find-cycle.Asked,
+  find-cycle.Learnt,
+  own-parents.Asked,
+  own-parents.Learnt,
+  contracted-labels.Asked,
+  contracted-labels.Learnt,
+  charge-group.Asked,
+  charge-group.Learnt,
+  below t,
+  plan.Post,
+  entry-vertex.Asked,
+  entry-vertex.Learnt,
+  expand-cycle.Asked,
+  expand-cycle.Learnt,
+)
 
 find-cycle-requires : (t : ℕ) → lts.Need-find-cycle-requires (callees t) (at-measure t) plan.Post
 find-cycle-requires t c κs =
@@ -288,21 +301,21 @@ returns-4 t c =
 pub +plan-groups-spec : {M : Type 1} → statement M
 +plan-groups-spec =
     close μ λ t.
-      lts.spec (callees t) (at-measure t) plan.Post
-      (find-cycle-requires t)
-      (own-parents-requires t)
-      (returns t)
-      (contracted-labels-requires t)
-      (charge-group-requires t)
-      (returns-2 t)
-      (cast-i t)
-      (cast-tails2 t)
-      (array-write-tails2 t)
-      (cast-heads2 t)
-      (array-write-heads2 t)
-      (sub-plan-groups t)
-      (plan-groups-requires t)
-      (returns-3 t)
-      (entry-vertex-requires t)
-      (expand-cycle-requires t)
-      (returns-4 t)
+    lts.spec (callees t) (at-measure t) plan.Post
+    (find-cycle-requires t)
+    (own-parents-requires t)
+    (returns t)
+    (contracted-labels-requires t)
+    (charge-group-requires t)
+    (returns-2 t)
+    (cast-i t)
+    (cast-tails2 t)
+    (array-write-tails2 t)
+    (cast-heads2 t)
+    (array-write-heads2 t)
+    (sub-plan-groups t)
+    (plan-groups-requires t)
+    (returns-3 t)
+    (entry-vertex-requires t)
+    (expand-cycle-requires t)
+    (returns-4 t)

@@ -1,0 +1,156 @@
+use mathlib.Core.Path.{refl}
+use mathlib.Core.Logic.{⊎-elim}
+use Prim.Native.Nat.{_+_, _-_, _≤_}
+use native.Mathlib.Omega.{arith}
+use borrow.Author.Needs.{needs}
+use borrow.Author.Tests.{not-true, not-false}
+use Rattle.edmonds.proofs.FirstCharges.{Begun, none-charged, pass-root, none-enters, one-charged, begun-ready, room}
+use Rattle.edmonds.proofs.FinishLaws.{planned-none, planned}
+use Rattle.edmonds.proofs.plan_matrix.Statement.{statement}
+use Rattle.edmonds.proofs.plan_matrix.Tie as tie
+use Rattle.edmonds.proofs.plan_matrix.Reads as reads
+use Rattle.edmonds.proofs.plan_matrix.Lts as lts
+use Rattle.edmonds.proofs.charge.charge_group.Reads as charge-group-reads
+use Rattle.edmonds.proofs.group_bound.Reads as group-bound-reads
+use Rattle.edmonds.proofs.own_labels.Reads as own-labels-reads
+use Rattle.edmonds.proofs.plan.plan_groups.Reads as plan-groups-reads
+
+abbrev Inv-loop : tie.InvT-loop
+Inv-loop w₀ n cuts₀ r label tails₀ heads₀ k₀ v₀ w cuts tails heads k v = (v ≤ n) × Begun w₀ w label tails heads n r cuts₀ cuts k v
+
+abbrev μ-loop : tie.MeasureT-loop
+μ-loop w₀ n cuts₀ r label tails₀ heads₀ k₀ v₀ w cuts tails heads k v = n - v
+
+-- src/lib.rt:60:17
+own-labels-requires : tie.Need-own-labels-requires Inv-loop μ-loop
+own-labels-requires c κs = search needs
+
+-- src/lib.rt:65:5
+loop-holds : tie.Need-loop-holds Inv-loop μ-loop
+loop-holds c = (omega arith, none-charged (c .before .pre .0) (c .before .pre .1) refl refl)
+
+-- src/lib.rt:66:17
+cast-g : tie.Need-cast-g Inv-loop μ-loop
+cast-g c = omega arith
+
+-- src/lib.rt:68:17
+charge-group-requires : tie.Need-charge-group-requires Inv-loop μ-loop
+charge-group-requires c κs =
+    let al = c .before .before .before .before .before in
+    let b = al .loop .inv .1 in
+    let few = b .few in
+    (b .size, b .cuts-size, al .before .before .pre .2, omega arith, omega arith)
+
+-- src/lib.rt:70:17
+returns : tie.Need-returns Inv-loop μ-loop
+returns c =
+    let cg = c .before .before in
+    let th = cg .before .before .before .before in
+    let il = th .before in
+    let al = il .before in
+    let ol = al .before in
+    let pre = ol .before .pre in
+    let ch = cg .charge-group .ensures in
+    planned-none _ _ _ (pre .0) (pre .2) (pre .3) (pre .4) (ch .size) (ch .cuts-size)
+    (none-enters (pre .2) (ol .own-labels .ensures) (pre .3) (al .loop .inv .1) (il .loop-test .taken) (th .if1 .taken) ch (not-true (cg .charge-group .result .found) (c .if2 .taken)))
+
+-- src/lib.rt:72:24
+cast-tails : tie.Need-cast-tails Inv-loop μ-loop
+cast-tails c =
+    let e2 = c .before in
+    let cg = e2 .before .before in
+    let b = cg .charge-group .ensures .arc (not-false (cg .charge-group .result .found) (e2 .if2 .left)) .tail-below in
+    let m = cg .before .before .before .before .before .before .before .before .pre .2 in
+    omega arith
+
+-- src/lib.rt:72:13
+array-write-tails : tie.Need-array-write-tails Inv-loop μ-loop
+array-write-tails c = omega arith
+
+-- src/lib.rt:73:24
+cast-heads : tie.Need-cast-heads Inv-loop μ-loop
+cast-heads c =
+    let e2 = c .before .before in
+    let cg = e2 .before .before in
+    let b = cg .charge-group .ensures .arc (not-false (cg .charge-group .result .found) (e2 .if2 .left)) .head-below in
+    let m = cg .before .before .before .before .before .before .before .before .pre .2 in
+    omega arith
+
+-- src/lib.rt:73:13
+array-write-heads : tie.Need-array-write-heads Inv-loop μ-loop
+array-write-heads c = omega arith
+
+-- src/lib.rt:76:9
+add-v : tie.Need-add-v Inv-loop μ-loop
+add-v c = omega arith
+
+-- src/lib.rt:65:5
+loop-less : tie.Need-loop-less Inv-loop μ-loop
+loop-less c = omega arith
+
+-- src/lib.rt:65:5
+loop-again : tie.Need-loop-again Inv-loop μ-loop
+loop-again c =
+    let il = c .before in
+    let al = il .before in
+    let ol = al .before in
+    let pre = ol .before .pre in
+    let b = al .loop .inv .1 in (
+      omega arith,
+      ⊎-elim
+          (λ w. rw (w .9, w .10, w .11, w .12, w .13)
+          (one-charged (pre .2) (ol .own-labels .ensures) (pre .3) b (il .loop-test .taken) (w .0 .taken) (w .4 .ensures) (not-false (w .4 .result .found) (w .6 .left))))
+          (λ w. rw (w .1, w .2, w .3, w .4, w .5) (pass-root (pre .2) (ol .own-labels .ensures) (pre .3) b (w .0 .left)))
+          (c .if1 .came),
+    )
+
+-- src/lib.rt:78:9
+group-bound-requires : tie.Need-group-bound-requires Inv-loop μ-loop
+group-bound-requires c κs = omega arith
+
+-- src/lib.rt:79:5
+plan-groups-requires : tie.Need-plan-groups-requires Inv-loop μ-loop
+plan-groups-requires c κs =
+    let gb = c .before .before .before .before .before in
+    let lp = gb .before in
+    let al = lp .before in
+    let ol = al .before in
+    let pre = ol .before .pre in
+    let b = al .loop .inv .1 in (
+      begun-ready (pre .2) (ol .own-labels .ensures) (pre .3) b (lp .loop-test .left) (al .loop .inv .0) (gb .group-bound .ensures),
+      b .cuts-size,
+      room (pre .2) (ol .own-labels .ensures) (pre .3) b (lp .loop-test .left) (al .loop .inv .0) (gb .group-bound .ensures),
+    )
+
+-- src/lib.rt:55:1
+returns-2 : tie.Need-returns-2 Inv-loop μ-loop
+returns-2 c =
+    let gb = c .before .before .before .before .before .before in
+    let lp = gb .before in
+    let al = lp .before in
+    let ol = al .before in
+    let pre = ol .before .pre in
+    planned _ _ _ (pre .0) (pre .2) (pre .3) (pre .4) (ol .own-labels .ensures) (pre .1) (al .loop .inv .1) (lp .loop-test .left) (al .loop .inv .0)
+    (gb .group-bound .ensures) (c .plan-groups .ensures)
+
+pub plan-matrix-spec : {M : Type 1} → statement M
+plan-matrix-spec =
+    tie.close
+    (tie.spec
+    Inv-loop
+    μ-loop
+    own-labels-requires
+    loop-holds
+    cast-g
+    charge-group-requires
+    returns
+    cast-tails
+    array-write-tails
+    cast-heads
+    array-write-heads
+    add-v
+    loop-less
+    loop-again
+    group-bound-requires
+    plan-groups-requires
+    returns-2)
