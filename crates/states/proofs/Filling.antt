@@ -1,14 +1,25 @@
 -- A loop that stores one element a turn, from the front: what is said of each element. Assumes nothing.
 use mathlib.Core.Path.{_≡_, refl, sym, ap, _∙_}
+use mathlib.Core.Bool.{true, false}
+use mathlib.Core.Logic.{_≢_, ⊎-elim}
 use mathlib.Core.List.{List, [], _∷_, _++_, append-assoc}
 use Prim.Native.Nat.{ℕ, suc, _+_, _<_}
 use native.Mathlib.Omega.{arith}
 use native.Mathlib.Decide.{ℕ-discrete}
 use native.Mathlib.Numerals.{add-one}
+use lib.Dec.{ltb}
 use lib.ListN.{length, getD, set, drop}
 use lib.Seq.{getD-set-same, getD-set-other, set-at, drop-cons}
+use borrow.Author.Tests.{ltb-true, ltb-false, lt-ltb, le-ltb}
 use Rattle.base.specs.Lists.{tabulate, tabulate-from}
+use Rattle.base.proofs.Tests.{test}
 use Rattle.base.proofs.ListLaws.{length-tabulate, tabulate-more}
+
+-- a bound that has grown by one
+pub ltb-more : (v h : ℕ) → h ≢ v → ltb h (v + 1) ≡ ltb h v
+ltb-more v h e =
+    ⊎-elim (λ (b : ltb h v ≡ true). let l = ltb-true h v b in rw b (lt-ltb h (v + 1) (omega arith)))
+    (λ (b : ltb h v ≡ false). let l = ltb-false h v b in rw b (le-ltb h (v + 1) (omega arith))) (test (ltb h v))
 
 module _ (P : (i v : ℕ) → Type 0) where
   pub filled-none : (l : List ℕ) (i : ℕ) → i < 0 → P i (getD l i 0)

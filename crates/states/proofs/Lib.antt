@@ -7,3 +7,9 @@ pub mod WalkLaws
 pub mod ExchangeLaws
 pub mod TreeLaws
 pub mod TableLaws
+pub mod DetourLaws
+pub mod LevelLaws
+pub mod ForcedLaws
+pub mod JudgeLaws
+pub mod SoundLaws
+pub mod ShowLaws

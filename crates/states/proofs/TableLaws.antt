@@ -10,7 +10,7 @@ use native.Mathlib.Numerals.{add-one}
 use lib.Dec.{ltb, eqb}
 use lib.ListN.{length, getD, set, length-set}
 use lib.Seq.{getD-set-same, getD-set-other}
-use borrow.Author.Tests.{ltb-true, ltb-false, lt-ltb, le-ltb, eqb-true, eqb-false, eq-eqb, ne-eqb, not-true}
+use borrow.Author.Tests.{lt-ltb, le-ltb, eqb-true, eqb-false, eq-eqb, ne-eqb, not-true}
 use Rattle.base.specs.Bounded.{any-below, sum-below}
 use Rattle.base.proofs.Tests.{test, not-both, and-left, and-right, and-both, and-false-right}
 use Rattle.base.proofs.BoundedLaws.{any-found, any-intro}
@@ -21,14 +21,9 @@ use Rattle.contraction.specs.Counting.{count-below}
 use Rattle.contraction.proofs.CountingLaws.{count-more, count-one, sum-one}
 use Rattle.theory.proofs.ArborescenceLaws.{ends}
 use Rattle.states.specs.Table.{is-used, in-tree, Entered, Counts, state-by}
-use Rattle.states.proofs.Filling.{filled-none, filled-more}
+use Rattle.states.proofs.Filling.{ltb-more, filled-none, filled-more}
 
 -- ENTERING AN ARBORESCENCE
-ltb-more : (v h : ℕ) → h ≢ v → ltb h (v + 1) ≡ ltb h v
-ltb-more v h e =
-    ⊎-elim (λ (b : ltb h v ≡ true). let l = ltb-true h v b in rw b (lt-ltb h (v + 1) (omega arith)))
-    (λ (b : ltb h v ≡ false). let l = ltb-false h v b in rw b (le-ltb h (v + 1) (omega arith))) (test (ltb h v))
-
 module _ (root : ℕ) (ps : List ℕ) where
   -- one head more changes its own cells alone, and the root's not even
   more-other : (v t h : ℕ) → h ≢ v → in-tree (v + 1) root ps t h ≡ in-tree v root ps t h

@@ -18,6 +18,7 @@ use Rattle.instance.specs.Arborescence.{parent, is-arborescence, total}
 use Rattle.instance.specs.Matrix.{unmarked}
 use Rattle.states.specs.Tree.{Matrix-ok, Matrix-tree}
 use Rattle.states.specs.Walks.{Rooted}
+use Rattle.states.proofs.WalkLaws.{depth, depth-falls}
 use Rattle.states.proofs.ExchangeLaws.{rooted}
 
 -- a parent read from the 32 places
@@ -63,3 +64,8 @@ module _ (n root : ℕ) (m ps : List ℕ) (k : Matrix-tree n root m ps) where
   cell-bounded i l =
       let size = k .matrix-ok .size in
       rw (default m i 0 no-arc (omega arith)) (k .matrix-ok .bounded i l)
+
+-- one step of a walk, as a program makes it
+pub step-falls : (n root v : ℕ) (ps : List ℕ) → n ≤ 32 → length ps ≡ 32 → Rooted n root (take n ps) → v < n → v ≢ root
+    → depth n root (take n ps) (getD ps v 0) < depth n root (take n ps) v
+step-falls n root v ps small e k l z = rw (parent-read n v ps small e l) (depth-falls n root (take n ps) k v l z)

@@ -1,15 +1,16 @@
 -- Laws of walks in a list of parents, and in one that differs from it at one vertex. Assumes nothing.
 use mathlib.Core.Path.{_≡_, refl, sym, ap, _∙_}
-use mathlib.Core.Bool.{Bool, true, false, _||_}
+use mathlib.Core.Bool.{Bool, true, false, _||_, cond}
 use mathlib.Core.List.{List}
 use mathlib.Core.Logic.{⊎-elim, _≢_}
-use Prim.Native.Nat.{ℕ, zero, suc, _≤_, _<_}
+use Prim.Native.Nat.{ℕ, zero, suc, _+_, _≤_, _<_}
 use native.Mathlib.Omega.{arith}
 use native.Mathlib.Decide.{ℕ-discrete}
 use lib.Dec.{eqb}
-use lib.ListN.{length, getD, set}
+use lib.ListN.{length, getD, set, List·getD-eq-default}
 use lib.Seq.{getD-set-same, getD-set-other}
 use borrow.Author.Tests.{eqb-true, eqb-false, eq-eqb, ne-eqb}
+use Rattle.base.specs.Bounded.{sum-below}
 use Rattle.base.proofs.Tests.{test, not-both, or-false-left, or-false-right, or-cases, or-left, or-right}
 use Rattle.instance.specs.Limits.{no-parent}
 use Rattle.instance.specs.Arborescence.{parent, reaches}
@@ -69,6 +70,41 @@ avoids-below ps h k v a b j =
 pub way-below : (ps : List ℕ) (h t v : ℕ) → Way ps h t v → Below ps h t → Below ps h v
 way-below ps h t v start b = b
 way-below ps h t v (onward {v = u} w e) b = below-on ps h u e (way-below ps h t u w b)
+
+-- THE END OF A WALK
+sum-shift : (k : ℕ) (f : ℕ → ℕ) → sum-below (suc k) f ≡ f 0 + sum-below k (λ j. f (suc j))
+unfolding sum-below
+sum-shift zero f = refl
+sum-shift (suc k) f = let e = sum-shift k f in omega arith
+
+module _ (n root : ℕ) (ps : List ℕ) where
+  -- the number of steps that do not suffice to meet the root
+  abbrev pub depth : (v : ℕ) → ℕ
+  depth v = sum-below (suc n) (λ j. cond (reaches j root ps v) 0 1)
+
+  module _ (k : Rooted n root ps) where
+    -- a parent is less deep
+    pub depth-falls : (v : ℕ) → v < n → v ≢ root → depth (parent ps v) < depth v
+    unfolding sum-below reaches
+    depth-falls v l e =
+        let off = ne-eqb v root e in
+        let own = sum-shift n (λ j. cond (reaches j root ps v) 0 1) in
+        let first : _≡_ {A = ℕ} (cond (eqb v root) 0 1) 1 = rw off in
+        let rest : sum-below n (λ j. cond (eqb v root || reaches j root ps (parent ps v)) 0 1) ≡ sum-below n (λ j. cond (reaches j root ps (parent ps v)) 0 1) = rw off in
+        let last : _≡_ {A = ℕ} (cond (reaches n root ps (parent ps v)) 0 1) 0 = rw (k .reach (parent ps v) (k .below v l off)) in
+        omega arith
+
+    module _ (small : n ≤ 32) (h : ℕ) (inside : h < n) where
+      -- behind the root there is nothing
+      past : (j : ℕ) → reaches j h ps no-parent ≡ false
+      unfolding reaches
+      past zero = ne-eqb no-parent h (λ z. omega arith)
+      past (suc j) =
+          let size = k .size in
+          rw (ne-eqb no-parent h (λ z. omega arith), List·getD-eq-default ps no-parent {n = 255} (omega arith)) (past j)
+
+      pub root-avoids : h ≢ root → Avoids ps h root
+      root-avoids e = avoids-up ps h root (λ z. e (sym z)) (rw (k .at-root) past)
 
 -- THE PARENT OF ONE VERTEX CHANGED
 module _ (ps : List ℕ) (h t : ℕ) where

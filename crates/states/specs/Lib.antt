@@ -4,3 +4,5 @@ pub mod Pins
 pub mod Walks
 pub mod Table
 pub mod Tree
+pub mod Exchange
+pub mod Judge

@@ -2,3 +2,4 @@
 pub mod matrix;
 pub mod tree;
 pub mod show;
+pub mod exchange;
