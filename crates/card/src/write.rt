@@ -71,12 +71,12 @@ pub struct Written {
 }
 
 // Writes the card of the instance that the arguments make up; bytes behind it are kept.
-pub fn write_instance(
+pub fn write_instance<'a>(
     n: u32,
     root: u32,
     budget: u32,
-    weights: &[u32; 1024],
-    marks: &[u8; 1024],
+    weights: &'a [u32; 1024],
+    marks: &'a [u8; 1024],
     out: &mut [u8],
 ) -> Written
     requires { ⌜ (1 ≤ n) × (n ≤ 32) × (root < n) × (length (now weights) ≡ 1024) × (length (now marks) ≡ 1024) ⌝ }

@@ -2,6 +2,7 @@
 // anything of its caller: whatever is handed in gets an answer, and after a refusal the board and all buffers are as they were.
 mod copies; // copies.rt: copies into the caller's buffers
 pub mod open; // open.rt: a board from a card
+pub mod write; // write.rt: a board written as a card
 pub mod look; // look.rt: what a look shows
 pub use board::Board;
 pub use board::Answered;
@@ -10,18 +11,14 @@ pub use board::commands::ban;
 pub use board::commands::clear;
 pub use board::commands::set_budget;
 pub use board::commands::take_back;
+pub use card::write::Written;
 pub use open::open_card;
+pub use write::write_card;
 
 // What opening gives: 0 and the board, or the number of the refusal and the blank board.
 pub struct Opened {
     pub answer: u32,
     pub board: Board,
-}
-
-// What writing gives: 0 and the number of bytes written, or the number of the refusal and 0.
-pub struct Written {
-    pub answer: u32,
-    pub length: usize,
 }
 
 // What a look shows: the total and the number of cuts of a plan, or of a cheapest tree that is over the budget; that there is no tree,

@@ -1,0 +1,16 @@
+// A board written as a card: the present marks and budget, and not the history.
+ghost use Rattle.planner.specs.Calls.{Writes};
+use board::Board;
+use card::write::Written;
+
+pub fn write_card(b: Board, out: &mut [u8]) -> Written
+    ensures { λ r. ⌜ Writes b r (now (out .entry)) (now (out .exit)) ⌝ }
+{
+    if !board::valid::is_valid(b) {
+        return Written {
+            number: 15,
+            length: 0,
+        };
+    }
+    card::write::write_instance(b.n, b.root, b.budget, &b.weights, &b.marks, out)
+}
