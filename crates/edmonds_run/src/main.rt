@@ -86,7 +86,9 @@ fn wide(x: u8) -> usize {
     x as usize
 }
 
-fn wide32(x: u32) -> u64 {
+fn wide32(x: u32) -> u64
+    ensures { λ r. ⌜ r < 4294967296 ⌝ }
+{
     x as u64
 }
 
