@@ -5,7 +5,6 @@ ghost use mathlib.Core.Path.{_≡_};
 ghost use Prim.Native.Nat.{_≤_, _<_};
 ghost use lib.ListN.{length};
 ghost use Rattle.edmonds.specs.Planned.{Weights};
-
 use edmonds::plan_matrix;
 use instance::Vertex;
 
@@ -25,7 +24,7 @@ fn put_arc(w: &mut [u32; 1024], tail: usize, head: usize, weight: u32)
 }
 
 // "0→1 10, 0→2 10, 0→3 8, 1→2 1, 1→3 4, 2→1 2, 2→3 9, 3→1 7"
-fn put_sheet_q(w: &mut [u32; 1024])
+fn put_q(w: &mut [u32; 1024])
     requires { ⌜ (length (now w) ≡ 1024) × Weights (now w) ⌝ }
     ensures { λ _. ⌜ (length (now (w .exit)) ≡ 1024) × Weights (now (w .exit)) ⌝ }
 {
@@ -116,7 +115,7 @@ fn show(w: [u32; 1024], n: usize)
 
 fn main() {
     let mut q = [NO_ARC; 1024];
-    put_sheet_q(&mut q);
+    put_q(&mut q);
     io::write_all(1, b"sheet Q: ");
     show(q, 4);
 

@@ -1,45 +1,35 @@
+-- `edmonds_run::put_arc` meets its contract. Assumes nothing.
 use Prim.Native.Nat.{_+_, _*_}
-use native.Mathlib.Omega.{arith}
 use lib.ListN.{length-set}
-use Rattle.edmonds.proofs.MatrixLaws.{store-fits}
 use borrow.Author.Needs.{needs}
+use Rattle.edmonds.proofs.MatrixLaws.{store-fits}
 use Rattle.edmonds_run.proofs.put_arc.Statement.{statement}
 use Rattle.edmonds_run.proofs.put_arc.Tie as tie
-use Rattle.edmonds_run.proofs.put_arc.Reads as reads
-use Rattle.edmonds_run.proofs.put_arc.Lts as lts
 
--- src/main.rt:21:19
 mul-w : tie.Need-mul-w
 mul-w c = search needs
 
--- src/main.rt:21:19
 add-w : tie.Need-add-w
 add-w c = search needs
 
--- src/main.rt:21:17
 mul-w-2 : tie.Need-mul-w-2
 mul-w-2 c = search needs
 
--- src/main.rt:21:17
 element-write-w : tie.Need-element-write-w
 element-write-w c = search needs
 
--- src/main.rt:14:1
 returns : tie.Need-returns
 returns c =
     let st = c .before .before .before in
     let size = st .pre .0 in
     (simp length-set size, store-fits (st .args .w .now) (32 * st .args .tail + st .args .head) (st .args .weight) size (c .if3 .taken) (st .pre .1))
 
--- src/main.rt:14:1
 returns-2 : tie.Need-returns-2
 returns-2 c = search needs
 
--- src/main.rt:14:1
 returns-3 : tie.Need-returns-3
 returns-3 c = search needs
 
--- src/main.rt:14:1
 returns-4 : tie.Need-returns-4
 returns-4 c = search needs
 

@@ -1,13 +1,10 @@
-use borrow.Author.Needs.{needs}
+-- `edmonds_run::tree_total` meets its contract: the sum of at most 32 weights fits. Assumes nothing.
 use mathlib.Core.Logic.{⊎-elim}
-use Prim.Native.Nat.{_+_, _*_, _-_, _≤_}
+use Prim.Native.Nat.{_*_, _-_, _≤_}
 use native.Mathlib.Omega.{arith}
+use borrow.Author.Needs.{needs}
 use Rattle.edmonds_run.proofs.tree_total.Statement.{statement}
 use Rattle.edmonds_run.proofs.tree_total.Tie as tie
-use Rattle.edmonds_run.proofs.tree_total.Reads as reads
-use Rattle.edmonds_run.proofs.tree_total.Lts as lts
-use Rattle.edmonds_run.proofs.wide.Reads as wide-reads
-use Rattle.edmonds_run.proofs.wide32.Reads as wide32-reads
 
 abbrev Inv-loop : tie.InvT-loop
 Inv-loop w parents n total₀ v₀ total v = (v ≤ n) × (total ≤ 4294967296 * v)
@@ -15,55 +12,42 @@ Inv-loop w parents n total₀ v₀ total v = (v ≤ n) × (total ≤ 4294967296 
 abbrev μ-loop : tie.MeasureT-loop
 μ-loop w parents n total₀ v₀ total v = n - v
 
--- src/main.rt:63:5
 loop-holds : tie.Need-loop-holds Inv-loop μ-loop
 loop-holds c = omega arith
 
--- src/main.rt:64:22
 element-copy-out-wide : tie.Need-element-copy-out-wide Inv-loop μ-loop
 element-copy-out-wide c = omega arith
 
--- src/main.rt:64:13
 wide-requires : tie.Need-wide-requires Inv-loop μ-loop
 wide-requires c κs = search needs
 
--- src/main.rt:66:31
 mul-wide32 : tie.Need-mul-wide32 Inv-loop μ-loop
 mul-wide32 c = omega arith
 
--- src/main.rt:66:31
 add-wide32 : tie.Need-add-wide32 Inv-loop μ-loop
 add-wide32 c = omega arith
 
--- src/main.rt:66:29
 mul-wide32-2 : tie.Need-mul-wide32-2 Inv-loop μ-loop
 mul-wide32-2 c = omega arith
 
--- src/main.rt:66:29
 element-copy-out-wide32 : tie.Need-element-copy-out-wide32 Inv-loop μ-loop
 element-copy-out-wide32 c = omega arith
 
--- src/main.rt:66:22
 wide32-requires : tie.Need-wide32-requires Inv-loop μ-loop
 wide32-requires c κs = search needs
 
--- src/main.rt:66:13
 add-total : tie.Need-add-total Inv-loop μ-loop
 add-total c = omega arith
 
--- src/main.rt:68:9
 add-v : tie.Need-add-v Inv-loop μ-loop
 add-v c = omega arith
 
--- src/main.rt:63:5
 loop-less : tie.Need-loop-less Inv-loop μ-loop
 loop-less c = omega arith
 
--- src/main.rt:63:5
 loop-again : tie.Need-loop-again Inv-loop μ-loop
 loop-again c = ⊎-elim (λ w. omega (arith, w .2 .ensures, w .3)) (λ w. omega (arith, w .1)) (c .if1 .came)
 
--- src/main.rt:58:1
 returns : tie.Need-returns Inv-loop μ-loop
 returns c = search needs
 
