@@ -2,5 +2,6 @@
 pub mod CopyLaws
 pub mod OpenLaws
 pub mod LookLaws
+pub mod SurveyLaws
 pub mod CallSteps
 pub mod ReplayLaws

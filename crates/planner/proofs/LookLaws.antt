@@ -13,7 +13,7 @@ use Rattle.instance.specs.Cuts.{Cut, cuts-from, cuts-in, Proves}
 use Rattle.instance.specs.States.{Outcome, plan, over, no-tree, outcome, states}
 use Rattle.states.specs.Table.{state-by}
 use Rattle.planner.specs.declared.View.{View}
-use Rattle.planner.specs.declared.look.Survey.{Survey}
+use Rattle.planner.specs.declared.survey.Survey.{Survey}
 use Rattle.planner.specs.Look.{Buffers, view, pairs, Parents-shown, Cuts-shown, Shows}
 use Rattle.planner.specs.Survey.{Surveys, Displays}
 

@@ -3,6 +3,7 @@
 mod copies; // copies.rt: copies into the caller's buffers
 pub mod open; // open.rt: a board from a card
 pub mod write; // write.rt: a board written as a card
+mod survey; // survey.rt: planning a board's instance
 pub mod look; // look.rt: what a look shows
 pub use board::Board;
 pub use board::Answered;

@@ -5,17 +5,8 @@ ghost use lib.ListN.{length};
 ghost use Rattle.planner.specs.Look.{buffers, too-short};
 ghost use Rattle.planner.specs.Survey.{Displays};
 use crate::copies;
-use crate::View;
+use crate::survey::Survey;
 use instance::limits::CUT_WORDS;
-
-// What planning found of a board's instance: the view, the parents, the cuts as pairs of words, and 1 at each arc that some
-// arborescence within budget uses.
-pub struct Survey {
-    pub view: View,
-    pub parents: [u8; 32],
-    pub cuts: [u32; 122],
-    pub used: [u8; 1024],
-}
 
 fn is_too_short(n: u32, parents: usize, states: usize, cuts: usize) -> bool
     requires { ⌜ n ≤ 32 ⌝ }
