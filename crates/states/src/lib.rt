@@ -3,3 +3,4 @@ pub mod matrix;
 pub mod tree;
 pub mod show;
 pub mod exchange;
+pub mod forced;
