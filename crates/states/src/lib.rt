@@ -4,3 +4,4 @@ pub mod tree;
 pub mod show;
 pub mod exchange;
 pub mod forced;
+pub mod usable;
