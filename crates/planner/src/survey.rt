@@ -32,3 +32,33 @@ fn no_tree(set: u32) -> Survey
     }
 }
 
+pub fn survey<'a>(weights: &'a [u32; 1024], marks: &'a [u8; 1024], n: u32, root: u32, budget: u32) -> Survey
+    requires { ⌜ (valid-instance (fields n root budget (now weights) (now marks)) ≡ true) × (length (now weights) ≡ 1024) × (length (now marks) ≡ 1024) ⌝ }
+    ensures { λ r. ⌜ Surveys (fields n root budget (now (weights .entry)) (now (marks .entry))) r ⌝ }
+{
+    let m = states::matrix::remaining_matrix(weights, marks, n, root);
+    let mut reduced = m;
+    let mut cuts = [0u32; 122];
+    let p = edmonds::plan_matrix(&mut reduced, n as usize, Vertex(root), &mut cuts);
+    if !p.found {
+        return no_tree(p.set);
+    }
+    let parents = p.parents;
+    let count = p.count;
+    let total = states::tree::tree_total(&m, &parents, n, root);
+    if budget < total {
+        return Survey {
+            view: View::Over(total, count),
+            parents: [NO_PARENT; 32],
+            cuts,
+            used: [0u8; 1024],
+        };
+    }
+    let used = states::usable::usable_arcs(&m, &reduced, &parents, n, root, total, budget);
+    Survey {
+        view: View::Plan(total, count),
+        parents,
+        cuts,
+        used,
+    }
+}

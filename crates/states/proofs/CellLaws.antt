@@ -12,8 +12,9 @@ use Rattle.base.proofs.Tests.{and-false-left, and-false-right}
 use Rattle.base.proofs.ListLaws.{default}
 use Rattle.instance.specs.Limits.{no-arc, pinned, cells}
 use Rattle.instance.specs.Instance.{Instance, cell, can-be-arc, is-arc, weight, mark}
-use Rattle.instance.specs.Arborescence.{is-pinned}
-use Rattle.theory.proofs.ArborescenceLaws.{ends}
+use Rattle.instance.specs.Arborescence.{is-pinned, remaining}
+use Rattle.instance.specs.Matrix.{unmarked}
+use Rattle.theory.proofs.ArborescenceLaws.{Ends, ends, remaining-ends}
 
 pub cell-within : (n r t h : ℕ) → can-be-arc n r t h ≡ true → n ≤ 32 → cell t h < cells
 cell-within n r t h e l = let k = ends n r t h e in omega arith
@@ -25,6 +26,10 @@ cell-of i = omega arith
 pub weight-read : (s : Instance) (t h : ℕ) → length (s .weights) ≡ cells → cell t h < cells → getD (s .weights) (cell t h) 0 ≡ weight s t h
 unfolding weight
 weight-read s t h e l = default (s .weights) (cell t h) 0 no-arc (omega arith)
+
+pub unmarked-ends : (n r t h : ℕ) (m : List ℕ) → remaining (unmarked n r m) t h ≡ true → Ends n r t h
+unfolding unmarked
+unmarked-ends n r t h m e = remaining-ends (unmarked n r m) t h e
 
 -- PINS
 module _ (s : Instance) (t h : ℕ) where

@@ -16,7 +16,7 @@ use Rattle.base.proofs.ListLaws.{default}
 use Rattle.instance.specs.Limits.{no-arc, cells}
 use Rattle.instance.specs.Instance.{Instance, cell, can-be-arc, is-arc, weight}
 use Rattle.instance.specs.Arborescence.{remaining, is-arborescence, total, uses}
-use Rattle.instance.specs.Cuts.{Cut, values, Feasible, No-entry}
+use Rattle.instance.specs.Cuts.{Cut, cuts-in, values, Feasible, No-entry}
 use Rattle.instance.specs.Matrix.{unmarked}
 use Rattle.theory.specs.Usable.{restricted, forced}
 use Rattle.theory.proofs.ArborescenceLaws.{ends, remaining-ends}
@@ -24,6 +24,7 @@ use Rattle.theory.proofs.Duality.{weak-duality, no-entry}
 use Rattle.theory.proofs.SameArcs.{Same-arcs, same-back, same-arborescence, same-total}
 use Rattle.theory.proofs.Restriction.{unmarked-remaining, restricted-remaining, restricted-same-weight, restricted-total}
 use Rattle.theory.proofs.Forced.{forced-arborescence}
+use Rattle.edmonds.specs.Planned.{Planned-matrix}
 use Rattle.states.proofs.Filling.{ltb-more}
 use Rattle.states.specs.Tree.{Matrix-ok, Matrix-tree}
 use Rattle.states.specs.Judge.{taken-out, Forced-matrix, Forced-plan}
@@ -185,3 +186,10 @@ module _ (n root : ℕ) (m w : List ℕ) (t₀ h₀ : ℕ) (ok : Matrix-ok n roo
           used = λ z. absurd (true≢false (sym z));
           least = λ z. absurd (true≢false (sym z));
           shut = λ _ qs b. is-false (uses qs t₀ h₀) (λ u. no-entry left qs (forced-uses qs .1 (b, u)) c e) }
+
+    pub planned-forced : (w′ cuts cuts′ ps : List ℕ) (found : Bool) (count set : ℕ) → Planned-matrix n root w w′ cuts cuts′ found ps count set
+        → Forced-plan n root m t₀ h₀ found ps
+    planned-forced w′ cuts cuts′ ps true count set p =
+        let least = p .minimum refl in
+        forced-found ps (cuts-in count cuts′) (p .parents-size) (least .arborescence) (least .proved .feasible) (least .proved .adds)
+    planned-forced w′ cuts cuts′ ps false count set p = forced-shut ps (record { set = set; value = 0 }) (p .no-entry refl)

@@ -21,10 +21,39 @@ use Rattle.theory.proofs.StateLaws.{fits-arborescence, fits-total, make-fits}
 use Rattle.theory.proofs.SameArcs.{same-back, same-feasible}
 use Rattle.theory.proofs.Restriction.{unmarked-remaining}
 use Rattle.theory.proofs.Usable.{usable-some, usable-none, lost-unusable, reduced-unusable}
+use Rattle.contraction.proofs.Unmarked.{arc-remaining}
 use Rattle.states.specs.Fields.{fields}
+use Rattle.states.specs.Tree.{Matrix-ok}
 use Rattle.states.specs.Exchange.{Detour}
-use Rattle.states.specs.Judge.{Forced-plan, Reduced}
+use Rattle.states.specs.Judge.{Forced-plan, Reduced, Offer}
+use Rattle.states.proofs.CellLaws.{weight-read}
 use Rattle.states.proofs.LevelLaws.{level-same, level-remaining, level-arborescence, level-total}
+
+-- WHAT IS READ AT A CELL of the matrix
+module _ (n root : ℕ) (m : List ℕ) (ok : Matrix-ok n root m) (t h : ℕ) (l : t < n) (k : h < n) where
+  pub weight-on : getD m (cell t h) 0 ≡ weight (unmarked n root m) t h
+  unfolding unmarked
+  weight-on = let small = ok .small in weight-read (unmarked n root m) t h (ok .size) (omega arith)
+
+  pub weight-most : weight (unmarked n root m) t h ≤ no-arc
+  unfolding unmarked weight
+  weight-most = let small = ok .small in ok .bounded (cell t h) (omega arith)
+
+  pub present : t ≢ h → h ≢ root → getD m (cell t h) 0 ≢ no-arc → remaining (unmarked n root m) t h ≡ true
+  unfolding unmarked weight
+  present e z w =
+      let same = weight-on in
+      arc-remaining n root m t h (record { tail-below = l; head-below = k; distinct = e; no-root = z; there = λ x. w (same ∙ x) })
+
+pub reduced-most : (n root v : ℕ) (m reduced : List ℕ) (t h : ℕ) → Reduced n root m reduced v → remaining (unmarked n root m) t h ≡ true
+    → getD reduced (cell t h) 0 ≤ weight (unmarked n root m) t h
+unfolding reduced-cost
+reduced-most n root v m reduced t h k r = let e = k .costs t h r in omega arith
+
+-- what an exchange of arcs offers, where rest is the total without the arc into the head
+pub detour-offer : (s : Instance) (ps : List ℕ) (t h rest d : ℕ) → Detour s ps h t d → rest + weight s (parent ps h) h ≡ total s ps → Offer s t h rest d
+detour-offer s ps t h rest d k e =
+    record { tree = λ r l. let x = k .exchange r l in let c = x .cost in (x .made, x .found, x .used, omega arith) }
 
 module _ (n root b : ℕ) (m : List ℕ) where
   abbrev s : Instance
@@ -43,12 +72,11 @@ module _ (n root b : ℕ) (m : List ℕ) where
     usable-tree ps a l u = usable-some s t h .1 (ps, fits-tree ps a l, u)
 
     -- by an exchange of arcs
-    pub usable-exchange : (ps : List ℕ) (d : ℕ) → Detour on ps h t d → remaining on t h ≡ true → d < no-arc
-        → total on ps + weight on t h + d ≤ b + weight on (parent ps h) h → usable s t h ≡ true
-    usable-exchange ps d k r l most =
-        let x = k .exchange r l in
-        let c = x .cost in
-        usable-tree (x .made) (x .found) (omega arith) (x .used)
+    pub usable-offer : (rest d : ℕ) → Offer on t h rest d → remaining on t h ≡ true → d < no-arc → rest + weight on t h + d ≤ b → usable s t h ≡ true
+    usable-offer rest d k r l most =
+        let x = k .tree r l in
+        let c = x .3 in
+        usable-tree (x .0) (x .1) (omega arith) (x .2)
 
     pub unusable-lost : h < n → h ≢ root → remaining on t h ≡ false → usable s t h ≡ false
     unusable-lost l e r = lost-unusable s t h l (ne-eqb h root e) (level-remaining n root b m t h ∙ r)
@@ -80,17 +108,17 @@ module _ (n root b : ℕ) (m : List ℕ) where
         reduced-unusable s t h (k .cuts) (same-feasible on s (same-back s on (level-same n root b m)) (k .cuts) (k .feasible)) (level-remaining n root b m t h ∙ r) (omega arith)
 
     -- by planning
-    pub unusable-shut : (ps : List ℕ) → Forced-plan n root m t h false ps → usable s t h ≡ false
-    unusable-shut ps k = usable-none s t h .1 (λ qs f. k .shut refl qs (level-arborescence n root b m qs .0 (fits-arborescence s qs f)))
+    pub unusable-shut : (ps : List ℕ) (found : Bool) → Forced-plan n root m t h found ps → found ≡ false → usable s t h ≡ false
+    unusable-shut ps found k e = usable-none s t h .1 (λ qs f. k .shut e qs (level-arborescence n root b m qs .0 (fits-arborescence s qs f)))
 
-    pub unusable-dear : (ps : List ℕ) → Forced-plan n root m t h true ps → b < total on (take n ps) → usable s t h ≡ false
-    unusable-dear ps k past =
+    pub unusable-dear : (ps : List ℕ) (found : Bool) → Forced-plan n root m t h found ps → found ≡ true → b < total on (take n ps) → usable s t h ≡ false
+    unusable-dear ps found k z past =
         usable-none s t h .1
         (λ qs f.
           is-false (uses qs t h)
           (λ u.
             let a = level-arborescence n root b m qs .0 (fits-arborescence s qs f) in
-            let l = k .least refl qs a u in
+            let l = k .least z qs a u in
             let e = level-total n root b m qs a in
             let g = fits-total s qs f in
             omega arith))

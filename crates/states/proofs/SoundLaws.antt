@@ -92,6 +92,9 @@ module _ (s : Instance) where
     pub head-none : (used : List ℕ) → Sound s used → Judged-head s 0 h used used
     head-none used k = record { sound = k; kept = λ u v l m x. x; done = λ t l. absurd (omega arith) }
 
+    pub head-unusable : (bound : ℕ) (used : List ℕ) → Sound s used → ((t : ℕ) → t < bound → usable s t h ≡ false) → Judged-head s bound h used used
+    head-unusable bound used k e = record { sound = k; kept = λ u v l m x. x; done = λ t l x. absurd (not-both (usable s t h) x (e t l)) }
+
     pub head-more : (t : ℕ) (before mid after : List ℕ) → t < 32 → h < 32 → s .n ≤ 32 → t < s .n → Judged-head s t h before mid → Judged s t h mid after
         → Judged-head s (t + 1) h before after
     head-more t before mid after l m small b j k =

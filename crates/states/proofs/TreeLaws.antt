@@ -11,6 +11,7 @@ use lib.ListN.{length, getD, take}
 use lib.Seq.{getD-take}
 use borrow.Author.Tests.{eq-eqb, ne-eqb}
 use Rattle.base.specs.Bounded.{sum-below}
+use Rattle.base.proofs.BoundedLaws.{sum-room, sum-zero}
 use Rattle.base.proofs.ListLaws.{default}
 use Rattle.instance.specs.Limits.{no-arc, no-parent, cells}
 use Rattle.instance.specs.Instance.{Instance, cell, weight}
@@ -59,6 +60,18 @@ module _ (n root : ℕ) (m ps : List ℕ) (k : Matrix-tree n root m ps) where
       let small = k .matrix-ok .small in
       let size = k .matrix-ok .size in
       rw (ne-eqb v root e, ← parent-read n v ps small (k .places) l) (default m (cell (getD ps v 0) v) no-arc 0 (omega arith))
+
+  -- the arc into a vertex, and the total without it
+  pub own-weight : (v : ℕ) → v < n → v ≢ root → weight (unmarked n root m) (parent (take n ps) v) v ≡ getD m (cell (getD ps v 0) v) 0
+  own-weight v l e = rw (ne-eqb v root e) at (cost-read v l e)
+
+  pub own-most : (v : ℕ) → v < n → v ≢ root → getD m (cell (getD ps v 0) v) 0 ≤ total (unmarked n root m) (take n ps)
+  own-most v l e =
+      let own = cost-read v l e in
+      let all = total-costs n root m ps in
+      let some = sum-room n (λ q. 0) (cost n root m ps) (λ q _. omega arith) v l in
+      let none = sum-zero n in
+      omega arith
 
   pub cell-bounded : (i : ℕ) → i < 1024 → getD m i 0 ≤ 1048575
   cell-bounded i l =

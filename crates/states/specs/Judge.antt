@@ -3,11 +3,11 @@
 use mathlib.Core.Path.{_≡_}
 use mathlib.Core.Bool.{Bool, true, false, _&&_, not, cond}
 use mathlib.Core.List.{List, []}
-use Prim.Native.Nat.{ℕ, _/_, _%_, _≤_, _<_}
+use Prim.Native.Nat.{ℕ, _+_, _/_, _%_, _≤_, _<_}
 use lib.Dec.{ltb, eqb}
 use lib.ListN.{length, getD, take}
-use Rattle.instance.specs.Limits.{max-vertices, no-arc, cells}
-use Rattle.instance.specs.Instance.{Instance, cell}
+use Rattle.instance.specs.Limits.{max-vertices, max-budget, no-arc, cells}
+use Rattle.instance.specs.Instance.{Instance, cell, weight}
 use Rattle.instance.specs.Arborescence.{remaining, is-arborescence, total, uses}
 use Rattle.instance.specs.Cuts.{Cut, values, Feasible, reduced-cost}
 use Rattle.instance.specs.Matrix.{unmarked}
@@ -37,6 +37,19 @@ pub record Reduced (n root : ℕ) (m reduced : List ℕ) (total : ℕ) : Type 0 
   pub feasible : Feasible (unmarked n root m) cuts
   pub adds : values cuts ≡ total
   pub costs : (t h : ℕ) → remaining (unmarked n root m) t h ≡ true → getD reduced (cell t h) 0 ≡ reduced-cost (unmarked n root m) cuts t h
+
+-- A cheapest arborescence that fits, with the reduced costs of its planning.
+pub record Fitting-plan (n root : ℕ) (m reduced parents : List ℕ) (v b : ℕ) : Type 0 where
+  pub tree : Matrix-tree n root m parents
+  pub is-total : v ≡ total (unmarked n root m) (take n parents)
+  pub costs : Reduced n root m reduced v
+  pub within : v ≤ b
+  pub most : b ≤ max-budget
+
+-- an arborescence that uses the arc, at its weight, d and the rest; "no arc" as d says that none is known
+pub record Offer (s : Instance) (t h rest d : ℕ) : Type 0 where
+  pub tree : remaining s t h ≡ true → d < no-arc
+      → (qs : List ℕ) × (is-arborescence s qs ≡ true) × (uses qs t h ≡ true) × (total s qs ≤ rest + weight s t h + d)
 
 -- JUDGING
 pub record Sound (s : Instance) (used : List ℕ) : Type 0 where

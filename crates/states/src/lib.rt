@@ -3,3 +3,5 @@ pub mod matrix;
 pub mod tree;
 pub mod show;
 pub mod exchange;
+pub mod forced;
+pub mod usable;

@@ -1,0 +1,40 @@
+// The cheapest arborescence that uses one arc: planning on a copy of the matrix with the other arcs into its head taken out.
+ghost use mathlib.Core.Path.{_≡_};
+ghost use mathlib.Core.Bool.{true};
+ghost use Prim.Native.Nat.{_≤_, _<_};
+ghost use lib.ListN.{length};
+ghost use Rattle.instance.specs.Arborescence.{remaining};
+ghost use Rattle.instance.specs.Matrix.{unmarked};
+ghost use Rattle.states.specs.Fields.{fields};
+ghost use Rattle.states.specs.Tree.{Matrix-ok};
+ghost use Rattle.states.specs.Judge.{Forced-matrix, Forced-plan};
+
+use edmonds::Planned;
+use instance::Vertex;
+
+const NO_ARC: u32 = 1048575;
+
+fn forced_matrix(m: &[u32; 1024], n: u32, tail: u32, head: u32) -> [u32; 1024]
+    requires { ⌜ (n ≤ 32) × (head < 32) × (length (now m) ≡ 1024) ⌝ }
+    ensures { λ r. ⌜ Forced-matrix n tail head (now (m .entry)) r ⌝ }
+{
+    let mut w = *m;
+    let mut g: u32 = 0;
+    while g < n {
+        if g != tail {
+            w[(32 * g + head) as usize] = NO_ARC;
+        }
+        g += 1;
+    }
+    w
+}
+
+// A cheapest arborescence that uses the arc; the cuts are not kept.
+pub fn plan_with(m: &[u32; 1024], n: u32, root: u32, tail: u32, head: u32) -> Planned
+    requires { ⌜ Matrix-ok n root (now m) × (remaining (unmarked n root (now m)) tail head ≡ true) ⌝ }
+    ensures { λ r. ⌜ Forced-plan n root (now (m .entry)) tail head (r .found) (r .parents) ⌝ }
+{
+    let mut w = forced_matrix(m, n, tail, head);
+    let mut cuts = [0u32; 122];
+    edmonds::plan_matrix(&mut w, n as usize, Vertex(root), &mut cuts)
+}
