@@ -1,16 +1,15 @@
 -- ONE CLAIM ABOUT EVERY LIST OF COMMANDS on the program's own boards (document 01, demand 3, without looks and writes): the answers
 -- are the log's, and the last board holds the effective instance. `Learnt` is what a caller learns of a call from the function's own
 -- contract, so that the claim is about these functions and no others. Assumes nothing.
-use mathlib.Core.Path.{_≡_, refl, sym, ap, _∙_}
+use mathlib.Core.Path.{_≡_, refl, ap, _∙_}
 use mathlib.Core.Bool.{true}
 use mathlib.Core.List.{List, [], _∷_}
 use Prim.Native.Nat.{ℕ}
 use lib.ListN.{length}
 use Rattle.instance.specs.Limits.{cells}
-use Rattle.instance.specs.Instance.{Instance}
 use Rattle.instance.specs.Valid.{valid-instance}
 use Rattle.instance.specs.declared.Vertex.{Vertex}
-use Rattle.board.specs.Model.{Command, pin, ban, clear, set-budget, undo, Model, answered, answers, board-after}
+use Rattle.board.specs.Model.{Command, pin, ban, clear, set-budget, undo, answered, answers, board-after}
 use Rattle.board.specs.Log.{new-log}
 use Rattle.board.specs.declared.Board.{Board}
 use Rattle.board.specs.declared.Answered.{Answered}

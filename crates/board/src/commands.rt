@@ -101,9 +101,9 @@ fn restored(b: Board, replaced: Replaced) -> Board
 {
     let mut next = b;
     match replaced {
-        Replaced::Mark(tail, head, mark) => {
+        Replaced::Mark(tail, head, old) => {
             let i = 32 * (tail as usize) + (head as usize);
-            next.marks[i] = mark;
+            next.marks[i] = old;
         }
         Replaced::Budget(budget) => {
             next.budget = budget;

@@ -1,21 +1,20 @@
+-- `set_mark` gives what the model gives: the refusals in their order, and at the end a record at the count and the new mark. Assumes
+-- nothing.
 use mathlib.Core.Path.{_≡_, refl, sym, _∙_}
 use mathlib.Core.Bool.{true, false}
 use Prim.Native.Nat.{_+_, _*_, _<_}
 use native.Mathlib.Omega.{arith}
 use lib.ListN.{length, getD}
 use borrow.Author.Tests.{lt-ltb, le-ltb, le-leb, lt-leb, not-true, not-false}
+use borrow.Author.Needs.{needs}
 use Rattle.instance.specs.Instance.{is-arc, mark}
 use Rattle.board.specs.Model.{marked, refused, accepted, with-mark}
 use Rattle.board.specs.ModelOf.{instance-of}
 use Rattle.board.specs.declared.Replaced.the-variants.{Mark}
 use Rattle.board.proofs.ArcLaws.{is-arc-of}
 use Rattle.board.proofs.BoardLaws.{length-history, history-more, known}
-use borrow.Author.Needs.{needs}
 use Rattle.board.proofs.commands.set_mark.Statement.{statement}
 use Rattle.board.proofs.commands.set_mark.Tie as tie
-use Rattle.board.proofs.commands.set_mark.Reads as reads
-use Rattle.board.proofs.commands.set_mark.Lts as lts
-use Rattle.board.proofs.valid.is_arc.Reads as is-arc-reads
 
 arc :
     (c : tie.Else3) → let a = c .before .before .before .before .before .before .args in
@@ -24,21 +23,17 @@ arc c =
     let a = c .before .before .before .before .before .before .args in
     sym (is-arc-of (instance-of (a .t1)) (a .tail) (a .head)) ∙ sym (c .before .is-arc .ensures) ∙ not-false _ (c .if3 .left)
 
--- src/commands.rt:32:9
 returns : tie.Need-returns
 unfolding marked refused
 returns c = record { result = simp (le-ltb _ _ (c .if1 .taken)); unchanged = λ _. refl }
 
--- src/commands.rt:38:9
 returns-2 : tie.Need-returns-2
 unfolding marked refused
 returns-2 c = record { result = simp (lt-ltb _ _ (c .before .if1 .left), le-ltb _ _ (c .if2 .taken)); unchanged = λ _. refl }
 
--- src/commands.rt:43:9
 is-arc-requires : tie.Need-is-arc-requires
 is-arc-requires c κs = search needs
 
--- src/commands.rt:44:9
 returns-3 : tie.Need-returns-3
 unfolding marked refused
 returns-3 c =
@@ -48,7 +43,6 @@ returns-3 c =
     sym (is-arc-of (instance-of (a .t1)) (a .tail) (a .head)) ∙ sym (c .before .is-arc .ensures) ∙ not-true _ (c .if3 .taken) in
     record { result = simp (lt-ltb _ _ (e .before .if1 .left), lt-ltb _ _ (e .if2 .left), arc); unchanged = λ _. refl }
 
--- src/commands.rt:50:9
 returns-4 : tie.Need-returns-4
 unfolding marked refused
 returns-4 c =
@@ -58,47 +52,36 @@ returns-4 c =
       unchanged = λ _. refl;
     }
 
--- src/commands.rt:55:14
 mul-i : tie.Need-mul-i
 mul-i c = search needs
 
--- src/commands.rt:55:14
 add-i : tie.Need-add-i
 add-i c = search needs
 
--- src/commands.rt:55:13
 cast-i : tie.Need-cast-i
 cast-i c = search needs
 
--- src/commands.rt:56:15
 element-copy-out-old : tie.Need-element-copy-out-old
 element-copy-out-old c = search needs
 
--- src/commands.rt:59:34
 cast-t23 : tie.Need-cast-t23
 cast-t23 c = search needs
 
--- src/commands.rt:59:46
 cast-t25 : tie.Need-cast-t25
 cast-t25 c = search needs
 
--- src/commands.rt:58:5
 mul-t28 : tie.Need-mul-t28
 mul-t28 c = search needs
 
--- src/commands.rt:58:5
 element-set-from-next : tie.Need-element-set-from-next
 element-set-from-next c = search needs
 
--- src/commands.rt:61:18
 add-next : tie.Need-add-next
 add-next c = search needs
 
--- src/commands.rt:62:5
 element-write-next : tie.Need-element-write-next
 element-write-next c = search needs
 
--- src/commands.rt:24:1
 returns-5 : tie.Need-returns-5
 unfolding marked accepted with-mark mark
 returns-5 c =
