@@ -3,9 +3,11 @@
 ghost use mathlib.Core.Path.{_≡_};
 ghost use mathlib.Core.Bool.{true};
 ghost use Prim.Native.Nat.{_≤_, _<_};
+ghost use lib.ListN.{length};
+ghost use Rattle.instance.specs.Matrix.{unmarked};
 ghost use Rattle.board.specs.Model as model;
 ghost use Rattle.board.specs.Model.{marked, budgeted, undone, restored as restored', record-ok, answered, valid};
-ghost use Rattle.board.specs.ModelOf.{model-of, instance-of, history-of, replaced-of, command-of, Answers, Restores};
+ghost use Rattle.board.specs.ModelOf.{model-of, instance-of, history-of, replaced-of, command-of, mark-refusal, Answers, Records, Restores};
 use crate::Answered;
 use crate::Board;
 use crate::Command;
@@ -21,44 +23,56 @@ use instance::Vertex;
 
 const PINNED: u8 = 1;
 
+// The number that refuses a mark on a valid board, or 0.
+fn mark_refusal(weights: &[u32; 1024], n: u32, root: u32, count: usize, tail: u32, head: u32) -> u32
+    requires { ⌜ (n ≤ 32) × (length (now weights) ≡ 1024) ⌝ }
+    ensures { λ r. ⌜ r ≡ mark-refusal (unmarked n root (now (weights .entry))) count tail head ⌝ }
+{
+    let arc = is_arc(weights, n, root, tail, head);
+    if n <= tail {
+        return 9;
+    }
+    if n <= head {
+        return 9;
+    }
+    if !arc {
+        return 10;
+    }
+    if MAX_RECORDS <= count {
+        return 12;
+    }
+    0
+}
+
+// Adds a record to the history.
+fn recorded(b: Board, replaced: Replaced) -> Board
+    requires { ⌜ b .count < 200 ⌝ }
+    ensures { λ r. ⌜ Records (replaced-of replaced) b r ⌝ }
+{
+    let at = b.count;
+    let mut next = b;
+    next.records[at] = UndoRecord { replaced: replaced };
+    next.count = at + 1;
+    next
+}
+
 fn set_mark(b: Board, mark: u8, tail: u32, head: u32) -> Answered
     requires { ⌜ b .n ≤ 32 ⌝ }
     ensures { λ r. ⌜ Answers (marked mark tail head (model-of b)) b r ⌝ }
 {
     let n = b.n;
     let root = b.root;
-    let at = b.count;
-    if n <= tail {
+    let count = b.count;
+    let refusal = mark_refusal(&b.weights, n, root, count, tail, head);
+    if refusal != 0 {
         return Answered {
-            answer: 9,
-            board: b,
-        };
-    }
-    if n <= head {
-        return Answered {
-            answer: 9,
-            board: b,
-        };
-    }
-    if !is_arc(&b.weights, n, root, tail, head) {
-        return Answered {
-            answer: 10,
-            board: b,
-        };
-    }
-    if MAX_RECORDS <= at {
-        return Answered {
-            answer: 12,
+            answer: refusal,
             board: b,
         };
     }
     let i = (32 * tail + head) as usize;
     let old = b.marks[i];
-    let mut next = b;
-    next.records[at] = UndoRecord {
-        replaced: Replaced::Mark(tail as u8, head as u8, old),
-    };
-    next.count = at + 1;
+    let mut next = recorded(b, Replaced::Mark(tail as u8, head as u8, old));
     next.marks[i] = mark;
     Answered {
         answer: 0,
@@ -83,11 +97,7 @@ fn change_budget(b: Board, budget: u32) -> Answered
             board: b,
         };
     }
-    let mut next = b;
-    next.records[at] = UndoRecord {
-        replaced: Replaced::Budget(old),
-    };
-    next.count = at + 1;
+    let mut next = recorded(b, Replaced::Budget(old));
     next.budget = budget;
     Answered {
         answer: 0,
