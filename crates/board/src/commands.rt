@@ -6,7 +6,7 @@ ghost use Prim.Native.Nat.{_≤_, _<_};
 ghost use lib.ListN.{length};
 ghost use Rattle.instance.specs.Matrix.{unmarked};
 ghost use Rattle.board.specs.Model as model;
-ghost use Rattle.board.specs.Model.{marked, budgeted, undone, restored as restored', record-ok, answered, valid};
+ghost use Rattle.board.specs.Model.{marked, budgeted, undone, record-ok, answered, valid};
 ghost use Rattle.board.specs.ModelOf.{model-of, instance-of, history-of, replaced-of, command-of, mark-refusal, Answers, Records, Restores};
 use crate::Answered;
 use crate::Board;
@@ -23,7 +23,7 @@ use instance::Vertex;
 
 const PINNED: u8 = 1;
 
-// The number that refuses a mark on a valid board, or 0.
+// The number that refuses a mark on a valid board, or 0. `is_arc` is false where a vertex is not below n, so it can be asked first.
 fn mark_refusal(weights: &[u32; 1024], n: u32, root: u32, count: usize, tail: u32, head: u32) -> u32
     requires { ⌜ (n ≤ 32) × (length (now weights) ≡ 1024) ⌝ }
     ensures { λ r. ⌜ r ≡ mark-refusal (unmarked n root (now (weights .entry))) count tail head ⌝ }
@@ -56,6 +56,7 @@ fn recorded(b: Board, replaced: Replaced) -> Board
     next
 }
 
+// Sets a mark on a valid board, over any earlier one.
 fn set_mark(b: Board, mark: u8, tail: u32, head: u32) -> Answered
     requires { ⌜ b .n ≤ 32 ⌝ }
     ensures { λ r. ⌜ Answers (marked mark tail head (model-of b)) b r ⌝ }
@@ -80,6 +81,7 @@ fn set_mark(b: Board, mark: u8, tail: u32, head: u32) -> Answered
     }
 }
 
+// Sets the budget of a valid board.
 fn change_budget(b: Board, budget: u32) -> Answered
     ensures { λ r. ⌜ Answers (budgeted budget (model-of b)) b r ⌝ }
 {
@@ -105,6 +107,7 @@ fn change_budget(b: Board, budget: u32) -> Answered
     }
 }
 
+// Puts back what a record of a valid board says; the record is still counted.
 fn restored(b: Board, replaced: Replaced) -> Board
     requires { ⌜ (b .n ≤ 32) × (record-ok (instance-of b) (replaced-of replaced) ≡ true) ⌝ }
     ensures { λ r. ⌜ Restores (replaced-of replaced) b r ⌝ }
@@ -122,6 +125,7 @@ fn restored(b: Board, replaced: Replaced) -> Board
     next
 }
 
+// Takes the latest record of a valid board back.
 fn undo_latest(b: Board) -> Answered
     requires { ⌜ valid (model-of b) ≡ true ⌝ }
     ensures { λ r. ⌜ Answers (undone (history-of (b .count) (b .records)) (model-of b)) b r ⌝ }
@@ -143,6 +147,7 @@ fn undo_latest(b: Board) -> Answered
     }
 }
 
+// Any command on any board: 15 where the board is invalid, whatever the command.
 pub fn execute(b: Board, command: Command) -> Answered
     ensures { λ r. ⌜ Answers (answered (command-of command) (model-of b)) b r ⌝ }
 {
