@@ -1,6 +1,6 @@
 -- Laws of a test over every element of a list. Assumes nothing.
 use mathlib.Core.Path.{_≡_, refl}
-use mathlib.Core.Bool.{Bool, true, _&&_}
+use mathlib.Core.Bool.{Bool, true}
 use mathlib.Core.List.{List, [], _∷_}
 use Rattle.base.specs.Lists.{all-of}
 use Rattle.base.proofs.Tests.{and-left, and-right}

@@ -1,18 +1,22 @@
 -- What every command does to any board of the model: it is refused and leaves the very board, or it is accepted; it alters nothing
 -- but what it names; and undo right after an accepted one restores the whole board. Assumes nothing.
-use mathlib.Core.Path.{_≡_, refl, sym, _∙_}
+use mathlib.Core.Path.{_≡_, refl, _∙_}
 use mathlib.Core.Bool.{Bool, true, false, _&&_, not, cond, true≢false}
 use mathlib.Core.List.{List, [], _∷_}
 use Prim.Native.Nat.{ℕ, suc, _<_, _≤_}
 use native.Mathlib.Omega.{arith}
 use lib.Dec.{ltb, leb, eqb}
-use lib.ListN.{length, getD, set, length-set}
+use lib.ListN.{length, set, length-set}
 use lib.Seq.{getD-set-other, set-set, set-getD}
-use borrow.Author.Tests.{ltb-false, leb-false, eqb-false, not-false}
+use borrow.Author.Tests.{lt-leb, ltb-false, leb-false, eqb-false, not-false}
+use Rattle.base.proofs.Tests.{passed}
 use Rattle.instance.specs.Limits.{max-budget, free, pinned, banned, max-records}
-use Rattle.instance.specs.Instance.{Instance, cell, mark-at, mark, is-arc}
+use Rattle.instance.specs.Instance.{Instance, cell, mark-at, weight, mark, is-arc}
+use Rattle.instance.specs.Matrix.{unmarked}
 use Rattle.board.specs.Model.{Command, pin, ban, clear, set-budget, undo, Replaced, old-mark, old-budget, Model, Result, with-mark, with-budget, restored, refused, accepted, marked, budgeted, undone, applied, valid, answered}
+use Rattle.board.specs.ModelOf.{mark-refusal}
 use Rattle.board.specs.Changes.{is-undo, restores-cell, restores-budget, names-cell, names-budget, Differs-only, Changes-only-named}
+use Rattle.board.proofs.ArcLaws.{arcs-of}
 
 -- REFUSED OR ACCEPTED: whatever holds of each refusal and of what is accepted holds of the result
 mark-chain :
@@ -29,6 +33,14 @@ budget-chain :
 budget-chain P true z b d r a = r 10
 budget-chain P false true b d r a = r 11
 budget-chain P false false b d r a = a refl refl
+
+refused-number :
+    (x y z : Bool) (b : Model) (d : Result) → (_≡_ {A = ℕ} (cond x 9 (cond y 10 (cond z 12 0))) 0 → ⊥) →
+    cond x (refused 9 b) (cond y (refused 10 b) (cond z (refused 12 b) d)) ≡ refused (cond x 9 (cond y 10 (cond z 12 0))) b
+refused-number true y z b d k = refl
+refused-number false true z b d k = refl
+refused-number false false true b d k = refl
+refused-number false false false b d k = absurd (k refl)
 
 module _ (P : Result → Type 0) (b : Model) (r : (k : ℕ) → P (refused (suc k) b)) where
   pub mark-cases :
@@ -52,6 +64,42 @@ module _ (P : Result → Type 0) (b : Model) (r : (k : ℕ) → P (refused (suc 
       let L = length (b .history) in
       budget-chain P (ltb max-budget v) (leb max-records L) b (accepted (old-budget (s .budget)) (with-budget v s) b) r
       (λ p q. a (ltb-false max-budget v p) (leb-false max-records L q))
+
+-- the same by the number of the refusal
+pub record Unrefused (s : Instance) (k t h : ℕ) : Type 0 where
+  pub below : not (ltb t (s .n) && ltb h (s .n)) ≡ false
+  pub arc : is-arc s t h ≡ true
+  pub few : k < max-records
+
+pub unrefused : (s : Instance) (k t h : ℕ) → mark-refusal s k t h ≡ 0 → Unrefused s k t h
+unfolding mark-refusal
+unrefused s k t h e =
+    let A = is-arc s t h in
+    let L = leb max-records k in
+    let p = passed (not (ltb t (s .n) && ltb h (s .n))) 8 (cond (not A) 10 (cond L 12 0)) e in
+    let q = passed (not A) 9 (cond L 12 0) (p .1) in
+    record { below = p .0; arc = not-false A (q .0); few = leb-false max-records k (passed L 11 0 (q .1) .0) }
+
+pub mark-refusal-of : (s : Instance) (k t h : ℕ) → mark-refusal (arcs-of s) k t h ≡ mark-refusal s k t h
+unfolding mark-refusal is-arc weight unmarked
+mark-refusal-of s k t h = refl
+
+module _ (m t h : ℕ) (b : Model) where
+  pub mark-accepted :
+      mark-refusal (b .instance) (length (b .history)) t h ≡ 0 →
+      marked m t h b ≡ accepted (old-mark t h (mark (b .instance) t h)) (with-mark m t h (b .instance)) b
+  unfolding marked
+  mark-accepted e =
+      let u = unrefused (b .instance) (length (b .history)) t h e in
+      rw (u .below, u .arc, lt-leb max-records (length (b .history)) (u .few))
+
+  pub mark-refused :
+      (mark-refusal (b .instance) (length (b .history)) t h ≡ 0 → ⊥) → marked m t h b ≡ refused (mark-refusal (b .instance) (length (b .history)) t h) b
+  unfolding marked mark-refusal
+  mark-refused k =
+      let s = b .instance in
+      refused-number (not (ltb t (s .n) && ltb h (s .n))) (not (is-arc s t h)) (leb max-records (length (b .history))) b
+      (accepted (old-mark t h (mark s t h)) (with-mark m t h s) b) k
 
 -- A REFUSAL LEAVES THE VERY BOARD
 abbrev Same-if-refused : Model → Result → Type 0

@@ -6,7 +6,7 @@
 use mathlib.Core.Path.{_≡_, refl, sym, ap, _∙_}
 use mathlib.Core.Bool.{Bool, true, false, _&&_, not, cond}
 use mathlib.Core.List.{List, [], _∷_}
-use Prim.Native.Nat.{ℕ, suc, _+_, _*_, _/_, _%_, _≤_, _<_}
+use Prim.Native.Nat.{ℕ, suc, _/_, _%_, _≤_, _<_}
 use native.Mathlib.Omega.{arith}
 use native.Mathlib.Decide.{ℕ-discrete}
 use lib.Dec.{ltb, leb, eqb}
@@ -17,7 +17,7 @@ use Rattle.base.specs.Lists.{tabulate}
 use Rattle.base.proofs.Tests.{and-left, and-right, and-not}
 use Rattle.base.proofs.ListLaws.{length-tabulate, getD-tabulate, tabulate-is}
 use Rattle.instance.specs.Limits.{max-vertices, max-budget, free, pinned, banned, max-records, cells}
-use Rattle.instance.specs.Instance.{Instance, cell, mark-at, weight, mark, can-be-arc, is-arc}
+use Rattle.instance.specs.Instance.{Instance, cell, mark-at, weight, mark, is-arc}
 use Rattle.instance.specs.Valid.{valid-instance}
 use Rattle.board.specs.Model.{Command, pin, ban, clear, set-budget, undo, Replaced, old-mark, old-budget, Model, Result, opened, with-mark, with-budget, restored, refused, accepted, marked, budgeted, undone, applied, valid, answered, answers, board-after}
 use Rattle.board.specs.Log.{Entry, entry-mark, entry-budget, Log, Noted, new-log, with-entries, unnoted, noted, note-mark, note-budget, note-undo, note, effective-mark, effective-budget, effective, log-answers, log-after}

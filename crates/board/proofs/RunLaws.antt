@@ -1,23 +1,23 @@
 -- ONE CLAIM ABOUT EVERY LIST OF COMMANDS on the program's own boards (document 01, demand 3, without looks and writes): the answers
 -- are the log's, and the last board holds the effective instance. `Learnt` is what a caller learns of a call from the function's own
 -- contract, so that the claim is about these functions and no others. Assumes nothing.
-use mathlib.Core.Path.{_≡_, refl, sym, ap, _∙_}
+use mathlib.Core.Path.{_≡_, refl, sym, ap, _∙_, subst}
 use mathlib.Core.Bool.{true}
 use mathlib.Core.List.{List, [], _∷_}
 use Prim.Native.Nat.{ℕ}
 use lib.ListN.{length}
 use Rattle.instance.specs.Limits.{cells}
-use Rattle.instance.specs.Instance.{Instance}
 use Rattle.instance.specs.Valid.{valid-instance}
 use Rattle.instance.specs.declared.Vertex.{Vertex}
-use Rattle.board.specs.Model.{Command, pin, ban, clear, set-budget, undo, Model, answered, answers, board-after}
-use Rattle.board.specs.Log.{new-log}
+use Rattle.board.specs.Model.{Command, pin, ban, clear, set-budget, undo, Model, Result, opened, applied, valid, answered, answers, board-after}
+use Rattle.board.specs.Log.{Log, new-log, note}
 use Rattle.board.specs.declared.Board.{Board}
 use Rattle.board.specs.declared.Answered.{Answered}
 use Rattle.board.specs.declared.Command as declared-command
-use Rattle.board.specs.ModelOf.{model-of, command-of, instance-with, Answers}
-use Rattle.board.proofs.LogLaws.{Follows-log, valid-lists-follow}
-use Rattle.board.proofs.CallLaws.{call-board, call-answer}
+use Rattle.board.specs.ModelOf.{model-of, result-of, command-of, instance-with, Answers, New-board}
+use Rattle.board.proofs.ValidLaws.{valid-parts, opened-valid, answered-applied}
+use Rattle.board.proofs.LogLaws.{Tied, step-tied, opened-tied, Follows-log, valid-lists-follow}
+use Rattle.board.proofs.CallLaws.{call-board, call-answer, call-valid}
 use Rattle.board.proofs.commands.pin.Reads as pin-reads
 use Rattle.board.proofs.commands.ban.Reads as ban-reads
 use Rattle.board.proofs.commands.clear.Reads as clear-reads
@@ -80,3 +80,34 @@ pub runs-follow :
 runs-follow n root budget ws ms b cs xs e o v l r =
     let f = run-model r in
     rw (f .same-answers, f .same-board, o .model) (valid-lists-follow (instance-with n root budget ws ms) cs v l)
+
+-- ONE CALL, for callers that do other things between commands: a board that follows a log goes on following it
+pub record Follows (b : Board) (k : Log) : Type 0 where
+  pub is-valid : valid (model-of b) ≡ true
+  pub tied : Tied (model-of b) k
+
+pub record Next-follows (c : Command) (k : Log) (r : Answered) : Type 0 where
+  pub same-answer : r .answer ≡ note c k .answer
+  pub follows : Follows (r .board) (note c k .log)
+
+pub call-follows : (c : Command) (b : Board) (r : Answered) (k : Log) → Answers (answered c (model-of b)) b r → Follows b k → Next-follows c k r
+call-follows c b r k a f =
+    let s = step-tied c (model-of b) k (f .tied) in
+    let e : result-of r ≡ applied c (model-of b) = a .result ∙ answered-applied c (model-of b) (f .is-valid) in
+    let next : Tied (model-of (r .board)) (note c k .log) = subst (λ (d : Result). Tied (d .board) (note c k .log)) (sym e) (s .tied) in
+    record {
+      same-answer = ap (λ (d : Result). d .answer) e ∙ s .same-answer;
+      follows = record { is-valid = call-valid c b r a (f .is-valid); tied = next };
+    }
+
+pub new-board-follows :
+    (n root budget : ℕ) (ws ms : List ℕ) (b : Board) → New-board n root budget ws ms b → valid-instance (instance-with n root budget ws ms) ≡ true →
+    length ms ≡ cells → Follows b (new-log (instance-with n root budget ws ms))
+unfolding opened
+new-board-follows n root budget ws ms b o v l =
+    let s = instance-with n root budget ws ms in
+    let ok = opened-valid s v in
+    record {
+      is-valid = subst (λ (m : Model). valid m ≡ true) (sym (o .model)) ok;
+      tied = subst (λ (m : Model). Tied m (new-log s)) (sym (o .model)) (opened-tied s (valid-parts (opened s) ok .n-high) l);
+    }

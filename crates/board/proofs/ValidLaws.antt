@@ -1,28 +1,28 @@
 -- Every command on a valid board leaves a valid one. A new mark goes to an arc, whose weight a valid board has in range; what is
 -- recorded is the mark or the budget of a valid board; what undo restores was judged with the records. Assumes nothing.
 use mathlib.Core.Path.{_≡_, refl, sym, ap, _∙_}
-use mathlib.Core.Bool.{Bool, true, false, _&&_, not, cond}
+use mathlib.Core.Bool.{Bool, true, false, _&&_, cond}
 use mathlib.Core.List.{List, [], _∷_}
 use mathlib.Core.Logic.{⊎-elim}
-use Prim.Native.Nat.{ℕ, suc, _+_, _*_, _/_, _%_, _≤_, _<_}
+use Prim.Native.Nat.{ℕ, suc, _/_, _%_, _≤_, _<_}
 use native.Mathlib.Omega.{arith}
 use native.Mathlib.Decide.{ℕ-discrete}
-use lib.Dec.{ltb, leb, eqb}
-use lib.ListN.{length, getD, set}
+use lib.Dec.{ltb, leb}
+use lib.ListN.{length}
 use lib.Seq.{getD-set-same, getD-set-other, set-out}
-use borrow.Author.Tests.{lt-ltb, lt-leb, le-leb, ltb-true, leb-true, ltb-false, leb-false, not-false}
+use borrow.Author.Tests.{lt-ltb, lt-leb, le-leb, ltb-true, leb-true, ltb-false}
 use Rattle.base.specs.Bounded.{all-below}
 use Rattle.base.specs.Lists.{all-of}
 use Rattle.base.proofs.Tests.{and-left, and-right, test}
 use Rattle.base.proofs.BoundedLaws.{all-at, all-intro}
 use Rattle.instance.specs.Limits.{max-vertices, max-budget, free, pinned, banned, max-records, cells}
-use Rattle.instance.specs.Instance.{Instance, cell, weight-at, mark-at, weight, mark, can-be-arc, is-arc}
+use Rattle.instance.specs.Instance.{Instance, cell, weight, mark, can-be-arc, is-arc}
 use Rattle.instance.specs.Valid.{cell-ok, cell-valid, header-valid, valid-instance}
-use Rattle.board.specs.Model.{Command, pin, ban, clear, set-budget, undo, Replaced, old-mark, old-budget, Model, Result, opened, with-mark, with-budget, restored, refused, accepted, marked, budgeted, undone, applied, record-ok, valid, answered}
+use Rattle.board.specs.Model.{Command, pin, ban, clear, set-budget, undo, Replaced, old-mark, old-budget, Model, opened, with-mark, with-budget, restored, refused, accepted, marked, budgeted, undone, applied, record-ok, valid, answered}
 use Rattle.board.specs.Changes.{is-undo}
 use Rattle.board.proofs.AllOfLaws.{all-of-first, all-of-rest, all-of-more}
 use Rattle.board.proofs.ArcLaws.{arc-in-range, records-ok-of, cells-valid-of}
-use Rattle.board.proofs.CommandLaws.{mark-cases, budget-cases, judged, undo-restores}
+use Rattle.board.proofs.CommandLaws.{mark-cases, budget-cases, undo-restores}
 
 -- what a valid board is, part by part
 pub record Valid (b : Model) : Type 0 where

@@ -1,10 +1,12 @@
 -- What the program's board means in the model's terms, and what the calls' contracts say by it. Assumes nothing: these are
 -- definitions.
 use mathlib.Core.Path.{_≡_}
+use mathlib.Core.Bool.{_&&_, not, cond}
 use mathlib.Core.List.{List, [], _∷_}
 use Prim.Native.Nat.{ℕ, zero, suc}
+use lib.Dec.{ltb, leb}
 use lib.ListN.{getD, replicate}
-use Rattle.instance.specs.Instance.{Instance}
+use Rattle.instance.specs.Instance.{Instance, is-arc}
 use Rattle.instance.specs.Limits.{cells, max-records}
 use Rattle.board.specs.Model.{Model, Result, Replaced, old-mark, old-budget, Command, pin, ban, clear, set-budget, undo, restored, opened}
 use Rattle.board.specs.declared.Board.{Board}
@@ -51,6 +53,19 @@ result-of r = record { answer = r .answer; board = model-of (r .board) }
 pub record Answers (d : Result) (b : Board) (r : Answered) : Type 0 where
   pub result : result-of r ≡ d
   pub unchanged : (r .answer ≡ 0 → ⊥) → r .board ≡ b
+
+-- the number that refuses a mark on a valid board with k records, or 0: "9, 10, 12 for marks"
+unfoldable pub mark-refusal : Instance → (k tail head : ℕ) → ℕ
+mark-refusal s k t h =
+    cond (not (ltb t (s .n) && ltb h (s .n))) 9
+    (cond (not (is-arc s t h)) 10
+    (cond (leb max-records k) 12
+    0))
+
+-- one record more, and nothing else
+pub record Records (o : Replaced) (b r : Board) : Type 0 where
+  pub instance : instance-of r ≡ instance-of b
+  pub history : history-of (r .count) (r .records) ≡ o ∷ history-of (b .count) (b .records)
 
 -- what putting back leaves: the record itself is still counted
 pub record Restores (o : Replaced) (b r : Board) : Type 0 where

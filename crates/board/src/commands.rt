@@ -3,9 +3,11 @@
 ghost use mathlib.Core.Path.{_≡_};
 ghost use mathlib.Core.Bool.{true};
 ghost use Prim.Native.Nat.{_≤_, _<_};
+ghost use lib.ListN.{length};
+ghost use Rattle.instance.specs.Matrix.{unmarked};
 ghost use Rattle.board.specs.Model as model;
-ghost use Rattle.board.specs.Model.{marked, budgeted, undone, restored as restored', record-ok, answered, valid};
-ghost use Rattle.board.specs.ModelOf.{model-of, instance-of, history-of, replaced-of, command-of, Answers, Restores};
+ghost use Rattle.board.specs.Model.{marked, budgeted, undone, record-ok, answered, valid};
+ghost use Rattle.board.specs.ModelOf.{model-of, instance-of, history-of, replaced-of, command-of, mark-refusal, Answers, Records, Restores};
 use crate::Answered;
 use crate::Board;
 use crate::Command;
@@ -21,44 +23,57 @@ use instance::Vertex;
 
 const PINNED: u8 = 1;
 
+// The number that refuses a mark on a valid board, or 0. `is_arc` is false where a vertex is not below n, so it can be asked first.
+fn mark_refusal(weights: &[u32; 1024], n: u32, root: u32, count: usize, tail: u32, head: u32) -> u32
+    requires { ⌜ (n ≤ 32) × (length (now weights) ≡ 1024) ⌝ }
+    ensures { λ r. ⌜ r ≡ mark-refusal (unmarked n root (now (weights .entry))) count tail head ⌝ }
+{
+    let arc = is_arc(weights, n, root, tail, head);
+    if n <= tail {
+        return 9;
+    }
+    if n <= head {
+        return 9;
+    }
+    if !arc {
+        return 10;
+    }
+    if MAX_RECORDS <= count {
+        return 12;
+    }
+    0
+}
+
+// Adds a record to the history.
+fn recorded(b: Board, replaced: Replaced) -> Board
+    requires { ⌜ b .count < 200 ⌝ }
+    ensures { λ r. ⌜ Records (replaced-of replaced) b r ⌝ }
+{
+    let at = b.count;
+    let mut next = b;
+    next.records[at] = UndoRecord { replaced: replaced };
+    next.count = at + 1;
+    next
+}
+
+// Sets a mark on a valid board, over any earlier one.
 fn set_mark(b: Board, mark: u8, tail: u32, head: u32) -> Answered
     requires { ⌜ b .n ≤ 32 ⌝ }
     ensures { λ r. ⌜ Answers (marked mark tail head (model-of b)) b r ⌝ }
 {
     let n = b.n;
     let root = b.root;
-    let at = b.count;
-    if n <= tail {
+    let count = b.count;
+    let refusal = mark_refusal(&b.weights, n, root, count, tail, head);
+    if refusal != 0 {
         return Answered {
-            answer: 9,
-            board: b,
-        };
-    }
-    if n <= head {
-        return Answered {
-            answer: 9,
-            board: b,
-        };
-    }
-    if !is_arc(&b.weights, n, root, tail, head) {
-        return Answered {
-            answer: 10,
-            board: b,
-        };
-    }
-    if MAX_RECORDS <= at {
-        return Answered {
-            answer: 12,
+            answer: refusal,
             board: b,
         };
     }
     let i = (32 * tail + head) as usize;
     let old = b.marks[i];
-    let mut next = b;
-    next.records[at] = UndoRecord {
-        replaced: Replaced::Mark(tail as u8, head as u8, old),
-    };
-    next.count = at + 1;
+    let mut next = recorded(b, Replaced::Mark(tail as u8, head as u8, old));
     next.marks[i] = mark;
     Answered {
         answer: 0,
@@ -66,6 +81,7 @@ fn set_mark(b: Board, mark: u8, tail: u32, head: u32) -> Answered
     }
 }
 
+// Sets the budget of a valid board.
 fn change_budget(b: Board, budget: u32) -> Answered
     ensures { λ r. ⌜ Answers (budgeted budget (model-of b)) b r ⌝ }
 {
@@ -83,11 +99,7 @@ fn change_budget(b: Board, budget: u32) -> Answered
             board: b,
         };
     }
-    let mut next = b;
-    next.records[at] = UndoRecord {
-        replaced: Replaced::Budget(old),
-    };
-    next.count = at + 1;
+    let mut next = recorded(b, Replaced::Budget(old));
     next.budget = budget;
     Answered {
         answer: 0,
@@ -95,15 +107,16 @@ fn change_budget(b: Board, budget: u32) -> Answered
     }
 }
 
+// Puts back what a record of a valid board says; the record is still counted.
 fn restored(b: Board, replaced: Replaced) -> Board
     requires { ⌜ (b .n ≤ 32) × (record-ok (instance-of b) (replaced-of replaced) ≡ true) ⌝ }
     ensures { λ r. ⌜ Restores (replaced-of replaced) b r ⌝ }
 {
     let mut next = b;
     match replaced {
-        Replaced::Mark(tail, head, mark) => {
+        Replaced::Mark(tail, head, old) => {
             let i = 32 * (tail as usize) + (head as usize);
-            next.marks[i] = mark;
+            next.marks[i] = old;
         }
         Replaced::Budget(budget) => {
             next.budget = budget;
@@ -112,6 +125,7 @@ fn restored(b: Board, replaced: Replaced) -> Board
     next
 }
 
+// Takes the latest record of a valid board back.
 fn undo_latest(b: Board) -> Answered
     requires { ⌜ valid (model-of b) ≡ true ⌝ }
     ensures { λ r. ⌜ Answers (undone (history-of (b .count) (b .records)) (model-of b)) b r ⌝ }
@@ -133,6 +147,7 @@ fn undo_latest(b: Board) -> Answered
     }
 }
 
+// Any command on any board: 15 where the board is invalid, whatever the command.
 pub fn execute(b: Board, command: Command) -> Answered
     ensures { λ r. ⌜ Answers (answered (command-of command) (model-of b)) b r ⌝ }
 {

@@ -8,7 +8,7 @@ pub mod create; // create.rt: a new board, and the blank one
 use instance::Vertex;
 
 // What a command replaced: tail, head and mark of an arc, or the budget. Small, since a board holds 200 of them: tail and head are
-// below 32 where it is written. A group of marks (a further variant) comes in here and in `replaced-of` of the specs alone.
+// below 32 where it is written. What a record means has one name in the specs, `replaced-of`.
 pub enum Replaced {
     Mark(u8, u8, u8),
     Budget(u32),

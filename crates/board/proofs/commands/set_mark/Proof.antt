@@ -1,122 +1,87 @@
-use mathlib.Core.Path.{_≡_, refl, sym, _∙_}
-use mathlib.Core.Bool.{true, false}
-use Prim.Native.Nat.{_+_, _*_, _<_}
+-- `set_mark` gives what the model gives: the refusal that was found, or one record more and the new mark. Assumes nothing.
+use mathlib.Core.Path.{_≡_, refl, sym, ap, _∙_}
+use Prim.Native.Nat.{ℕ}
 use native.Mathlib.Omega.{arith}
-use lib.ListN.{length, getD}
-use borrow.Author.Tests.{lt-ltb, le-ltb, le-leb, lt-leb, not-true, not-false}
-use Rattle.instance.specs.Instance.{is-arc, mark}
-use Rattle.board.specs.Model.{marked, refused, accepted, with-mark}
-use Rattle.board.specs.ModelOf.{instance-of}
-use Rattle.board.specs.declared.Replaced.the-variants.{Mark}
-use Rattle.board.proofs.ArcLaws.{is-arc-of}
-use Rattle.board.proofs.BoardLaws.{length-history, history-more, known}
+use lib.ListN.{length}
 use borrow.Author.Needs.{needs}
+use Rattle.instance.specs.Instance.{mark}
+use Rattle.board.specs.Model.{accepted, refused, with-mark}
+use Rattle.board.specs.ModelOf.{instance-of, model-of, mark-refusal}
+use Rattle.board.proofs.ArcLaws.{Can-be-arc, arc-can-be}
+use Rattle.board.proofs.BoardLaws.{length-history}
+use Rattle.board.proofs.CommandLaws.{Unrefused, unrefused, mark-refusal-of, mark-accepted, mark-refused}
 use Rattle.board.proofs.commands.set_mark.Statement.{statement}
 use Rattle.board.proofs.commands.set_mark.Tie as tie
-use Rattle.board.proofs.commands.set_mark.Reads as reads
-use Rattle.board.proofs.commands.set_mark.Lts as lts
-use Rattle.board.proofs.valid.is_arc.Reads as is-arc-reads
 
-arc :
-    (c : tie.Else3) → let a = c .before .before .before .before .before .before .args in
-    is-arc (instance-of (a .t1)) (a .tail) (a .head) ≡ true
-arc c =
-    let a = c .before .before .before .before .before .before .args in
-    sym (is-arc-of (instance-of (a .t1)) (a .tail) (a .head)) ∙ sym (c .before .is-arc .ensures) ∙ not-false _ (c .if3 .left)
+abbrev start : (c : tie.After-mark-refusal) → tie.Start
+start c = c .before .before .before
 
--- src/commands.rt:32:9
+-- the number that was found, as the model has it
+number :
+    (c : tie.After-mark-refusal) → let a = start c .args in
+    c .mark-refusal .result ≡ mark-refusal (instance-of (a .t1)) (length (model-of (a .t1) .history)) (a .tail) (a .head)
+number c =
+    let a = start c .args in
+    let b = a .t1 in
+    c .mark-refusal .ensures ∙ mark-refusal-of (instance-of b) (b .count) (a .tail) (a .head)
+    ∙ ap (λ (k : ℕ). mark-refusal (instance-of b) k (a .tail) (a .head)) (sym (length-history (b .count) (b .records)))
+
+allowed : (c : tie.Else1) → let a = start (c .before) .args in Unrefused (instance-of (a .t1)) (length (model-of (a .t1) .history)) (a .tail) (a .head)
+allowed c =
+    let a = start (c .before) .args in
+    unrefused (instance-of (a .t1)) (length (model-of (a .t1) .history)) (a .tail) (a .head) (sym (number (c .before)) ∙ c .if1 .left)
+
+arc : (c : tie.Else1) → let a = start (c .before) .args in Can-be-arc (a .t1 .n) (a .t1 .root) (a .tail) (a .head)
+arc c = let a = start (c .before) .args in arc-can-be (instance-of (a .t1)) (a .tail) (a .head) (allowed c .arc)
+
+mark-refusal-requires : tie.Need-mark-refusal-requires
+mark-refusal-requires c κs = search needs
+
 returns : tie.Need-returns
-unfolding marked refused
-returns c = record { result = simp (le-ltb _ _ (c .if1 .taken)); unchanged = λ _. refl }
-
--- src/commands.rt:38:9
-returns-2 : tie.Need-returns-2
-unfolding marked refused
-returns-2 c = record { result = simp (lt-ltb _ _ (c .before .if1 .left), le-ltb _ _ (c .if2 .taken)); unchanged = λ _. refl }
-
--- src/commands.rt:43:9
-is-arc-requires : tie.Need-is-arc-requires
-is-arc-requires c κs = search needs
-
--- src/commands.rt:44:9
-returns-3 : tie.Need-returns-3
-unfolding marked refused
-returns-3 c =
-    let e = c .before .before .before .before in
-    let a = e .before .before .args in
-    let arc : is-arc (instance-of (a .t1)) (a .tail) (a .head) ≡ false =
-    sym (is-arc-of (instance-of (a .t1)) (a .tail) (a .head)) ∙ sym (c .before .is-arc .ensures) ∙ not-true _ (c .if3 .taken) in
-    record { result = simp (lt-ltb _ _ (e .before .if1 .left), lt-ltb _ _ (e .if2 .left), arc); unchanged = λ _. refl }
-
--- src/commands.rt:50:9
-returns-4 : tie.Need-returns-4
-unfolding marked refused
-returns-4 c =
-    let e = c .before .before .before .before .before in
+unfolding refused
+returns c =
+    let a = start (c .before) .args in
+    let n = number (c .before) in
     record {
-      result = simp (lt-ltb _ _ (e .before .if1 .left), lt-ltb _ _ (e .if2 .left), arc (c .before), length-history, le-leb _ _ (c .if4 .taken));
+      result = rw (mark-refused (a .mark) (a .tail) (a .head) (model-of (a .t1)) (λ z. c .if1 .taken (n ∙ z)), ← n);
       unchanged = λ _. refl;
     }
 
--- src/commands.rt:55:14
 mul-i : tie.Need-mul-i
-mul-i c = search needs
+mul-i c = omega (arith, arc c)
 
--- src/commands.rt:55:14
 add-i : tie.Need-add-i
-add-i c = search needs
+add-i c = omega (arith, arc c)
 
--- src/commands.rt:55:13
 cast-i : tie.Need-cast-i
 cast-i c = search needs
 
--- src/commands.rt:56:15
 element-copy-out-old : tie.Need-element-copy-out-old
-element-copy-out-old c = search needs
+element-copy-out-old c = omega (arith, arc c)
 
--- src/commands.rt:59:34
+cast-t20 : tie.Need-cast-t20
+cast-t20 c = omega (arith, arc (c .before))
+
 cast-t23 : tie.Need-cast-t23
-cast-t23 c = search needs
+cast-t23 c = omega (arith, arc (c .before))
 
--- src/commands.rt:59:46
-cast-t25 : tie.Need-cast-t25
-cast-t25 c = search needs
+recorded-requires : tie.Need-recorded-requires
+recorded-requires c κs =
+    let b = start (c .before .before) .args .t1 in
+    rw (length-history (b .count) (b .records)) at (allowed (c .before) .few)
 
--- src/commands.rt:58:5
-mul-t28 : tie.Need-mul-t28
-mul-t28 c = search needs
-
--- src/commands.rt:58:5
-element-set-from-next : tie.Need-element-set-from-next
-element-set-from-next c = search needs
-
--- src/commands.rt:61:18
-add-next : tie.Need-add-next
-add-next c = search needs
-
--- src/commands.rt:62:5
 element-write-next : tie.Need-element-write-next
-element-write-next c = search needs
+element-write-next c = omega (arith, arc (c .before .before))
 
--- src/commands.rt:24:1
-returns-5 : tie.Need-returns-5
-unfolding marked accepted with-mark mark
-returns-5 c =
-    let e = c .before .before .before .before .before .before in
-    let s = e .before .before in
-    let a = s .args in
-    let b = a .t1 in
-    let k = known b _ (s .good .0) in
-    let h : b .count < length (b .records) = omega (arith, k) in
+returns-2 : tie.Need-returns-2
+unfolding accepted with-mark mark
+returns-2 c =
+    let e = c .before .before in
+    let a = start (e .before) .args in
+    let g = c .recorded .ensures in
     record {
-      result = simp (
-        lt-ltb _ _ (e .before .if1 .left),
-        lt-ltb _ _ (e .if2 .left),
-        arc (c .before .before),
-        length-history,
-        lt-leb _ _ (c .before .if4 .left),
-        history-more (b .count) (b .records) (record { replaced = Mark (a .tail) (a .head) (getD (b .marks) (32 * a .tail + a .head) 0) }) h,
-      );
+      result = rw (mark-accepted (a .mark) (a .tail) (a .head) (model-of (a .t1)) (sym (number (e .before)) ∙ e .if1 .left))
+          (λ i. record { answer = 0; board = record { instance = with-mark (a .mark) (a .tail) (a .head) (g .instance i); history = g .history i } });
       unchanged = λ z. absurd (z refl);
     }
 
@@ -124,19 +89,14 @@ pub set-mark-spec : {M : Type 1} → statement M
 set-mark-spec =
     tie.close
     (tie.spec
+    mark-refusal-requires
     returns
-    returns-2
-    is-arc-requires
-    returns-3
-    returns-4
     mul-i
     add-i
     cast-i
     element-copy-out-old
+    cast-t20
     cast-t23
-    cast-t25
-    mul-t28
-    element-set-from-next
-    add-next
+    recorded-requires
     element-write-next
-    returns-5)
+    returns-2)

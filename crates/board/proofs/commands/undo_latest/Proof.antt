@@ -1,41 +1,34 @@
-use mathlib.Core.Path.{_≡_, refl}
-use Prim.Native.Nat.{_-_, _<_, _≤_}
+-- `undo_latest` restores the record under the count, which is the first of the history, and counts it no more. Assumes nothing.
+use mathlib.Core.Path.{refl}
+use Prim.Native.Nat.{_-_, _≤_}
 use native.Mathlib.Omega.{arith}
+use borrow.Author.Needs.{needs}
 use Rattle.board.specs.Model.{undone, refused, record-ok}
 use Rattle.board.specs.ModelOf.{model-of, instance-of, history-of}
 use Rattle.board.proofs.AllOfLaws.{all-of-first}
 use Rattle.board.proofs.ValidLaws.{valid-parts}
 use Rattle.board.proofs.BoardLaws.{length-history, history-none, history-step}
-use borrow.Author.Needs.{needs}
 use Rattle.board.proofs.commands.undo_latest.Statement.{statement}
 use Rattle.board.proofs.commands.undo_latest.Tie as tie
-use Rattle.board.proofs.commands.undo_latest.Reads as reads
-use Rattle.board.proofs.commands.undo_latest.Lts as lts
-use Rattle.board.proofs.commands.restored.Reads as restored-reads
 
 few : (s : tie.Start) → s .args .t1 .count ≤ 200
 few s = let b = s .args .t1 in rw (length-history (b .count) (b .records)) at (valid-parts (model-of b) (s .pre) .few)
 
--- src/commands.rt:121:9
 returns : tie.Need-returns
 unfolding undone refused
 returns c =
     let b = c .before .args .t1 in
     record { result = rw (history-none (b .count) (b .records) (c .if1 .taken)); unchanged = λ _. refl }
 
--- src/commands.rt:126:23
 sub-e : tie.Need-sub-e
 sub-e c = search needs
 
--- src/commands.rt:126:13
 mul-e : tie.Need-mul-e
 mul-e c = omega (arith, few (c .before))
 
--- src/commands.rt:126:13
 element-copy-out-e : tie.Need-element-copy-out-e
 element-copy-out-e c = omega (arith, few (c .before))
 
--- src/commands.rt:128:9
 restored-requires : tie.Need-restored-requires
 restored-requires c κs =
     let s = c .before .before in
@@ -43,11 +36,9 @@ restored-requires c κs =
     let v = valid-parts (model-of b) (s .pre) in
     (v .n-high, all-of-first (record-ok (instance-of b)) _ _ (rw (history-step (b .count) (b .records) (omega arith)) at (v .records-ok)))
 
--- src/commands.rt:129:18
 sub-next : tie.Need-sub-next
 sub-next c = search needs
 
--- src/commands.rt:115:1
 returns-2 : tie.Need-returns-2
 unfolding undone
 returns-2 c =

@@ -1,16 +1,12 @@
-use Rattle.board.specs.ModelOf.{blank}
+-- `blank_board` is a new board of zeros. Assumes nothing.
 use borrow.Author.Needs.{needs}
+use Rattle.board.specs.ModelOf.{blank}
 use Rattle.board.proofs.create.blank_board.Statement.{statement}
 use Rattle.board.proofs.create.blank_board.Tie as tie
-use Rattle.board.proofs.create.blank_board.Reads as reads
-use Rattle.board.proofs.create.blank_board.Lts as lts
-use Rattle.board.proofs.create.new_board.Reads as new-board-reads
 
--- src/create.rt:29:5
 new-board-requires : tie.Need-new-board-requires
 new-board-requires c κs = search needs
 
--- src/create.rt:26:1
 returns : tie.Need-returns
 unfolding blank
 returns c = c .new-board .ensures .board

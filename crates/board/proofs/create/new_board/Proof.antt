@@ -1,12 +1,10 @@
+-- `new_board` is the board of these fields with no record. Assumes nothing.
 use mathlib.Core.Path.{refl}
 use Rattle.board.specs.Model.{opened}
 use Rattle.board.specs.ModelOf.{board-with, history-of}
 use Rattle.board.proofs.create.new_board.Statement.{statement}
 use Rattle.board.proofs.create.new_board.Tie as tie
-use Rattle.board.proofs.create.new_board.Reads as reads
-use Rattle.board.proofs.create.new_board.Lts as lts
 
--- src/create.rt:8:1
 returns : tie.Need-returns
 unfolding board-with opened history-of
 returns c = record { board = refl; model = refl }

@@ -1,26 +1,21 @@
+-- `can_be_arc` is the definition, test by test. Assumes nothing.
 use borrow.Author.Tests.{lt-ltb, le-ltb, eq-eqb, ne-eqb}
 use Rattle.instance.specs.Instance.{can-be-arc}
 use Rattle.board.proofs.valid.can_be_arc.Statement.{statement}
 use Rattle.board.proofs.valid.can_be_arc.Tie as tie
-use Rattle.board.proofs.valid.can_be_arc.Reads as reads
-use Rattle.board.proofs.valid.can_be_arc.Lts as lts
 
--- src/valid.rt:35:9
 returns : tie.Need-returns
 unfolding can-be-arc
 returns c = simp (le-ltb _ _ (c .if1 .taken))
 
--- src/valid.rt:38:9
 returns-2 : tie.Need-returns-2
 unfolding can-be-arc
 returns-2 c = simp (lt-ltb _ _ (c .before .if1 .left), le-ltb _ _ (c .if2 .taken))
 
--- src/valid.rt:41:9
 returns-3 : tie.Need-returns-3
 unfolding can-be-arc
 returns-3 c = simp (lt-ltb _ _ (c .before .before .if1 .left), lt-ltb _ _ (c .before .if2 .left), eq-eqb _ _ (c .if3 .taken))
 
--- src/valid.rt:31:1
 returns-4 : tie.Need-returns-4
 unfolding can-be-arc
 returns-4 c = simp (lt-ltb _ _ (c .before .before .if1 .left), lt-ltb _ _ (c .before .if2 .left), ne-eqb _ _ (c .if3 .left))

@@ -1,3 +1,4 @@
+-- `cells_valid` judges every cell, from the last down. The invariant: the cells below k decide. Assumes nothing.
 use mathlib.Core.Path.{_≡_, refl, sym, _∙_}
 use Prim.Native.Nat.{_≤_}
 use native.Mathlib.Omega.{arith}
@@ -8,9 +9,6 @@ use Rattle.instance.specs.Valid.{cell-valid}
 use Rattle.board.specs.ModelOf.{instance-with}
 use Rattle.board.proofs.valid.cells_valid.Statement.{statement}
 use Rattle.board.proofs.valid.cells_valid.Tie as tie
-use Rattle.board.proofs.valid.cells_valid.Reads as reads
-use Rattle.board.proofs.valid.cells_valid.Lts as lts
-use Rattle.board.proofs.valid.cell_valid.Reads as cell-valid-reads
 
 abbrev Inv-loop : tie.InvT-loop
 Inv-loop weights marks n root k₀ k =
@@ -20,35 +18,28 @@ Inv-loop weights marks n root k₀ k =
 abbrev μ-loop : tie.MeasureT-loop
 μ-loop weights marks n root k₀ k = k
 
--- src/valid.rt:91:5
 loop-holds : tie.Need-loop-holds Inv-loop μ-loop
 loop-holds c = (omega arith, refl)
 
--- src/valid.rt:92:9
 sub-k : tie.Need-sub-k Inv-loop μ-loop
 sub-k c = omega arith
 
--- src/valid.rt:93:13
 cell-valid-requires : tie.Need-cell-valid-requires Inv-loop μ-loop
 cell-valid-requires c κs = (omega arith, c .before .before .pre)
 
--- src/valid.rt:94:13
 returns : tie.Need-returns Inv-loop μ-loop
 returns c =
     let l = c .before .before .before .loop in
     sym (l .inv .1 ∙ all-fail (l .k) _ (c .before .before .loop-test .taken) (sym (c .before .cell-valid .ensures) ∙ not-true _ (c .if1 .taken)))
 
--- src/valid.rt:91:5
 loop-less : tie.Need-loop-less Inv-loop μ-loop
 loop-less c = omega arith
 
--- src/valid.rt:91:5
 loop-again : tie.Need-loop-again Inv-loop μ-loop
 loop-again c =
     let l = c .before .before .before .loop in
     (omega arith, l .inv .1 ∙ all-pass (l .k) _ (c .before .before .loop-test .taken) (sym (c .before .cell-valid .ensures) ∙ not-false _ (c .if1 .left)))
 
--- src/valid.rt:86:1
 returns-2 : tie.Need-returns-2 Inv-loop μ-loop
 returns-2 c =
     let z : c .before .loop .k ≡ 0 = omega arith in

@@ -1,26 +1,21 @@
+-- `header_valid` is the definition, test by test. Assumes nothing.
 use borrow.Author.Tests.{lt-ltb, le-ltb, le-leb, lt-leb}
 use Rattle.instance.specs.Valid.{header-valid}
 use Rattle.board.proofs.valid.header_valid.Statement.{statement}
 use Rattle.board.proofs.valid.header_valid.Tie as tie
-use Rattle.board.proofs.valid.header_valid.Reads as reads
-use Rattle.board.proofs.valid.header_valid.Lts as lts
 
--- src/valid.rt:138:9
 returns : tie.Need-returns
 unfolding header-valid
 returns c = simp (lt-leb _ _ (c .if1 .taken))
 
--- src/valid.rt:141:9
 returns-2 : tie.Need-returns-2
 unfolding header-valid
 returns-2 c = simp (le-leb _ _ (c .before .if1 .left), lt-leb _ _ (c .if2 .taken))
 
--- src/valid.rt:144:9
 returns-3 : tie.Need-returns-3
 unfolding header-valid
 returns-3 c = simp (le-leb _ _ (c .before .before .if1 .left), le-leb _ _ (c .before .if2 .left), le-ltb _ _ (c .if3 .taken))
 
--- src/valid.rt:134:1
 returns-4 : tie.Need-returns-4
 unfolding header-valid
 returns-4 c = simp (le-leb _ _ (c .before .before .if1 .left), le-leb _ _ (c .before .if2 .left), lt-ltb _ _ (c .if3 .left))

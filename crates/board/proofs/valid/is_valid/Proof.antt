@@ -1,7 +1,8 @@
+-- `is_valid` is the definition: each test that fails decides, and the records decide last. Assumes nothing.
 use mathlib.Core.Path.{_≡_, sym, _∙_}
-use mathlib.Core.Bool.{true, false}
-use Prim.Native.Nat.{_≤_}
+use mathlib.Core.Bool.{true}
 use borrow.Author.Tests.{not-true, not-false}
+use borrow.Author.Needs.{needs}
 use Rattle.base.specs.Bounded.{all-below}
 use Rattle.instance.specs.Valid.{header-valid, cell-valid}
 use Rattle.board.specs.Model.{with-budget}
@@ -10,14 +11,8 @@ use Rattle.board.specs.declared.Board.{Board}
 use Rattle.board.proofs.ArcLaws.{cells-valid-of}
 use Rattle.board.proofs.ValidLaws.{header-n-high, bad-header, bad-cell, bad-count, only-records}
 use Rattle.board.proofs.BoardLaws.{length-history}
-use borrow.Author.Needs.{needs}
 use Rattle.board.proofs.valid.is_valid.Statement.{statement}
 use Rattle.board.proofs.valid.is_valid.Tie as tie
-use Rattle.board.proofs.valid.is_valid.Reads as reads
-use Rattle.board.proofs.valid.is_valid.Lts as lts
-use Rattle.board.proofs.valid.cells_valid.Reads as cells-valid-reads
-use Rattle.board.proofs.valid.header_valid.Reads as header-valid-reads
-use Rattle.board.proofs.valid.records_valid.Reads as records-valid-reads
 
 abbrev board : (c : tie.Else1) → Board
 board c = c .before .before .args .t1
@@ -31,19 +26,15 @@ cells-ok c =
     let b = board (c .before .before .before .before .before) in
     sym (cells-valid-of (instance-of b) 0) ∙ sym (c .before .cells-valid .ensures) ∙ not-false _ (c .if2 .left)
 
--- src/valid.rt:157:9
 header-valid-requires : tie.Need-header-valid-requires
 header-valid-requires c κs = search needs
 
--- src/valid.rt:158:9
 returns : tie.Need-returns
 returns c = bad-header (model-of (c .before .before .args .t1)) (sym (c .before .header-valid .ensures) ∙ not-true _ (c .if1 .taken))
 
--- src/valid.rt:160:9
 cells-valid-requires : tie.Need-cells-valid-requires
 cells-valid-requires c κs = search needs
 
--- src/valid.rt:161:9
 returns-2 : tie.Need-returns-2
 unfolding with-budget
 returns-2 c =
@@ -51,21 +42,18 @@ returns-2 c =
     let b = board e in
     bad-cell (model-of b) (header-ok e) (sym (cells-valid-of (instance-of b) 0) ∙ sym (c .before .cells-valid .ensures) ∙ not-true _ (c .if2 .taken))
 
--- src/valid.rt:164:9
 returns-3 : tie.Need-returns-3
 returns-3 c =
     let e = c .before .before .before .before .before .before in
     let b = board e in
     bad-count (model-of b) (header-ok e) (cells-ok (c .before)) (rw (length-history (b .count) (b .records)) (c .if3 .taken))
 
--- src/valid.rt:166:5
 records-valid-requires : tie.Need-records-valid-requires
 records-valid-requires c κs =
     let e = c .before .before .before .before .before .before in
     let b = board e in
     (header-n-high (b .n) (b .root) (b .budget) (header-ok e), c .if3 .left)
 
--- src/valid.rt:150:1
 returns-4 : tie.Need-returns-4
 returns-4 c =
     let e = c .before .before .before .before .before .before .before in

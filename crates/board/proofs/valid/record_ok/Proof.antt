@@ -1,42 +1,32 @@
-use Rattle.board.specs.Model.{record-ok}
+-- `record_ok` is the definition, by what was replaced. Assumes nothing.
 use borrow.Author.Needs.{needs}
+use Rattle.board.specs.Model.{record-ok}
 use Rattle.board.proofs.valid.record_ok.Statement.{statement}
 use Rattle.board.proofs.valid.record_ok.Tie as tie
-use Rattle.board.proofs.valid.record_ok.Reads as reads
-use Rattle.board.proofs.valid.record_ok.Lts as lts
-use Rattle.board.proofs.valid.is_arc.Reads as is-arc-reads
 
--- src/valid.rt:105:24
 enum-known-replaced : tie.Need-enum-known-replaced
 enum-known-replaced c = search needs
 
--- src/valid.rt:106:41
 cast-is-arc : tie.Need-cast-is-arc
 cast-is-arc c = search needs
 
--- src/valid.rt:106:54
 cast-is-arc-2 : tie.Need-cast-is-arc-2
 cast-is-arc-2 c = search needs
 
--- src/valid.rt:106:16
 is-arc-requires : tie.Need-is-arc-requires
 is-arc-requires c κs = search needs
 
--- src/valid.rt:112:26
 enum-known-replaced-2 : tie.Need-enum-known-replaced-2
 enum-known-replaced-2 c = search needs
 
--- src/valid.rt:100:1
 returns : tie.Need-returns
 unfolding record-ok
 returns c = rw (c .before .before .before .replaced .given .1) (simp (← c .before .is-arc .ensures, c .if1 .taken))
 
--- src/valid.rt:100:1
 returns-2 : tie.Need-returns-2
 unfolding record-ok
 returns-2 c = rw (c .before .before .before .replaced .given .1) (simp (← c .before .is-arc .ensures, c .if1 .left))
 
--- src/valid.rt:100:1
 returns-3 : tie.Need-returns-3
 unfolding record-ok
 returns-3 c = rw (c .before .replaced2 .given .1)

@@ -1,3 +1,4 @@
+-- `records_valid` judges every record of the history, the latest first. The invariant: the first k records decide. Assumes nothing.
 use mathlib.Core.Path.{_≡_, refl, sym, _∙_}
 use mathlib.Core.Bool.{true, false}
 use Prim.Native.Nat.{_≤_}
@@ -5,14 +6,11 @@ use native.Mathlib.Omega.{arith}
 use borrow.Author.Tests.{not-true, not-false}
 use Rattle.base.specs.Lists.{all-of}
 use Rattle.board.specs.Model.{record-ok}
-use Rattle.board.specs.ModelOf.{instance-of, history-of, replaced-of}
+use Rattle.board.specs.ModelOf.{instance-of, history-of}
 use Rattle.board.proofs.ArcLaws.{record-ok-of}
 use Rattle.board.proofs.BoardLaws.{history-all, history-fail, history-pass, known}
 use Rattle.board.proofs.valid.records_valid.Statement.{statement}
 use Rattle.board.proofs.valid.records_valid.Tie as tie
-use Rattle.board.proofs.valid.records_valid.Reads as reads
-use Rattle.board.proofs.valid.records_valid.Lts as lts
-use Rattle.board.proofs.valid.record_ok.Reads as record-ok-reads
 
 abbrev Inv-loop : tie.InvT-loop
 Inv-loop b n root k₀ k =
@@ -21,29 +19,23 @@ Inv-loop b n root k₀ k =
 abbrev μ-loop : tie.MeasureT-loop
 μ-loop b n root k₀ k = k
 
--- src/valid.rt:123:5
 loop-holds : tie.Need-loop-holds Inv-loop μ-loop
 loop-holds c = (omega arith, refl)
 
--- src/valid.rt:124:9
 sub-k : tie.Need-sub-k Inv-loop μ-loop
 sub-k c = omega arith
 
--- src/valid.rt:125:17
 mul-e : tie.Need-mul-e Inv-loop μ-loop
 mul-e c = omega arith
 
--- src/valid.rt:125:17
 element-copy-out-e : tie.Need-element-copy-out-e Inv-loop μ-loop
 element-copy-out-e c = omega arith
 
--- src/valid.rt:127:13
 record-ok-requires : tie.Need-record-ok-requires Inv-loop μ-loop
 record-ok-requires c κs =
     let s = c .before .before .before .before .before in
     (s .pre .0, known (s .args .t1) _ (s .good .0) .weights-long)
 
--- src/valid.rt:128:13
 returns : tie.Need-returns Inv-loop μ-loop
 returns c =
     let l = c .before .before .before .before .before .before .loop in
@@ -52,11 +44,9 @@ returns c =
     sym (record-ok-of (instance-of b) _) ∙ sym (c .before .record-ok .ensures) ∙ not-true _ (c .if1 .taken) in
     sym (l .inv .1 ∙ history-fail (record-ok (instance-of b)) (b .records) (l .k) (c .before .before .before .before .before .loop-test .taken) q)
 
--- src/valid.rt:123:5
 loop-less : tie.Need-loop-less Inv-loop μ-loop
 loop-less c = omega arith
 
--- src/valid.rt:123:5
 loop-again : tie.Need-loop-again Inv-loop μ-loop
 loop-again c =
     let l = c .before .before .before .before .before .before .loop in
@@ -65,7 +55,6 @@ loop-again c =
     sym (record-ok-of (instance-of b) _) ∙ sym (c .before .record-ok .ensures) ∙ not-false _ (c .if1 .left) in
     (omega arith, l .inv .1 ∙ history-pass (record-ok (instance-of b)) (b .records) (l .k) (c .before .before .before .before .before .loop-test .taken) q)
 
--- src/valid.rt:116:1
 returns-2 : tie.Need-returns-2 Inv-loop μ-loop
 returns-2 c =
     let b = c .before .before .args .t1 in
