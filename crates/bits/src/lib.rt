@@ -17,7 +17,8 @@ pub fn read_bits(bytes: &[u8], at: usize, width: usize) -> u32
     ensures { λ r. ⌜ r ≡ field at width (bits-in (now (bytes .entry))) ⌝ }
 {
     let first = at / 8;
-    let end = at % 8 + width;
+    let before = at % 8;
+    let end = before + width;
     let count = (end + 7) / 8;
     let mut value: u64 = 0;
     let mut k: usize = 0;

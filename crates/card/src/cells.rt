@@ -1,4 +1,5 @@
 // The cells of a card, read and judged.
+use crate::limits;
 ghost use mathlib.Core.Path.{_≡_};
 ghost use Prim.Native.Nat.{_*_, _≤_, _<_};
 ghost use lib.ListN.{length};
@@ -6,10 +7,6 @@ ghost use Rattle.bits.specs.Bits.{bits-in};
 ghost use Rattle.card.specs.Card.{on-card, cell-refusal};
 ghost use Rattle.card.specs.Offsets.{offset};
 ghost use Rattle.card.specs.Reading.{Cell-read, Cells-read};
-
-const MAX_WEIGHT: u32 = 1000000;
-
-const NO_ARC: u32 = 1048575;
 
 // Whether cell `i` is on the card: its tail and head are vertices, differ, and the head is not the root.
 pub fn on_card(n: u32, root: u32, i: usize) -> bool
@@ -52,7 +49,7 @@ fn read_cell(card: &[u8], n: u32, root: u32, i: usize, at: usize) -> Cell
         };
     }
     Cell {
-        weight: NO_ARC,
+        weight: limits::NO_ARC,
         mark: 0,
         next: at,
     }
@@ -62,13 +59,13 @@ fn read_cell(card: &[u8], n: u32, root: u32, i: usize, at: usize) -> Cell
 fn judge_cell(weight: u32, mark: u8) -> u32
     ensures { λ r. ⌜ r ≡ cell-refusal weight mark ⌝ }
 {
-    if weight <= MAX_WEIGHT {
+    if weight <= limits::MAX_WEIGHT {
         if mark == 3 {
             return 7;
         }
         return 0;
     }
-    if weight == NO_ARC {
+    if weight == limits::NO_ARC {
         if mark == 0 {
             return 0;
         }
@@ -90,7 +87,7 @@ pub fn read_cells(card: &[u8], n: u32, root: u32) -> Cells
     requires { ⌜ (offset n root 1024 ≤ 8 * length (now card)) × (offset n root 1024 ≤ 65536) ⌝ }
     ensures { λ r. ⌜ Cells-read (bits-in (now (card .entry))) n root r ⌝ }
 {
-    let mut weights = [NO_ARC; 1024];
+    let mut weights = [limits::NO_ARC; 1024];
     let mut marks = [0u8; 1024];
     let mut end: usize = 36;
     let mut i: usize = 0;

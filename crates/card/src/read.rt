@@ -1,14 +1,11 @@
 // A card of any bytes, read or refused.
 use crate::cells;
 use crate::lengths;
+use crate::limits;
 ghost use mathlib.Core.Path.{_≡_};
 ghost use Rattle.card.specs.Reading.{header-of, blank as blank-contents, contents-of};
 
-const MAX_VERTICES: u32 = 32;
-
-const MAX_BUDGET: u32 = 31000000;
-
-// What stands before the cells, or a refusal.
+// The fields before the cells, or a refusal.
 pub struct Header {
     pub refusal: u32,
     pub n: u32,
@@ -38,7 +35,7 @@ fn read_header(card: &[u8]) -> Header
     if n == 0 {
         return no_header(2);
     }
-    if MAX_VERTICES < n {
+    if limits::MAX_VERTICES < n {
         return no_header(2);
     }
     if card.len() != lengths::needed_length(n) {
@@ -49,7 +46,7 @@ fn read_header(card: &[u8]) -> Header
         return no_header(4);
     }
     let budget = bits::read_bits(card, 11, 25);
-    if MAX_BUDGET < budget {
+    if limits::MAX_BUDGET < budget {
         return no_header(5);
     }
     Header {
@@ -78,7 +75,7 @@ fn blank(refusal: u32) -> Contents
         n: 0,
         root: 0,
         budget: 0,
-        weights: [1048575u32; 1024],
+        weights: [limits::NO_ARC; 1024],
         marks: [0u8; 1024],
     }
 }

@@ -3,7 +3,7 @@ use crate::cells;
 use crate::lengths;
 use bits::BitWriter;
 ghost use mathlib.Core.Path.{_≡_};
-ghost use Prim.Native.Nat.{_+_, _*_, _≤_, _<_};
+ghost use Prim.Native.Nat.{_*_, _≤_, _<_};
 ghost use lib.ListN.{length};
 ghost use Rattle.bits.specs.Writer.{Ready, Put};
 ghost use Rattle.card.specs.Card.{cell-bits};
@@ -43,13 +43,13 @@ fn put_cell(
     w
 }
 
-fn put_cells(
+fn put_cells<'a>(
     out: &mut [u8],
     start: BitWriter,
     n: u32,
     root: u32,
-    weights: &[u32; 1024],
-    marks: &[u8; 1024],
+    weights: &'a [u32; 1024],
+    marks: &'a [u8; 1024],
 ) -> BitWriter
     requires { ⌜ (length (now weights) ≡ 1024) × (length (now marks) ≡ 1024) ⌝ }
     requires { ⌜ Ready (now out) start (length (cell-bits 1024 0 (instance-of n root 0 (now weights) (now marks)))) ⌝ }
@@ -70,7 +70,8 @@ pub struct Written {
     pub length: usize,
 }
 
-// Writes the card of the instance that the arguments make up; bytes behind it are kept.
+// Writes the card of the instance that the arguments make up; bytes behind it stay. (One lifetime, so that two fields of
+// one struct can be lent.)
 pub fn write_instance<'a>(
     n: u32,
     root: u32,

@@ -12,10 +12,10 @@ use Rattle.bits.proofs.read_bits.Statement.{statement}
 use Rattle.bits.proofs.read_bits.Tie as tie
 
 abbrev Inv-loop : tie.InvT-loop
-Inv-loop bytes at width first end count value₀ k₀ value k = (k ≤ count) × (value ≡ field (8 * first) (8 * k) (bits-in bytes))
+Inv-loop bytes at width first before end count value₀ k₀ value k = (k ≤ count) × (value ≡ field (8 * first) (8 * k) (bits-in bytes))
 
 abbrev μ-loop : tie.MeasureT-loop
-μ-loop bytes at width first end count value₀ k₀ value k = count - k
+μ-loop bytes at width first before end count value₀ k₀ value k = count - k
 
 add-end : tie.Need-add-end Inv-loop μ-loop
 add-end c = omega arith
