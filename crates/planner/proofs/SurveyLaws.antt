@@ -7,13 +7,13 @@ use Prim.Native.Nat.{ℕ, zero, suc, _+_, _*_, _-_, _/_, _%_, _≤_, _<_}
 use native.Mathlib.Omega.{arith}
 use lib.Dec.{ltb, leb, eqb}
 use lib.ListN.{length, getD, set, take, drop, replicate}
-use borrow.Author.Tests.{leb-true, leb-false, eqb-true}
+use borrow.Author.Tests.{ltb-true, leb-true, eqb-true}
 use Rattle.base.specs.Bounded.{all-below}
 use Rattle.base.specs.Lists.{tabulate}
 use Rattle.base.proofs.Tests.{test, and-left, and-right}
 use Rattle.base.proofs.BoundedLaws.{all-at}
 use Rattle.base.proofs.ListLaws.{length-tabulate, getD-tabulate, default}
-use Rattle.instance.specs.Limits.{max-weight, no-arc, no-parent, cells, cut-words}
+use Rattle.instance.specs.Limits.{max-vertices, max-weight, max-budget, no-arc, no-parent, cells, cut-words}
 use Rattle.instance.specs.Instance.{Instance, cell, weight, weight-at, mark, mark-at, can-be-arc, is-arc}
 use Rattle.instance.specs.Arborescence.{is-pinned, other-pinned, remaining, is-arborescence, total}
 use Rattle.instance.specs.Cuts.{Cut, cuts-from, cuts-in, values, Feasible, Proves, No-entry, reduced-cost}
@@ -35,6 +35,31 @@ use Rattle.planner.specs.declared.View.the-variants.{Plan, Over, NoTree,
 use Rattle.planner.specs.declared.survey.Survey.{Survey}
 use Rattle.planner.specs.Look.{view, pairs, Parents-shown, Cuts-shown}
 use Rattle.planner.specs.Survey.{Surveys}
+
+-- THE RANGES of a valid instance
+pub record Ranges (s : Instance) : Type 0 where
+  pub n-low : 1 ≤ s .n
+  pub n-high : s .n ≤ 32
+  pub root-in : s .root < s .n
+  pub budget-in : s .budget ≤ max-budget
+  pub cells-ok : all-below cells (cell-valid s) ≡ true
+
+pub ranges : (s : Instance) → valid-instance s ≡ true → Ranges s
+unfolding valid-instance header-valid
+ranges s v =
+    let A = leb 1 (s .n) in
+    let B = leb (s .n) max-vertices in
+    let C = ltb (s .root) (s .n) in
+    let D = leb (s .budget) max-budget in
+    let h = and-left ((A && B) && (C && D)) (all-below cells (cell-valid s)) v in
+    let l = and-left (A && B) (C && D) h in
+    let r = and-right (A && B) (C && D) h in
+    record {
+      n-low = leb-true 1 (s .n) (and-left A B l);
+      n-high = leb-true (s .n) max-vertices (and-right A B l);
+      root-in = ltb-true (s .root) (s .n) (and-left C D r);
+      budget-in = leb-true (s .budget) max-budget (and-right C D r);
+      cells-ok = and-right ((A && B) && (C && D)) (all-below cells (cell-valid s)) v }
 
 -- THE MATRIX
 -- it does not read the budget
@@ -69,9 +94,9 @@ matrix-weights s v i l =
 
 -- LISTS OF ONE NUMBER
 drop-replicate : (k m x : ℕ) → drop k (replicate m x) ≡ replicate (m - k) x
-drop-replicate zero m x = ap (λ (j : ℕ). replicate j x) (omega arith)
-drop-replicate (suc k) zero x = ap (λ (j : ℕ). replicate j x) (omega arith)
-drop-replicate (suc k) (suc m) x = drop-replicate k m x ∙ ap (λ (j : ℕ). replicate j x) (omega arith)
+drop-replicate zero m x = let e : m ≡ m - 0 = omega arith in ap (λ (j : ℕ). replicate j x) e
+drop-replicate (suc k) zero x = let e : 0 ≡ 0 - suc k = omega arith in ap (λ (j : ℕ). replicate j x) e
+drop-replicate (suc k) (suc m) x = let e : m - k ≡ suc m - suc k = omega arith in drop-replicate k m x ∙ ap (λ (j : ℕ). replicate j x) e
 
 take-replicate : (k m x : ℕ) → k ≤ m → take k (replicate m x) ≡ replicate k x
 take-replicate zero m x h = refl
@@ -133,6 +158,7 @@ module _ (s : Instance) (small : s .n ≤ 32) (reduced words ps : List ℕ) (fou
     -- within the budget
     pub fitting-plan : (v : ℕ) → s .root < s .n → Weights (matrix s) → v ≡ total level (take (s .n) ps) → v ≤ s .budget → s .budget ≤ 31000000 →
         Fitting-plan (s .n) (s .root) (matrix s) reduced ps v (s .budget)
+    unfolding unmarked
     fitting-plan v r w e within most =
         record {
           tree = level-tree r w;
@@ -145,9 +171,11 @@ module _ (s : Instance) (small : s .n ≤ 32) (reduced words ps : List ℕ) (fou
                 costs =
                     λ t h x.
                       let b = remaining-ends level t h x in
-                      default reduced (cell t h) 0 no-arc (omega (arith, p .matrix-size, b .tail-below, b .head-below))
+                      let lt : t < s .n = b .tail-below in
+                      let lh : h < s .n = b .head-below in
+                      default reduced (cell t h) 0 no-arc (omega (arith, p .matrix-size))
                       ∙ ap (λ (l : List ℕ). getD l (cell t h) no-arc) (p .reduced f)
-                      ∙ reduced-arc level cs t h (omega (arith, b .tail-below)) (omega (arith, b .head-below)) x };
+                      ∙ reduced-arc level cs t h (omega arith) (omega arith) x };
           within = within;
           most = most }
 

@@ -1,0 +1,147 @@
+-- The matrix of what remains is planned; each outcome is told of the instance by its law. Assumes nothing.
+use mathlib.Core.Path.{_≡_, refl, sym, ap, _∙_, subst}
+use mathlib.Core.Bool.{Bool, true, false}
+use mathlib.Core.List.{List, []}
+use Prim.Native.Nat.{ℕ}
+use native.Mathlib.Omega.{arith}
+use lib.ListN.{length, take, replicate}
+use borrow.Author.Needs.{needs}
+use borrow.Author.Tests.{not-true, not-false}
+use Rattle.instance.specs.Instance.{Instance}
+use Rattle.instance.specs.Arborescence.{total}
+use Rattle.instance.specs.Matrix.{matrix, unmarked}
+use Rattle.edmonds.specs.Planned.{Weights, Planned-matrix}
+use Rattle.states.specs.Fields.{fields}
+use Rattle.states.specs.Judge.{Fitting-plan}
+use Rattle.states.specs.Table.{Usable-table}
+use Rattle.states.specs.Tree.{Matrix-tree}
+use Rattle.planner.specs.declared.survey.Survey.{Survey}
+use Rattle.planner.specs.Survey.{Surveys}
+use Rattle.planner.proofs.SurveyLaws.{Ranges, ranges, matrix-budget, matrix-size, matrix-weights, none-survey, level-tree, over-survey, fitting-plan, plan-survey}
+use Rattle.planner.proofs.survey.plan_instance.Statement.{statement}
+use Rattle.planner.proofs.survey.plan_instance.Tie as tie
+
+-- AT THE START: the instance and its ranges
+abbrev inst : tie.Start → Instance
+inst c = fields (c .args .n) (c .args .root) (c .args .budget) (c .args .weights .now) (c .args .marks .now)
+
+in-range : (c : tie.Start) → Ranges (inst c)
+in-range c = ranges (inst c) (c .pre .0)
+
+-- AFTER THE MATRIX IS MADE
+abbrev made : (c : tie.After-remaining-matrix) → List ℕ
+made c = c .remaining-matrix .result
+
+made-is : (c : tie.After-remaining-matrix) → made c ≡ matrix (inst (c .before))
+made-is c =
+    let a = c .before .args in
+    c .remaining-matrix .ensures ∙ matrix-budget (a .n) (a .root) (a .budget) (a .weights .now) (a .marks .now)
+
+-- AFTER PLANNING
+abbrev start-of : tie.After-plan-matrix → tie.Start
+start-of c = c .before .before .before .before
+
+planned :
+    (c : tie.After-plan-matrix) →
+    Planned-matrix (inst (start-of c) .n) (inst (start-of c) .root) (matrix (inst (start-of c))) (c .plan-matrix .last .0) (replicate 122 0) (c .plan-matrix .last .1 .1 .1 .0)
+    (c .plan-matrix .result .found) (c .plan-matrix .result .parents) (c .plan-matrix .result .count) (c .plan-matrix .result .set)
+planned c =
+    subst
+    (λ (m : List ℕ). Planned-matrix (inst (start-of c) .n) (inst (start-of c) .root) m (c .plan-matrix .last .0) (replicate 122 0) (c .plan-matrix .last .1 .1 .1 .0)
+      (c .plan-matrix .result .found) (c .plan-matrix .result .parents) (c .plan-matrix .result .count) (c .plan-matrix .result .set))
+    (made-is (c .before .before .before)) (c .plan-matrix .ensures)
+
+remaining-matrix-requires : tie.Need-remaining-matrix-requires
+remaining-matrix-requires c κs = (in-range c .n-high, c .pre .1, c .pre .2)
+
+plan-matrix-requires : tie.Need-plan-matrix-requires
+plan-matrix-requires c κs =
+    let r = in-range (c .before .before .before) in
+    let e = made-is (c .before .before) in
+    (ap length e ∙ matrix-size (inst (c .before .before .before)), refl, r .n-high, r .root-in,
+     subst Weights (sym e) (matrix-weights (inst (c .before .before .before)) (r .cells-ok)))
+
+no-tree-requires : tie.Need-no-tree-requires
+no-tree-requires c κs = search needs
+
+returns : tie.Need-returns
+returns c =
+    let p = c .before .before .before in
+    let s = inst (start-of p) in
+    subst (Surveys s) (sym (c .no-tree .ensures))
+    (none-survey s (in-range (start-of p) .n-high) _ _ _ _ _ _ (planned p) (not-true (p .plan-matrix .result .found) (c .before .if1 .taken)))
+
+-- AN ARBORESCENCE IS FOUND
+abbrev after : tie.Else1 → tie.After-plan-matrix
+after c = c .before .before
+
+abbrev inst-of : tie.Else1 → Instance
+inst-of c = inst (start-of (after c))
+
+found : (c : tie.Else1) → after c .plan-matrix .result .found ≡ true
+found c = not-false (after c .plan-matrix .result .found) (c .if1 .left)
+
+abbrev made-of : tie.Else1 → List ℕ
+made-of c = made (after c .before .before .before)
+
+same-matrix : (c : tie.Else1) → matrix (inst-of c) ≡ made-of c
+same-matrix c = sym (made-is (after c .before .before .before))
+
+in-range-of : (c : tie.Else1) → Ranges (inst-of c)
+in-range-of c = in-range (start-of (after c))
+
+tree-total-requires : tie.Need-tree-total-requires
+tree-total-requires c κs =
+    let e = c .before .before .before in
+    let s = inst-of e in
+    let r = in-range-of e in
+    subst (λ (m : List ℕ). Matrix-tree (s .n) (s .root) m (after e .plan-matrix .result .parents)) (same-matrix e)
+    (level-tree s (r .n-high) _ _ _ _ _ _ (planned (after e)) (found e) (r .root-in) (matrix-weights s (r .cells-ok)))
+
+-- AFTER ITS TOTAL
+abbrev found-at : tie.After-tree-total → tie.Else1
+found-at c = c .before .before .before .before
+
+total-is :
+    (c : tie.After-tree-total) →
+    c .tree-total .result
+    ≡ total (unmarked (inst-of (found-at c) .n) (inst-of (found-at c) .root) (matrix (inst-of (found-at c)))) (take (inst-of (found-at c) .n) (after (found-at c) .plan-matrix .result .parents))
+total-is c =
+    let s = inst-of (found-at c) in
+    c .tree-total .ensures
+    ∙ ap (λ (m : List ℕ). total (unmarked (s .n) (s .root) m) (take (s .n) (after (found-at c) .plan-matrix .result .parents))) (sym (same-matrix (found-at c)))
+
+returns-2 : tie.Need-returns-2
+returns-2 c =
+    let e = found-at (c .before) in
+    over-survey (inst-of e) (in-range-of e .n-high) _ _ _ _ _ _ (planned (after e)) (found e) _ (total-is (c .before)) (c .if2 .taken)
+
+usable-arcs-requires : tie.Need-usable-arcs-requires
+usable-arcs-requires c κs =
+    let k = c .before .before .before in
+    let e = found-at (k .before) in
+    let s = inst-of e in
+    let r = in-range-of e in
+    subst (λ (m : List ℕ). Fitting-plan (s .n) (s .root) m (after e .plan-matrix .last .0) (after e .plan-matrix .result .parents) (k .before .tree-total .result) (s .budget)) (same-matrix e)
+    (fitting-plan s (r .n-high) _ _ _ _ _ _ (planned (after e)) (found e) _ (r .root-in) (matrix-weights s (r .cells-ok)) (total-is (k .before)) (k .if2 .left) (r .budget-in))
+
+returns-3 : tie.Need-returns-3
+returns-3 c =
+    let k = c .before .before .before .before in
+    let e = found-at (k .before) in
+    let s = inst-of e in
+    plan-survey s (in-range-of e .n-high) _ _ _ _ _ _ (planned (after e)) (found e) _ _ (total-is (k .before)) (k .if2 .left)
+    (subst (λ (m : List ℕ). Usable-table (fields (s .n) (s .root) (s .budget) m []) (c .usable-arcs .result)) (sym (same-matrix e)) (c .usable-arcs .ensures))
+
+pub plan-instance-spec : {M : Type 1} → statement M
+plan-instance-spec =
+    tie.close
+    (tie.spec
+    remaining-matrix-requires
+    plan-matrix-requires
+    no-tree-requires
+    returns
+    tree-total-requires
+    returns-2
+    usable-arcs-requires
+    returns-3)
