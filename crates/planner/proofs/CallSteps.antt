@@ -1,16 +1,13 @@
 -- One call of a list against the log: a board that is valid and tied to the log stays so, the answer is the log's, and a look between
 -- leaves of the buffers what a later look keeps. Assumes nothing.
 use mathlib.Core.Path.{_≡_, refl, sym, ap, _∙_, subst}
-use mathlib.Core.Bool.{Bool, true, false, _||_, cond, true≢false}
+use mathlib.Core.Bool.{Bool, true, false, cond, true≢false}
 use mathlib.Core.List.{List, _++_}
 use mathlib.Core.Logic.{⊎-elim}
 use Prim.Native.Nat.{ℕ, _+_, _*_, _-_, _≤_, _<_}
 use native.Mathlib.Omega.{arith}
-use lib.Dec.{ltb}
 use lib.ListN.{length, drop, length-append, length-drop}
 use lib.Seq.{drop-at}
-use borrow.Author.Tests.{ltb-false}
-use Rattle.base.proofs.Tests.{test, or-false-left, or-false-right}
 use Rattle.instance.specs.Limits.{cut-words}
 use Rattle.instance.specs.Instance.{Instance}
 use Rattle.instance.specs.States.{Outcome, plan, over, no-tree, outcome, states}
@@ -24,7 +21,8 @@ use Rattle.board.proofs.LogLaws.{Tied, step-tied}
 use Rattle.board.proofs.ValidLaws.{answered-applied}
 use Rattle.board.proofs.CallLaws.{call-board, call-answer, call-valid, call-changes}
 use Rattle.planner.specs.declared.View.{View}
-use Rattle.planner.specs.Look.{Buffers, view, pairs, answer-of, too-short, short-for, Shows, Looks-at, Looks}
+use Rattle.planner.specs.Look.{Buffers, view, pairs, answer-of, short-for, Shows, Looks-at, Looks}
+use Rattle.planner.proofs.LookLaws.{rooms}
 use Rattle.planner.specs.Replay.{Call, command, look, write, log-call, Makes}
 
 -- how the buffers stand after calls: as they were if one is too short for a look; else as long as they were, and the same after the
@@ -47,7 +45,8 @@ since-same t n old new e =
       cuts-length = ap (λ (x : Buffers). length (x .cuts)) e;
       parents-after = ap (λ (x : Buffers). drop n (x .parents)) e;
       states-after = ap (λ (x : Buffers). drop (n * n) (x .states)) e;
-      cuts-after = ap (λ (x : Buffers). drop cut-words (x .cuts)) e }
+      cuts-after = ap (λ (x : Buffers). drop cut-words (x .cuts)) e;
+    }
 
 pub since-then : {t : Bool} {n : ℕ} {x y z : Buffers} → Since t n x y → Since t n y z → Since t n x z
 since-then a b =
@@ -58,20 +57,14 @@ since-then a b =
       cuts-length = b .cuts-length ∙ a .cuts-length;
       parents-after = b .parents-after ∙ a .parents-after;
       states-after = b .states-after ∙ a .states-after;
-      cuts-after = b .cuts-after ∙ a .cuts-after }
+      cuts-after = b .cuts-after ∙ a .cuts-after;
+    }
 
 -- a shown view is no refusal
 view-answers : (o : Outcome) (k : ℕ) → answer-of (view o k) ≡ 0
 view-answers (plan v) k = refl
 view-answers (over v) k = refl
 view-answers no-tree k = refl
-
-pub room-for-states : (n : ℕ) (x : Buffers) → short-for n x ≡ false → n * n ≤ length (x .states)
-unfolding too-short
-room-for-states n x e =
-    let b = length (x .states) in
-    let c = length (x .cuts) in
-    ltb-false b (n * n) (or-false-left (ltb b (n * n)) (ltb c cut-words) (or-false-right (ltb (length (x .parents)) n) (ltb b (n * n) || ltb c cut-words) e))
 
 -- A LOOK at a valid board: 14 exactly when a buffer is too short
 pub record Look-step (t : Bool) (n : ℕ) (v : View) (old new : Buffers) : Type 0 where
@@ -96,12 +89,14 @@ module _ (s : Instance) (v : View) (old new : Buffers) (room : s .n * s .n ≤ l
               cuts-length = x .cuts-length;
               parents-after = x .parents-after;
               states-after = rw (x .states-shown) (drop-at (states s) (drop (s .n * s .n) (old .states)) (s .n * s .n) states-long);
-              cuts-after = x .cuts-after } }
+              cuts-after = x .cuts-after;
+            };
+      }
 
 look-at : (t : Bool) (s : Instance) (v : View) (old new : Buffers) → short-for (s .n) old ≡ t → Looks-at true t s v old new → Look-step t (s .n) v old new
 unfolding Looks-at
 look-at true s v old new e u = record { answer = ap answer-of (u .result); since = since-same true (s .n) old new (u .buffers) }
-look-at false s v old new e x = shown-step s v old new (room-for-states (s .n) old e) x
+look-at false s v old new e x = shown-step s v old new (rooms (s .n) (length (old .parents)) (length (old .states)) (length (old .cuts)) e .for-states) x
 
 -- what a look at a valid board says
 pub looks-valid : (b : Board) (v : View) (old new : Buffers) → valid (model-of b) ≡ true → Looks b v old new →
@@ -124,9 +119,10 @@ module _ (b : Board) (k : Log) (g : valid (model-of b) ≡ true) (y : Tied (mode
   command-step : (c : Command) (r : Answered) → Answers (answered c (model-of b)) b r → (r .answer ≡ note c k .answer) × Tied (model-of (r .board)) (note c k .log)
   command-step c r a =
       let s = step-tied c (model-of b) k y in
-      let q : answered c (model-of b) ≡ applied c (model-of b) = answered-applied c (model-of b) g in
-      (call-answer c b r a ∙ ap (λ (d : Result). d .answer) q ∙ s .same-answer,
-       rw (call-board c b r a ∙ ap (λ (d : Result). d .board) q) (s .tied))
+      let q : answered c (model-of b) ≡ applied c (model-of b) = answered-applied c (model-of b) g in (
+        call-answer c b r a ∙ ap (λ (d : Result). d .answer) q ∙ s .same-answer,
+        rw (call-board c b r a ∙ ap (λ (d : Result). d .board) q) (s .tied),
+      )
 
   pub call-step : (e : Call) (r : Answered) (old new : Buffers) → Makes e b r old new → Call-step (short-for (b .n) old) e b k r old new
   unfolding Makes log-call unnoted
@@ -137,7 +133,8 @@ module _ (b : Board) (k : Log) (g : valid (model-of b) ≡ true) (y : Tied (mode
         tied = s .1;
         good = call-valid c b r (m .0) g;
         same-n = call-changes c b r (m .0) .n;
-        since = since-same (short-for (b .n) old) (b .n) old new (m .1) }
+        since = since-same (short-for (b .n) old) (b .n) old new (m .1);
+      }
   call-step look r old new m =
       let l = look-step b (m .0) old new g (m .3) in
       record { answer = m .1 ∙ l .answer; tied = rw (m .2) y; good = rw (m .2) g; same-n = ap (λ (x : Board). x .n) (m .2); since = l .since }
@@ -147,4 +144,5 @@ module _ (b : Board) (k : Log) (g : valid (model-of b) ≡ true) (y : Tied (mode
         tied = rw (m .1) y;
         good = rw (m .1) g;
         same-n = ap (λ (x : Board). x .n) (m .1);
-        since = since-same (short-for (b .n) old) (b .n) old new (m .2) }
+        since = since-same (short-for (b .n) old) (b .n) old new (m .2);
+      }

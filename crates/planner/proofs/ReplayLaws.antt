@@ -94,7 +94,8 @@ shows-since s v old mid new e x =
       cuts-shown = x .cuts-shown;
       zeros = x .zeros;
       cuts-length = x .cuts-length ∙ e .cuts-length;
-      cuts-after = x .cuts-after ∙ e .cuts-after }
+      cuts-after = x .cuts-after ∙ e .cuts-after;
+    }
 
 finish :
     (t : Bool) (cs : List Call) (k : Log) (v : View) (xs₀ xs : List ℕ) (old mid new : Buffers) → Since t (effective (calls-after t cs k) .n) old mid →
@@ -114,8 +115,20 @@ module _ (ws ks fs gs xs₀ : List ℕ) (old : Buffers) where
       length ks ≤ length xs₀ → Going ws ks fs gs xs₀ old b 0 xs₀ old
   begun b y g e p q r =
       record {
-        within = omega arith; firsts = p; seconds = q; room = r; size = refl; log = start; tied = y; good = g; same-n = e;
-        since = since-same t₀ (instance-in ws .n) old old refl; answered = refl; rest = refl; after = refl }
+        within = omega arith;
+        firsts = p;
+        seconds = q;
+        room = r;
+        size = refl;
+        log = start;
+        tied = y;
+        good = g;
+        same-n = e;
+        since = since-same t₀ (instance-in ws .n) old old refl;
+        answered = refl;
+        rest = refl;
+        after = refl;
+      }
 
   -- one call more
   pub again : (b : Board) (i : ℕ) (xs : List ℕ) (new next : Buffers) (d : Answered) → i < length ks → Going ws ks fs gs xs₀ old b i xs new →
@@ -146,7 +159,8 @@ module _ (ws ks fs gs xs₀ : List ℕ) (old : Buffers) where
             ∙ ap (λ (cs : List Call). take i xs ++ call-answers t₀ cs (g .log)) (sym sp)
             ∙ g .answered;
         rest = drop-set-lt (suc i) xs i (d .answer) (omega arith) ∙ drop-later xs xs₀ i (g .rest);
-        after = ap (λ (cs : List Call). calls-after t₀ cs (g .log)) (sym sp) ∙ g .after })
+        after = ap (λ (cs : List Call). calls-after t₀ cs (g .log)) (sym sp) ∙ g .after;
+      })
 
   past : (i : ℕ) → length ks ≤ i → from ks fs gs i ≡ []
   unfolding calls
@@ -171,7 +185,7 @@ module _ (ws ks fs gs xs₀ : List ℕ) (old : Buffers) where
         sym (take-append-drop i xs)
         ∙ ap (λ (r : List ℕ). take i xs ++ r) (g .rest)
         ∙ ap (λ (r : List ℕ). r ++ drop i xs₀)
-          (sym (append-nil (take i xs)) ∙ ap (λ (cs : List Call). take i xs ++ call-answers t₀ cs (g .log)) (sym (past i h)) ∙ g .answered)
+        (sym (append-nil (take i xs)) ∙ ap (λ (cs : List Call). take i xs ++ call-answers t₀ cs (g .log)) (sym (past i h)) ∙ g .answered)
         ∙ ap (λ (j : ℕ). call-answers t₀ (calls ks fs gs) start ++ drop j xs₀) all-made
 
     log-made : g .log ≡ calls-after t₀ (calls ks fs gs) start

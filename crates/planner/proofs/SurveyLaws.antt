@@ -59,7 +59,8 @@ ranges s v =
       n-high = leb-true (s .n) max-vertices (and-right A B l);
       root-in = ltb-true (s .root) (s .n) (and-left C D r);
       budget-in = leb-true (s .budget) max-budget (and-right C D r);
-      cells-ok = and-right ((A && B) && (C && D)) (all-below cells (cell-valid s)) v }
+      cells-ok = and-right ((A && B) && (C && D)) (all-below cells (cell-valid s)) v;
+    }
 
 -- THE MATRIX
 -- it does not read the budget
@@ -88,6 +89,7 @@ matrix-weights s v i l =
   where
     arc : remaining s (i / 32) (i % 32) ≡ true → can-be-arc (s .n) (s .root) (i / 32) (i % 32) ≡ true
     arc e = and-left (can-be-arc (s .n) (s .root) (i / 32) (i % 32)) (not (eqb (weight s (i / 32) (i % 32)) no-arc)) (remaining-arc s (i / 32) (i % 32) e)
+
     go : (b : Bool) → remaining s (i / 32) (i % 32) ≡ b → cond (b && true) (weight-at s i) no-arc ≤ no-arc
     go true e = ok-weight (weight-at s i) (mark-at s i) (rw (arc e) at (all-at cells (cell-valid s) i l v))
     go false e = omega arith
@@ -112,12 +114,6 @@ module _ (s : Instance) (small : s .n ≤ 32) (reduced words ps : List ℕ) (fou
   abbrev cs : List Cut
   cs = cuts-in k words
 
-  pub tree-size : length ps ≡ 32
-  tree-size = p .parents-size
-
-  pub cuts-size : length words ≡ cut-words
-  cuts-size = p .cuts-size
-
   module _ (f : found ≡ true) where
     found-level : is-arborescence level (take (s .n) ps) ≡ true
     found-level = p .minimum f .arborescence
@@ -138,8 +134,9 @@ module _ (s : Instance) (small : s .n ≤ 32) (reduced words ps : List ℕ) (fou
     level-tree r w =
         record {
           matrix-ok = record { small = small; root-below = r; size = matrix-size s; bounded = w };
-          places = tree-size;
-          found = found-level }
+          places = p .parents-size;
+          found = found-level;
+        }
 
     -- over the budget
     pub over-survey : (v : ℕ) → v ≡ total level (take (s .n) ps) → s .budget < v →
@@ -149,11 +146,14 @@ module _ (s : Instance) (small : s .n ≤ 32) (reduced words ps : List ℕ) (fou
         let q : v ≡ total s (take (s .n) ps) = e ∙ same-total in
         let o : outcome s ≡ over v = proved-over s (take (s .n) ps) cs found-tree (found-proves .feasible) (found-proves .adds) (omega arith) ∙ ap over (sym q) in
         record {
+          parents-size = refl;
+          cuts-size = p .cuts-size;
           result = rw o;
           parents-found = rw o (take-replicate (s .n) 32 no-parent small);
           cuts-found = rw o (subst (λ (x : ℕ). Proves s cs x) (sym q) found-proves);
           zeros = found-zeros;
-          table = over-table (s .n) (s .root) (s .budget) (matrix s) small cs (p .minimum f .proved .feasible) (omega (arith, p .minimum f .proved .adds)) }
+          table = over-table (s .n) (s .root) (s .budget) (matrix s) small cs (p .minimum f .proved .feasible) (omega (arith, p .minimum f .proved .adds));
+        }
 
     -- within the budget
     pub fitting-plan : (v : ℕ) → s .root < s .n → Weights (matrix s) → v ≡ total level (take (s .n) ps) → v ≤ s .budget → s .budget ≤ 31000000 →
@@ -170,14 +170,16 @@ module _ (s : Instance) (small : s .n ≤ 32) (reduced words ps : List ℕ) (fou
                 adds = p .minimum f .proved .adds ∙ sym e;
                 costs =
                     λ t h x.
-                      let b = remaining-ends level t h x in
-                      let lt : t < s .n = b .tail-below in
-                      let lh : h < s .n = b .head-below in
-                      default reduced (cell t h) 0 no-arc (omega (arith, p .matrix-size))
-                      ∙ ap (λ (l : List ℕ). getD l (cell t h) no-arc) (p .reduced f)
-                      ∙ reduced-arc level cs t h (omega arith) (omega arith) x };
+                    let b = remaining-ends level t h x in
+                    let lt : t < s .n = b .tail-below in
+                    let lh : h < s .n = b .head-below in
+                    default reduced (cell t h) 0 no-arc (omega (arith, p .matrix-size))
+                    ∙ ap (λ (l : List ℕ). getD l (cell t h) no-arc) (p .reduced f)
+                    ∙ reduced-arc level cs t h (omega arith) (omega arith) x;
+              };
           within = within;
-          most = most }
+          most = most;
+        }
 
     pub plan-survey : (v : ℕ) (used : List ℕ) → v ≡ total level (take (s .n) ps) → v ≤ s .budget →
         Usable-table (fields (s .n) (s .root) (s .budget) (matrix s) []) used → Surveys s (record { view = Plan v k; parents = ps; cuts = words; used = used })
@@ -186,11 +188,14 @@ module _ (s : Instance) (small : s .n ≤ 32) (reduced words ps : List ℕ) (fou
         let q : v ≡ total s (take (s .n) ps) = e ∙ same-total in
         let o : outcome s ≡ plan v = proved-plan s (take (s .n) ps) cs found-tree (found-proves .feasible) (found-proves .adds) (omega arith) ∙ ap plan (sym q) in
         record {
+          parents-size = p .parents-size;
+          cuts-size = p .cuts-size;
           result = rw o;
           parents-found = rw o (found-tree, sym q);
           cuts-found = rw o (subst (λ (x : ℕ). Proves s cs x) (sym q) found-proves);
           zeros = found-zeros;
-          table = table }
+          table = table;
+        }
 
   -- no arborescence
   pub none-survey : found ≡ false →
@@ -201,8 +206,11 @@ module _ (s : Instance) (small : s .n ≤ 32) (reduced words ps : List ℕ) (fou
       let e = matrix-no-entry s small x .0 (p .no-entry f) in
       let o : outcome s ≡ no-tree = shut-outcome s x e in
       record {
+        parents-size = refl;
+        cuts-size = refl;
         result = rw o;
         parents-found = rw o (take-replicate (s .n) 32 no-parent small);
         cuts-found = rw o (x, refl, e);
         zeros = refl;
-        table = shut-table (s .n) (s .root) (s .budget) (matrix s) small x (p .no-entry f) }
+        table = shut-table (s .n) (s .root) (s .budget) (matrix s) small x (p .no-entry f);
+      }

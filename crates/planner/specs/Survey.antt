@@ -2,9 +2,9 @@
 use mathlib.Core.Path.{_≡_}
 use mathlib.Core.List.{List, [], _++_}
 use Prim.Native.Nat.{ℕ, _*_, _-_, _/_, _%_}
-use lib.ListN.{take, drop, replicate}
+use lib.ListN.{length, take, drop, replicate}
 use Rattle.base.specs.Lists.{tabulate}
-use Rattle.instance.specs.Limits.{cut-words}
+use Rattle.instance.specs.Limits.{max-vertices, cut-words}
 use Rattle.instance.specs.Instance.{Instance}
 use Rattle.instance.specs.Cuts.{cuts-in}
 use Rattle.instance.specs.States.{outcome}
@@ -15,6 +15,8 @@ use Rattle.planner.specs.declared.survey.Survey.{Survey}
 use Rattle.planner.specs.Look.{Buffers, view, pairs, Parents-shown, Cuts-shown}
 
 pub record Surveys (s : Instance) (r : Survey) : Type 0 where
+  pub parents-size : length (r .parents) ≡ max-vertices
+  pub cuts-size : length (r .cuts) ≡ cut-words
   pub result : r .view ≡ view (outcome s) (pairs (r .view))
   pub parents-found : Parents-shown (outcome s) s (take (s .n) (r .parents))
   pub cuts-found : Cuts-shown (outcome s) s (cuts-in (pairs (r .view)) (r .cuts))

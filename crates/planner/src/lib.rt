@@ -5,14 +5,16 @@ pub mod open; // open.rt: a board from a card
 pub mod write; // write.rt: a board written as a card
 mod survey; // survey.rt: planning a board's instance
 pub mod look; // look.rt: what a look shows
-pub use board::Board;
+
 pub use board::Answered;
-pub use board::commands::pin;
+pub use board::Board;
 pub use board::commands::ban;
 pub use board::commands::clear;
+pub use board::commands::pin;
 pub use board::commands::set_budget;
 pub use board::commands::take_back;
 pub use card::write::Written;
+pub use look::look;
 pub use open::open_card;
 pub use write::write_card;
 

@@ -32,7 +32,13 @@ fn no_tree(set: u32) -> Survey
     }
 }
 
-pub fn plan_instance<'a>(weights: &'a [u32; 1024], marks: &'a [u8; 1024], n: u32, root: u32, budget: u32) -> Survey
+pub fn plan_instance<'a>(
+    weights: &'a [u32; 1024],
+    marks: &'a [u8; 1024],
+    n: u32,
+    root: u32,
+    budget: u32,
+) -> Survey
     requires { ⌜ (valid-instance (fields n root budget (now weights) (now marks)) ≡ true) × (length (now weights) ≡ 1024) × (length (now marks) ≡ 1024) ⌝ }
     ensures { λ r. ⌜ Surveys (fields n root budget (now (weights .entry)) (now (marks .entry))) r ⌝ }
 {

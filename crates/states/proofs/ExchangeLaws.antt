@@ -29,6 +29,7 @@ sum-change (suc k) f g h l e = at (ℕ-discrete h k) (λ m. sum-change k f g h m
     same : (j : ℕ) → j ≤ k → h ≡ k → sum-below j f ≡ sum-below j g
     same zero b z = refl
     same (suc j) b z = let x = same j (omega arith) z in let y = e j (omega arith) (λ w. omega arith) in omega arith
+
     at : Dec (h ≡ k) → (h < k → sum-below k f + g h ≡ sum-below k g + f h) → (f k + sum-below k f) + g h ≡ (g k + sum-below k g) + f h
     at (yes z) r = let x = same k (omega arith) z in rw z (omega arith)
     at (no z) r = let x = r (omega arith) in let y = e k (omega arith) (λ w. z (sym w)) in omega arith
@@ -46,7 +47,8 @@ module _ (s : Instance) (ps : List ℕ) (root-below : s .root < s .n) (a : is-ar
         root-below = root-below;
         at-root = root-parent s ps a (s .root) root-below (eq-eqb (s .root) (s .root) refl);
         below = λ v l e. remaining-ends s (parent ps v) v (joined s ps a v l e .arc) .tail-below;
-        reach = reach }
+        reach = reach;
+      }
 
   -- ONE ARC
   module _ (t h : ℕ) (r : remaining s t h ≡ true) (out : Avoids ps h t) where
@@ -75,7 +77,7 @@ module _ (s : Instance) (ps : List ℕ) (root-below : s .root < s .n) (a : is-ar
     exchange =
         make-arborescence s qs (simp length-set (parents-size s ps a))
         (λ v l e.
-          parent-other ps h t v (λ z. not-both (eqb v (s .root)) e (rw z (remaining-ends s t h r .not-root))) ∙ root-parent s ps a v l e)
+        parent-other ps h t v (λ z. not-both (eqb v (s .root)) e (rw z (remaining-ends s t h r .not-root))) ∙ root-parent s ps a v l e)
         (λ v l e. record { arc = arcs v l e; reach = meets v l })
 
     pub exchange-total : total s qs + weight s (parent ps h) h ≡ total s ps + weight s t h
@@ -85,8 +87,8 @@ module _ (s : Instance) (ps : List ℕ) (root-below : s .root < s .n) (a : is-ar
         let here : cond (eqb h (s .root)) 0 (weight s (parent ps h) h) ≡ weight s (parent ps h) h = rw off in
         let there : cond (eqb h (s .root)) 0 (weight s (parent qs h) h) ≡ weight s t h = rw (off, exchange-uses) in
         let sums =
-            sum-change (s .n) (λ v. cond (eqb v (s .root)) 0 (weight s (parent qs v) v)) (λ v. cond (eqb v (s .root)) 0 (weight s (parent ps v) v)) h
-            (remaining-ends s t h r .head-below) (λ v l z. rw (parent-other ps h t v z)) in
+        sum-change (s .n) (λ v. cond (eqb v (s .root)) 0 (weight s (parent qs v) v)) (λ v. cond (eqb v (s .root)) 0 (weight s (parent ps v) v)) h
+        (remaining-ends s t h r .head-below) (λ v l z. rw (parent-other ps h t v z)) in
         omega arith
 
 -- TWO ARCS

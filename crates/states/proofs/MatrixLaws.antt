@@ -42,7 +42,7 @@ module _ (s : Instance) (i p : ℕ) where
   cell-judged l e k =
       ⊎-elim
       (λ (a : can-be-arc (s .n) (s .root) (i / 32) (i % 32) ≡ true).
-        let w = pins-weight s (i / 32) (i % 32) p (omega arith) (k (ends (s .n) (s .root) (i / 32) (i % 32) a .head-below)) in
-        rw (default (s .weights) i 0 no-arc (omega arith)) (sym (rw (cell-of i) at w)))
+      let w = pins-weight s (i / 32) (i % 32) p (omega arith) (k (ends (s .n) (s .root) (i / 32) (i % 32) a .head-below)) in
+      rw (default (s .weights) i 0 no-arc (omega arith)) (sym (rw (cell-of i) at w)))
       empty
       (test (can-be-arc (s .n) (s .root) (i / 32) (i % 32)))

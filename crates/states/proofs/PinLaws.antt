@@ -46,7 +46,8 @@ module _ (s : Instance) (h : ℕ) where
       rw add-one
       (record {
         where-from = ⊎-elim (λ (l : p < g). inl (omega arith)) (λ (l : 32 ≤ p). inr l) (k .where-from);
-        say = λ t l. rw (e, and-false-right (not (eqb g t)) false refl) (k .say t l) })
+        say = λ t l. rw (e, and-false-right (not (eqb g t)) false refl) (k .say t l);
+      })
 
   pub pins-first : (g p : ℕ) → is-pinned s g h ≡ true → g < 32 → p ≡ 32 → Pins s h g p → Pins s h (g + 1) g
   unfolding any-below
@@ -55,6 +56,7 @@ module _ (s : Instance) (h : ℕ) where
       only : (x : Bool) → (not x && true) || not true ≡ not x
       only true = refl
       only false = refl
+
       at : (t : ℕ) → any-below g (others t) ≡ not (lets p t) → others t g || any-below g (others t) ≡ not (lets g t)
       at t r = rw (e, r, q, lets-none t, lets-tail g t (λ z. omega arith)) (only (eqb g t))
 
@@ -64,9 +66,11 @@ module _ (s : Instance) (h : ℕ) where
     where
       apart : p ≡ g → ⊥
       apart z = ⊎-elim (λ (l : p < g). omega arith) (λ (l : 32 ≤ p). omega arith) (k .where-from)
+
       cases : (t : ℕ) (x : Bool) → eqb g t ≡ x → any-below g (others t) ≡ not (lets p t) → (not x && true) || any-below g (others t) ≡ true
       cases t true z r = r ∙ rw (← eqb-true g t z, lets-out p g q apart)
       cases t false z r = refl
+
       at : (t : ℕ) → t < 32 → any-below g (others t) ≡ not (lets p t) → others t g || any-below g (others t) ≡ not (lets 33 t)
       at t l r = rw (e, lets-out 33 t (λ z. omega arith) (λ z. omega arith)) (cases t (eqb g t) refl r)
 
@@ -86,7 +90,7 @@ judged true x y w = at (eqb w no-arc) refl x y
 
 pub pins-weight : (s : Instance) (t h p : ℕ) → t < 32 → Pins s h (s .n) p
     → cond (remaining s t h && true) (weight s t h) no-arc
-      ≡ cond (can-be-arc (s .n) (s .root) t h && (not (eqb (mark s t h) banned) && lets p t)) (weight s t h) no-arc
+    ≡ cond (can-be-arc (s .n) (s .root) t h && (not (eqb (mark s t h) banned) && lets p t)) (weight s t h) no-arc
 unfolding remaining is-arc other-pinned
 pins-weight s t h p l k =
     rw (k .say t l) (judged (can-be-arc (s .n) (s .root) t h) (not (eqb (mark s t h) banned)) (lets p t) (weight s t h))

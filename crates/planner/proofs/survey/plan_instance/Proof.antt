@@ -48,7 +48,7 @@ planned :
 planned c =
     subst
     (λ (m : List ℕ). Planned-matrix (inst (start-of c) .n) (inst (start-of c) .root) m (c .plan-matrix .last .0) (replicate 122 0) (c .plan-matrix .last .1 .1 .1 .0)
-      (c .plan-matrix .result .found) (c .plan-matrix .result .parents) (c .plan-matrix .result .count) (c .plan-matrix .result .set))
+    (c .plan-matrix .result .found) (c .plan-matrix .result .parents) (c .plan-matrix .result .count) (c .plan-matrix .result .set))
     (made-is (c .before .before .before)) (c .plan-matrix .ensures)
 
 remaining-matrix-requires : tie.Need-remaining-matrix-requires
@@ -57,9 +57,13 @@ remaining-matrix-requires c κs = (in-range c .n-high, c .pre .1, c .pre .2)
 plan-matrix-requires : tie.Need-plan-matrix-requires
 plan-matrix-requires c κs =
     let r = in-range (c .before .before .before) in
-    let e = made-is (c .before .before) in
-    (ap length e ∙ matrix-size (inst (c .before .before .before)), refl, r .n-high, r .root-in,
-     subst Weights (sym e) (matrix-weights (inst (c .before .before .before)) (r .cells-ok)))
+    let e = made-is (c .before .before) in (
+      ap length e ∙ matrix-size (inst (c .before .before .before)),
+      refl,
+      r .n-high,
+      r .root-in,
+      subst Weights (sym e) (matrix-weights (inst (c .before .before .before)) (r .cells-ok)),
+    )
 
 no-tree-requires : tie.Need-no-tree-requires
 no-tree-requires c κs = search needs

@@ -53,10 +53,11 @@ loop-again c =
     let b = c .before .before .before .before in
     let l = c .before .before .before .loop in
     let p = parent-read (b .args .n) (l .v) (b .args .parents .now) (b .pre .0) (b .pre .1) (l .inv .0) in
-    let up = rooted-tail (b .args .n) (b .args .root) (l .v) (b .args .parents .now) (b .pre .0) (b .pre .1) (b .pre .2) (l .inv .0) (c .before .before .loop-test .taken) in
-    (up,
-     (λ x. l .inv .1 (below-up _ _ (l .v) (rw (← p) x))),
-     (λ x. l .inv .2 (avoids-up _ _ (l .v) (c .before .if1 .left) (rw (← p) x))))
+    let up = rooted-tail (b .args .n) (b .args .root) (l .v) (b .args .parents .now) (b .pre .0) (b .pre .1) (b .pre .2) (l .inv .0) (c .before .before .loop-test .taken) in (
+      up,
+      (λ x. l .inv .1 (below-up _ _ (l .v) (rw (← p) x))),
+      (λ x. l .inv .2 (avoids-up _ _ (l .v) (c .before .if1 .left) (rw (← p) x))),
+    )
 
 -- src/exchange.rt:15:1
 returns-2 : tie.Need-returns-2 Inv-loop μ-loop
@@ -66,7 +67,8 @@ returns-2 c =
     record {
       under = λ (e : _≡_ {A = ℕ} 0 1). absurd (omega arith);
       apart =
-          λ _. c .before .loop .inv .2 (rw z (root-avoids (b .args .n) (b .args .root) _ (b .pre .2) (b .pre .0) (b .args .head) (b .pre .3) (b .pre .4))) }
+          λ _. c .before .loop .inv .2 (rw z (root-avoids (b .args .n) (b .args .root) _ (b .pre .2) (b .pre .0) (b .args .head) (b .pre .3) (b .pre .4)));
+    }
 
 pub below-spec : {M : Type 1} → statement M
 below-spec =

@@ -49,14 +49,15 @@ path-least-requires c κs =
     let i = c .before .before in
     let b = i .before .before .before .before in
     let k = b .before .pre .0 in
-    let l = i .before .loop in
-    (k .matrix-ok .small,
-     k .places,
-     tree-rooted _ _ _ _ k,
-     b .before .pre .1,
-     b .before .pre .2,
-     omega arith,
-     b .below-table .ensures .at (l .t) (omega arith) .under (c .before .if1 .taken))
+    let l = i .before .loop in (
+      k .matrix-ok .small,
+      k .places,
+      tree-rooted _ _ _ _ k,
+      b .before .pre .1,
+      b .before .pre .2,
+      omega arith,
+      b .below-table .ensures .at (l .t) (omega arith) .under (c .before .if1 .taken),
+    )
 
 -- src/exchange.rt:128:15
 cast-table : tie.Need-cast-table Inv-loop μ-loop
@@ -86,17 +87,18 @@ loop-again c =
     let k = b .before .pre .0 in
     let l = i .before .loop in
     let small = k .matrix-ok .small in
-    let says = b .below-table .ensures .at (l .t) (omega arith) in
-    (omega arith,
-     simp length-set (l .inv .1),
-     detours-more _ _ _ (l .table) (l .t) (c .if1 .d) (omega arith) (l .inv .2)
-     (⊎-elim
-      (λ w.
-        rw (w .3)
-        (detour-two _ _ _ _ k _ (l .t) (b .before .pre .1) (b .before .pre .2) (omega arith) (b .below-table .result) (b .below-table .ensures)
-         (says .under (w .0 .taken)) _ _ (i .before .before .increases .ensures) (w .2 .ensures)))
-      (λ w. rw (w .1) (detour-one _ _ _ _ k _ (l .t) (says .apart (w .0 .left))))
-      (c .if1 .came)))
+    let says = b .below-table .ensures .at (l .t) (omega arith) in (
+      omega arith,
+      simp length-set (l .inv .1),
+      detours-more _ _ _ (l .table) (l .t) (c .if1 .d) (omega arith) (l .inv .2)
+          (⊎-elim
+          (λ w.
+          rw (w .3)
+          (detour-two _ _ _ _ k _ (l .t) (b .before .pre .1) (b .before .pre .2) (omega arith) (b .below-table .result) (b .below-table .ensures)
+          (says .under (w .0 .taken)) _ _ (i .before .before .increases .ensures) (w .2 .ensures)))
+          (λ w. rw (w .1) (detour-one _ _ _ _ k _ (l .t) (says .apart (w .0 .left))))
+          (c .if1 .came)),
+    )
 
 -- src/exchange.rt:115:1
 returns : tie.Need-returns Inv-loop μ-loop

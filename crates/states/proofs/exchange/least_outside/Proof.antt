@@ -58,10 +58,11 @@ loop-less c = omega arith
 -- src/exchange.rt:49:5
 loop-again : tie.Need-loop-again Inv-loop μ-loop
 loop-again c =
-    let l = c .before .before .before .before .loop in
-    (omega arith,
-     ⊎-elim (λ w. let less = w .1 .taken in let most = l .inv .1 .most in rw (w .2) (outside-take _ _ _ (l .x) _ (omega arith) (w .0 .taken) refl))
-     (⊎-elim (λ w. rw (w .2) (outside-pass _ _ _ (l .x) _ (l .inv .1))) (λ w. rw (w .1) (outside-pass _ _ _ (l .x) _ (l .inv .1)))) (c .if1 .came))
+    let l = c .before .before .before .before .loop in (
+      omega arith,
+      ⊎-elim (λ w. let less = w .1 .taken in let most = l .inv .1 .most in rw (w .2) (outside-take _ _ _ (l .x) _ (omega arith) (w .0 .taken) refl))
+          (⊎-elim (λ w. rw (w .2) (outside-pass _ _ _ (l .x) _ (l .inv .1))) (λ w. rw (w .1) (outside-pass _ _ _ (l .x) _ (l .inv .1)))) (c .if1 .came),
+    )
 
 -- src/exchange.rt:43:1
 returns : tie.Need-returns Inv-loop μ-loop

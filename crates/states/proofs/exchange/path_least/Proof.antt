@@ -70,11 +70,12 @@ loop-again c =
     let l = c .before .before .before .before .loop in
     let p = parent-read (b .args .n) (l .v) (b .args .parents .now) (b .pre .0) (b .pre .1) (l .inv .0) in
     let up = rooted-tail (b .args .n) (b .args .root) (l .v) (b .args .parents .now) (b .pre .0) (b .pre .1) (b .pre .2) (l .inv .0) (no-root (c .before .before .before)) in
-    let ne = c .before .before .before .loop-test .taken in
-    (up,
-     rw p (below-on _ _ (l .v) ne (l .inv .1)),
-     rw p (onward (l .inv .2) ne),
-     ⊎-elim (λ w. rw (w .1) (path-take _ _ _ _ (l .v) _ (l .inv .2) ne refl)) (λ w. rw (w .1) (l .inv .3)) (c .before .if1 .came))
+    let ne = c .before .before .before .loop-test .taken in (
+      up,
+      rw p (below-on _ _ (l .v) ne (l .inv .1)),
+      rw p (onward (l .inv .2) ne),
+      ⊎-elim (λ w. rw (w .1) (path-take _ _ _ _ (l .v) _ (l .inv .2) ne refl)) (λ w. rw (w .1) (l .inv .3)) (c .before .if1 .came),
+    )
 
 -- src/exchange.rt:98:1
 returns : tie.Need-returns Inv-loop μ-loop

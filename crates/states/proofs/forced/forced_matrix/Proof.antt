@@ -50,10 +50,11 @@ loop-less c = omega arith
 -- src/forced.rt:23:5
 loop-again : tie.Need-loop-again Inv-loop μ-loop
 loop-again c =
-    let l = c .before .before .loop in
-    (omega arith,
-     ⊎-elim (λ w. rw (w .1) (forced-more _ _ _ (l .g) (l .w) (w .0 .taken) (omega arith) (c .before .before .before .before .pre .1) (l .inv .1)))
-     (λ w. rw (w .1) (forced-pass _ _ _ (l .g) (l .w) (w .0 .left) (l .inv .1))) (c .if1 .came))
+    let l = c .before .before .loop in (
+      omega arith,
+      ⊎-elim (λ w. rw (w .1) (forced-more _ _ _ (l .g) (l .w) (w .0 .taken) (omega arith) (c .before .before .before .before .pre .1) (l .inv .1)))
+          (λ w. rw (w .1) (forced-pass _ _ _ (l .g) (l .w) (w .0 .left) (l .inv .1))) (c .if1 .came),
+    )
 
 -- src/forced.rt:17:1
 returns : tie.Need-returns Inv-loop μ-loop

@@ -67,13 +67,13 @@ element-copy-out-result c = within (c .before .before)
 -- src/matrix.rt:22:1
 returns-3 : tie.Need-returns-3
 unfolding mark
-returns-3 c = 
+returns-3 c =
     let b = c .before .before .before in
     let a = b .before .before .args in
     let s = fields (a .n) (a .root) 0 (a .weights .now) (a .marks .now) in
     sym
     (present-pinned s (a .tail) (a .head) (arc b)
-     (λ e. c .before .if2 .left (weight-read s (a .tail) (a .head) (b .before .before .pre .1) (within b) ∙ e)))
+    (λ e. c .before .if2 .left (weight-read s (a .tail) (a .head) (b .before .before .pre .1) (within b) ∙ e)))
 
 pub is-pinned-spec : {M : Type 1} → statement M
 is-pinned-spec =

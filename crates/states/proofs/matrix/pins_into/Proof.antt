@@ -40,12 +40,13 @@ loop-again c =
     let l = c .before .before .before in
     let g = l .loop .g in
     let small : g < 32 = omega arith in
-    let found = sym (c .before .is-pinned .ensures) in
-    (omega arith,
-     ⊎-elim (λ w. rw (w .2) (pins-first _ _ g _ (found ∙ w .0 .taken) small (w .1 .taken) (l .loop .inv .1)))
-     (⊎-elim (λ w. rw (w .2) (pins-again _ _ g _ (found ∙ w .0 .taken) small (w .1 .left) (l .loop .inv .1)))
-     (λ w. rw (w .1) (pins-pass _ _ g _ (found ∙ w .0 .left) (l .loop .inv .1))))
-     (c .if1 .came))
+    let found = sym (c .before .is-pinned .ensures) in (
+      omega arith,
+      ⊎-elim (λ w. rw (w .2) (pins-first _ _ g _ (found ∙ w .0 .taken) small (w .1 .taken) (l .loop .inv .1)))
+          (⊎-elim (λ w. rw (w .2) (pins-again _ _ g _ (found ∙ w .0 .taken) small (w .1 .left) (l .loop .inv .1)))
+          (λ w. rw (w .1) (pins-pass _ _ g _ (found ∙ w .0 .left) (l .loop .inv .1))))
+          (c .if1 .came),
+    )
 
 -- src/matrix.rt:37:1
 returns : tie.Need-returns Inv-loop μ-loop

@@ -86,11 +86,12 @@ loop-again c =
     let a = l .before .before .args in
     let s = fields (a .n) (a .root) 0 (a .weights .now) (a .marks .now) in
     let i = l .loop .i in
-    let p = getD (l .before .pin-table .result) (i % 32) 0 in
-    (omega arith,
-     simp length-set (l .loop .inv .1),
-     tabulate-store (l .loop .w) i (matrix-cell s) (c .remaining-weight .result) (omega arith) (l .loop .inv .2)
-     (c .remaining-weight .ensures ∙ cell-judged s i p (omega arith) (l .before .before .pre .1) (λ b. l .before .pin-table .ensures .at (i % 32) b)))
+    let p = getD (l .before .pin-table .result) (i % 32) 0 in (
+      omega arith,
+      simp length-set (l .loop .inv .1),
+      tabulate-store (l .loop .w) i (matrix-cell s) (c .remaining-weight .result) (omega arith) (l .loop .inv .2)
+          (c .remaining-weight .ensures ∙ cell-judged s i p (omega arith) (l .before .before .pre .1) (λ b. l .before .pin-table .ensures .at (i % 32) b)),
+    )
 
 -- src/matrix.rt:89:1
 returns : tie.Need-returns Inv-loop μ-loop

@@ -61,13 +61,13 @@ loop-again c =
     let step = count-step (l .g) (λ t. is-used (a .used .now) t (a .head)) in
     ⊎-elim
     (λ w.
-      let e : _≡_ {A = ℕ} (cond (is-used (a .used .now) (l .g) (a .head)) 1 0) 1 = rw (eq-eqb _ _ (w .0 .taken)) in
-      let q = w .1 in
-      (omega arith, omega arith, omega arith))
+    let e : _≡_ {A = ℕ} (cond (is-used (a .used .now) (l .g) (a .head)) 1 0) 1 = rw (eq-eqb _ _ (w .0 .taken)) in
+    let q = w .1 in
+    (omega arith, omega arith, omega arith))
     (λ w.
-      let e : _≡_ {A = ℕ} (cond (is-used (a .used .now) (l .g) (a .head)) 1 0) 0 = rw (ne-eqb _ _ (w .0 .left)) in
-      let q = w .1 in
-      (omega arith, omega arith, omega arith))
+    let e : _≡_ {A = ℕ} (cond (is-used (a .used .now) (l .g) (a .head)) 1 0) 0 = rw (ne-eqb _ _ (w .0 .left)) in
+    let q = w .1 in
+    (omega arith, omega arith, omega arith))
     (c .if1 .came)
 
 -- src/show.rt:17:1

@@ -123,11 +123,12 @@ loop-again c =
     let b = i .before .before .before in
     let a = b .before .args in
     let e = ends i in
-    let count = i .before .before .counts-into .ensures .at (l .k % a .n) (e .head) in
-    (omega arith,
-     simp length-set (l .inv .1),
-     front-more (l .out) (a .out .now) (l .k) (c .state-of .result) _ (omega arith) (l .inv .2)
-     (c .state-of .ensures ∙ rw count (state-counted (a .n) (a .root) (a .used .now) (a .weights .now) (l .k / a .n) (l .k % a .n))))
+    let count = i .before .before .counts-into .ensures .at (l .k % a .n) (e .head) in (
+      omega arith,
+      simp length-set (l .inv .1),
+      front-more (l .out) (a .out .now) (l .k) (c .state-of .result) _ (omega arith) (l .inv .2)
+          (c .state-of .ensures ∙ rw count (state-counted (a .n) (a .root) (a .used .now) (a .weights .now) (l .k / a .n) (l .k % a .n))),
+    )
 
 -- src/show.rt:64:1
 same-length : tie.Need-same-length Inv-loop μ-loop

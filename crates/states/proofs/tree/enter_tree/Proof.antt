@@ -69,16 +69,17 @@ loop-again : tie.Need-loop-again Inv-loop μ-loop
 loop-again c =
     let l = c .before .before .loop in
     let b = c .before .before .before in
-    let a = b .args in
-    (omega arith,
-     ⊎-elim
-     (λ w.
-       rw (w .2)
-       (enter-more (a .root) (take (a .n) (a .parents .now)) (a .used .now) (l .v) (getD (a .parents .now) (l .v) 0) (l .used) (w .0 .taken)
-        (parent-read (a .n) (l .v) (a .parents .now) (b .pre .0) (b .pre .1) (omega arith))
-        (omega (arith, rooted-tail (a .n) (a .root) (l .v) (a .parents .now) (b .pre .0) (b .pre .1) (b .pre .2) (omega arith) (w .0 .taken)))
-        (omega arith) (b .pre .3) (l .inv .1)))
-     (λ w. rw (w .1) (enter-root _ _ _ (l .v) _ (w .0 .left) (l .inv .1))) (c .if1 .came))
+    let a = b .args in (
+      omega arith,
+      ⊎-elim
+          (λ w.
+          rw (w .2)
+          (enter-more (a .root) (take (a .n) (a .parents .now)) (a .used .now) (l .v) (getD (a .parents .now) (l .v) 0) (l .used) (w .0 .taken)
+          (parent-read (a .n) (l .v) (a .parents .now) (b .pre .0) (b .pre .1) (omega arith))
+          (omega (arith, rooted-tail (a .n) (a .root) (l .v) (a .parents .now) (b .pre .0) (b .pre .1) (b .pre .2) (omega arith) (w .0 .taken)))
+          (omega arith) (b .pre .3) (l .inv .1)))
+          (λ w. rw (w .1) (enter-root _ _ _ (l .v) _ (w .0 .left) (l .inv .1))) (c .if1 .came),
+    )
 
 -- src/tree.rt:28:1
 returns : tie.Need-returns Inv-loop μ-loop

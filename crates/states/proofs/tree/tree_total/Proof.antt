@@ -38,8 +38,8 @@ tail c =
 
 small : (c : tie.After-tail Inv-loop μ-loop)
     → getD (c .before .before .before .before .args .m .now)
-      (32 * getD (c .before .before .before .before .args .parents .now) (c .before .before .before .loop .v) 0 + c .before .before .before .loop .v) 0
-      ≤ 1048575
+    (32 * getD (c .before .before .before .before .args .parents .now) (c .before .before .before .loop .v) 0 + c .before .before .before .loop .v) 0
+    ≤ 1048575
 small c =
     let b = c .before .before .before .before in
     let t = tail c in
@@ -91,14 +91,14 @@ loop-again c =
     let step = sum-more (l .v) (cost (a .n) (a .root) (a .m .now) (a .parents .now)) in
     ⊎-elim
     (λ w.
-      let e = cost-read (a .n) (a .root) (a .m .now) (a .parents .now) (b .pre) (l .v) (omega arith) (w .0 .taken) in
-      let q = w .3 in
-      let i = small (record { before = record { before = c .before; if1 = w .0 }; tail = w .1 }) in
-      (omega arith, omega arith, omega arith))
+    let e = cost-read (a .n) (a .root) (a .m .now) (a .parents .now) (b .pre) (l .v) (omega arith) (w .0 .taken) in
+    let q = w .3 in
+    let i = small (record { before = record { before = c .before; if1 = w .0 }; tail = w .1 }) in
+    (omega arith, omega arith, omega arith))
     (λ w.
-      let e = cost-root (a .n) (a .root) (a .m .now) (a .parents .now) (l .v) (w .0 .left) in
-      let q = w .1 in
-      (omega arith, omega arith, omega arith))
+    let e = cost-root (a .n) (a .root) (a .m .now) (a .parents .now) (l .v) (w .0 .left) in
+    let q = w .1 in
+    (omega arith, omega arith, omega arith))
     (c .if1 .came)
 
 -- src/tree.rt:11:1

@@ -81,8 +81,8 @@ record Known (n root : ℕ) (m : List ℕ) (t h : ℕ) : Type 0 where
 
 known : (c : tie.Else3)
     → Known (c .before .before .before .before .before .args .n) (c .before .before .before .before .before .args .root)
-      (c .before .before .before .before .before .args .m .now) (c .before .before .before .before .before .args .tail)
-      (c .before .before .before .before .before .args .head)
+    (c .before .before .before .before .before .args .m .now) (c .before .before .before .before .before .args .tail)
+    (c .before .before .before .before .before .args .head)
 known c =
     let b = c .before .before .before .before .before in
     let a = b .args in
@@ -90,7 +90,8 @@ known c =
       small = b .pre .0 .small;
       arc = present (a .n) (a .root) (a .m .now) (b .pre .0) (a .tail) (a .head) (b .pre .4) (b .pre .5) (c .before .before .if2 .left) (b .pre .6) (c .if3 .left);
       same = weight-on (a .n) (a .root) (a .m .now) (b .pre .0) (a .tail) (a .head) (b .pre .4) (b .pre .5);
-      most = weight-most (a .n) (a .root) (a .m .now) (b .pre .0) (a .tail) (a .head) (b .pre .4) (b .pre .5) }
+      most = weight-most (a .n) (a .root) (a .m .now) (b .pre .0) (a .tail) (a .head) (b .pre .4) (b .pre .5);
+    }
 
 -- src/usable.rt:57:17
 add-if4 : tie.Need-add-if4

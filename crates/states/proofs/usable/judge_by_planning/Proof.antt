@@ -31,14 +31,14 @@ returns c =
     let a = p .before .args in
     judged-unusable _ (a .used .now) (p .before .pre .2) (a .tail) (a .head)
     (unusable-shut (a .n) (a .root) (a .budget) (a .m .now) (a .tail) (a .head) (p .plan-with .result .parents) (p .plan-with .result .found) (p .plan-with .ensures)
-     (not-true (p .plan-with .result .found) (c .if1 .taken)))
+    (not-true (p .plan-with .result .found) (c .if1 .taken)))
 
 found : (c : tie.Else1) → c .before .before .before .plan-with .result .found ≡ true
 found c = not-false (c .before .before .before .plan-with .result .found) (c .if1 .left)
 
 tree : (c : tie.Else1)
     → Matrix-tree (c .before .before .before .before .args .n) (c .before .before .before .before .args .root) (c .before .before .before .before .args .m .now)
-      (c .before .before .before .plan-with .result .parents)
+    (c .before .before .before .plan-with .result .parents)
 tree c = c .before .before .before .plan-with .ensures .tree (found c)
 
 -- src/usable.rt:34:9
@@ -55,7 +55,7 @@ returns-2 c =
     let past = c .if2 .taken in
     judged-unusable _ (a .used .now) (p .before .pre .2) (a .tail) (a .head)
     (unusable-dear (a .n) (a .root) (a .budget) (a .m .now) (a .tail) (a .head) (p .plan-with .result .parents) (p .plan-with .result .found) (p .plan-with .ensures)
-     (found e) (omega arith))
+    (found e) (omega arith))
 
 -- src/usable.rt:38:5
 enter-tree-requires : tie.Need-enter-tree-requires

@@ -49,7 +49,7 @@ tail c =
 
 own : (c : tie.After-tail Inv-loop μ-loop)
     → getD (c .before .before .before .args .m .now) (cell (getD (c .before .before .before .args .parents .now) (c .before .before .before .args .head) 0) (c .before .before .before .args .head)) 0
-      ≤ c .before .before .before .args .total
+    ≤ c .before .before .before .args .total
 own c =
     let b = c .before .before .before in
     let a = b .args in
@@ -115,16 +115,17 @@ judge-arc-requires c κs =
     let weight = own-weight (a .n) (a .root) (a .m .now) (a .parents .now) k (a .head) (b .pre .1) (d .before .if1 .left) in
     let v = plan .is-total in
     let within = plan .within in
-    let most = plan .most in
-    (k .matrix-ok,
-     plan .costs,
-     omega arith,
-     omega arith,
-     omega arith,
-     b .pre .1,
-     d .before .if1 .left,
-     detour-offer _ _ (l .t) (a .head) _ _ (d .detours .ensures .at (l .t) (omega arith)) (omega arith),
-     l .inv .1 .sound)
+    let most = plan .most in (
+      k .matrix-ok,
+      plan .costs,
+      omega arith,
+      omega arith,
+      omega arith,
+      b .pre .1,
+      d .before .if1 .left,
+      detour-offer _ _ (l .t) (a .head) _ _ (d .detours .ensures .at (l .t) (omega arith)) (omega arith),
+      l .inv .1 .sound,
+    )
 
 -- src/usable.rt:83:9
 add-t : tie.Need-add-t Inv-loop μ-loop

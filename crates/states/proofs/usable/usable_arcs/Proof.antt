@@ -37,11 +37,12 @@ loop-holds c =
     let k = b .pre .tree in
     let v = b .pre .is-total in
     let within = b .pre .within in
-    let ps = take (a .n) (a .parents .now) in
-    (omega arith,
-     all-none _ _
-     (sound-entered _ (a .n) (a .root) ps (replicate 1024 0) _ (c .enter-tree .ensures) (sound-none _)
-      (λ t h u. usable-tree (a .n) (a .root) (a .budget) (a .m .now) t h ps (k .found) (omega arith) u)))
+    let ps = take (a .n) (a .parents .now) in (
+      omega arith,
+      all-none _ _
+          (sound-entered _ (a .n) (a .root) ps (replicate 1024 0) _ (c .enter-tree .ensures) (sound-none _)
+          (λ t h u. usable-tree (a .n) (a .root) (a .budget) (a .m .now) t h ps (k .found) (omega arith) u)),
+    )
 
 -- src/usable.rt:96:9
 judge-head-requires : tie.Need-judge-head-requires Inv-loop μ-loop
