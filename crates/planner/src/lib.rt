@@ -4,7 +4,7 @@ mod copies; // copies.rt: copies into the caller's buffers
 pub mod open; // open.rt: a board from a card
 pub mod write; // write.rt: a board written as a card
 mod survey; // survey.rt: planning a board's instance
-pub mod look; // look.rt: what a look shows
+pub mod inspect; // inspect.rt: a look at a board
 
 pub use board::Answered;
 pub use board::Board;
@@ -14,7 +14,7 @@ pub use board::commands::pin;
 pub use board::commands::set_budget;
 pub use board::commands::take_back;
 pub use card::write::Written;
-pub use look::look;
+pub use inspect::look;
 pub use open::open_card;
 pub use write::write_card;
 

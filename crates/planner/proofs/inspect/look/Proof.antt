@@ -14,8 +14,8 @@ use Rattle.board.proofs.ValidLaws.{Valid, valid-parts}
 use Rattle.states.proofs.ShowLaws.{states-shown}
 use Rattle.planner.specs.Look.{too-short}
 use Rattle.planner.proofs.LookLaws.{shows, looks-invalid, looks-short, looks-shown, Rooms, rooms, valid-fields}
-use Rattle.planner.proofs.look.look.Statement.{statement}
-use Rattle.planner.proofs.look.look.Tie as tie
+use Rattle.planner.proofs.inspect.look.Statement.{statement}
+use Rattle.planner.proofs.inspect.look.Tie as tie
 
 -- THE BOARD is valid
 abbrev start-of : tie.After-is-valid → tie.Start

@@ -6,8 +6,8 @@ use native.Mathlib.Omega.{arith}
 use borrow.Author.Tests.{lt-ltb, le-ltb}
 use Rattle.states.proofs.CellLaws.{square}
 use Rattle.planner.specs.Look.{too-short}
-use Rattle.planner.proofs.look.is_too_short.Statement.{statement}
-use Rattle.planner.proofs.look.is_too_short.Tie as tie
+use Rattle.planner.proofs.inspect.is_too_short.Statement.{statement}
+use Rattle.planner.proofs.inspect.is_too_short.Tie as tie
 
 returns : tie.Need-returns
 unfolding too-short
