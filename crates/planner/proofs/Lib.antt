@@ -1,7 +1,9 @@
 -- Laws. Assumes nothing.
 pub mod CopyLaws
 pub mod OpenLaws
+pub mod WriteLaws
 pub mod LookLaws
 pub mod SurveyLaws
+pub mod CallKinds
 pub mod CallSteps
 pub mod ReplayLaws

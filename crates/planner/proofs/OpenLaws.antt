@@ -10,10 +10,46 @@ use Rattle.base.proofs.Tests.{test}
 use Rattle.card.specs.Card.{card-refusal, instance-in}
 use Rattle.card.specs.Reading.{contents-of, accepted, blank as no-contents}
 use Rattle.card.specs.declared.read.Contents.{Contents}
-use Rattle.board.specs.ModelOf.{board-with, blank}
+use Rattle.board.specs.Model.{opened, valid}
+use Rattle.board.specs.Log.{new-log}
+use Rattle.board.specs.ModelOf.{model-of, history-of, board-with, blank}
+use Rattle.board.specs.declared.Board.{Board}
+use Rattle.board.proofs.LogLaws.{Tied}
+use Rattle.board.proofs.RunLaws.{new-board-follows}
+use Rattle.card.proofs.CardAgain.{opened-valid}
+use Rattle.card.proofs.OpensLaws.{marks-long}
 use Rattle.planner.specs.declared.Opened.{Opened}
 use Rattle.planner.specs.Calls.{opened-with, opened-from, fresh}
 
+-- A FRESH BOARD is valid and follows a new log
+pub record Starts (ws : List ℕ) (b : Board) : Type 0 where
+  pub good : valid (model-of b) ≡ true
+  pub tied : Tied (model-of b) (new-log (instance-in ws))
+  pub same-n : b .n ≡ instance-in ws .n
+
+fresh-starts : (ws : List ℕ) → card-refusal ws ≡ 0 → Starts ws (fresh (instance-in ws))
+unfolding board-with opened history-of
+fresh-starts ws z =
+    let s = instance-in ws in
+    let f = new-board-follows (s .n) (s .root) (s .budget) (s .weights) (s .marks) (fresh s) (record { board = refl; model = refl }) (opened-valid ws z) (marks-long ws) in
+    record { good = f .is-valid; tied = f .tied; same-n = refl }
+
+pub opened-starts : (ws : List ℕ) (o : Opened) → o ≡ opened-from ws → card-refusal ws ≡ 0 → Starts ws (o .board)
+unfolding opened-from
+opened-starts ws o e z =
+    let q : o ≡ opened-with 0 (fresh (instance-in ws)) = e ∙ rw (eq-eqb (card-refusal ws) 0 z) in
+    subst (Starts ws) (sym (ap (λ (x : Opened). x .board) q)) (fresh-starts ws z)
+
+-- the answer is the card's refusal
+pub opened-answer : (ws : List ℕ) (o : Opened) → o ≡ opened-from ws → o .answer ≡ card-refusal ws
+unfolding opened-from
+opened-answer ws o e = ap (λ (x : Opened). x .answer) e ∙ go (eqb (card-refusal ws) 0) refl
+  where
+    go : (b : Bool) → eqb (card-refusal ws) 0 ≡ b → cond b (opened-with 0 (fresh (instance-in ws))) (opened-with (card-refusal ws) blank) .answer ≡ card-refusal ws
+    go true q = sym (eqb-true (card-refusal ws) 0 q)
+    go false q = refl
+
+-- WHAT A CARD SAYS
 -- contents with the refusal they come with
 refusal-said : (ws : List ℕ) → contents-of ws .refusal ≡ card-refusal ws
 unfolding contents-of no-contents

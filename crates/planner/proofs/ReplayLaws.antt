@@ -9,7 +9,8 @@ use native.Mathlib.Numerals.{add-one}
 use lib.Dec.{ltb, eqb}
 use lib.ListN.{length, getD, set, take, drop, length-set, drop-of-length-le, take-append-drop}
 use lib.Seq.{drop-cons, take-suc-set, drop-set-lt}
-use borrow.Author.Tests.{lt-ltb, le-ltb, eq-eqb, ne-eqb}
+use borrow.Author.Tests.{le-ltb, ltb-false, eq-eqb, eqb-true, not-false}
+use Rattle.base.proofs.Tests.{or-false-left, or-false-right}
 use Rattle.instance.specs.Instance.{Instance}
 use Rattle.instance.specs.States.{states}
 use Rattle.card.specs.Card.{card-refusal, instance-in}
@@ -69,6 +70,24 @@ drop-later l m j q = drop-more l j ∙ ap (drop 1) q ∙ sym (drop-more m j)
 fit : (ks fs gs xs : List ℕ) → length fs ≡ length ks → length gs ≡ length ks → length ks ≤ length xs → unfit (length ks) (length fs) (length gs) (length xs) ≡ false
 unfolding unfit
 fit ks fs gs xs p q r = simp (eq-eqb (length fs) (length ks) p, eq-eqb (length gs) (length ks) q, le-ltb (length xs) (length ks) r)
+
+pub record Fitting (kinds firsts seconds answers : ℕ) : Type 0 where
+  pub as-many-firsts : firsts ≡ kinds
+  pub as-many-seconds : seconds ≡ kinds
+  pub room : kinds ≤ answers
+
+pub fitting : (k f s a : ℕ) → unfit k f s a ≡ false → Fitting k f s a
+unfolding unfit
+fitting k f s a e =
+    let P = not (eqb f k) in
+    let Q = not (eqb s k) in
+    let R = ltb a k in
+    let r = or-false-right P (Q || R) e in
+    record {
+      as-many-firsts = eqb-true f k (not-false (eqb f k) (or-false-left P (Q || R) e));
+      as-many-seconds = eqb-true s k (not-false (eqb s k) (or-false-left Q R r));
+      room = ltb-false a k (or-false-right Q R r);
+    }
 
 -- lists that do not fit, and a card that does not open
 pub not-opened : (ws ks fs gs xs : List ℕ) (old : Buffers) (v : View) (a : ℕ) → card-refusal ws ≡ a → (a ≡ 0 → ⊥) → v ≡ Refused a → Replays ws ks fs gs v xs xs old old

@@ -5,6 +5,7 @@ pub mod open; // open.rt: a board from a card
 pub mod write; // write.rt: a board written as a card
 mod survey; // survey.rt: planning a board's instance
 pub mod inspect; // inspect.rt: a look at a board
+mod replaying; // replaying.rt: a list of calls, one after the other
 
 pub use board::Answered;
 pub use board::Board;
@@ -16,6 +17,7 @@ pub use board::commands::take_back;
 pub use card::write::Written;
 pub use inspect::look;
 pub use open::open_card;
+pub use replaying::replay;
 pub use write::write_card;
 
 // What opening gives: 0 and the board, or the number of the refusal and the blank board.

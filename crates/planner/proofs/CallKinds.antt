@@ -1,0 +1,40 @@
+-- The call that a kind stands for, made. Assumes nothing.
+use mathlib.Core.Path.{_≡_, refl, sym, subst}
+use mathlib.Core.Bool.{cond}
+use Prim.Native.Nat.{ℕ, zero, suc, _≤_, _<_}
+use native.Mathlib.Omega.{arith}
+use Rattle.board.specs.Model.{Command, answered, valid}
+use Rattle.board.specs.ModelOf.{model-of, Answers}
+use Rattle.board.specs.declared.Board.{Board}
+use Rattle.board.specs.declared.Answered.{Answered}
+use Rattle.planner.specs.declared.View.{View}
+use Rattle.planner.specs.Look.{Buffers, answer-of, Looks}
+use Rattle.planner.specs.Replay.{Call, command, look, write, call, Makes}
+
+call-write : (k a b : ℕ) → 6 ≤ k → call k a b ≡ write
+unfolding call
+call-write zero a b h = absurd (omega arith)
+call-write (suc zero) a b h = absurd (omega arith)
+call-write (suc (suc zero)) a b h = absurd (omega arith)
+call-write (suc (suc (suc zero))) a b h = absurd (omega arith)
+call-write (suc (suc (suc (suc zero)))) a b h = absurd (omega arith)
+call-write (suc (suc (suc (suc (suc zero))))) a b h = absurd (omega arith)
+call-write (suc (suc (suc (suc (suc (suc k)))))) a b h = refl
+
+call-look : (k a b : ℕ) → k ≡ 5 → call k a b ≡ look
+unfolding call
+call-look k a b e = rw e
+
+module _ (k x y : ℕ) (b : Board) where
+  pub makes-command : (c : Command) (r : Answered) (z : Buffers) → command c ≡ call k x y → Answers (answered c (model-of b)) b r → Makes (call k x y) b r z z
+  unfolding Makes
+  makes-command c r z e a = subst (λ (q : Call). Makes q b r z z) e (a, refl)
+
+  pub makes-look : (v : View) (a : ℕ) (old new : Buffers) → k ≡ 5 → a ≡ answer-of v → Looks b v old new →
+      Makes (call k x y) b (record { answer = a; board = b }) old new
+  unfolding Makes
+  makes-look v a old new e q l = subst (λ (c : Call). Makes c b (record { answer = a; board = b }) old new) (sym (call-look k x y e)) (v, q, refl, l)
+
+  pub makes-write : (a : ℕ) (z : Buffers) → 6 ≤ k → a ≡ cond (valid (model-of b)) 0 15 → Makes (call k x y) b (record { answer = a; board = b }) z z
+  unfolding Makes
+  makes-write a z h q = subst (λ (c : Call). Makes c b (record { answer = a; board = b }) z z) (sym (call-write k x y h)) (q, refl, refl)

@@ -1,0 +1,133 @@
+// A whole list of calls on a freshly opened card, and a look at the end: demand 3 of document 01 as one function.
+ghost use mathlib.Core.Path.{_≡_};
+ghost use mathlib.Core.Bool.{cond};
+ghost use Prim.Native.Nat.{_<_};
+ghost use Rattle.board.specs.Model.{valid};
+ghost use Rattle.board.specs.ModelOf.{model-of, command-of};
+ghost use Rattle.planner.specs.Look.{buffers, answer-of};
+ghost use Rattle.planner.specs.Replay.{call, Makes, unfit, Replays};
+ghost use Rattle.planner.specs.Replay as calls;
+use crate::View;
+use crate::inspect::look;
+use crate::open::open_card;
+use crate::write::write_card;
+use board::Answered;
+use board::Board;
+use board::Command;
+use board::commands::execute;
+use instance::Vertex;
+
+const LOOK: u8 = 5;
+
+// The length of the longest card.
+const LONGEST_CARD: usize = 2648;
+
+fn view_answer(v: View) -> u32
+    ensures { λ r. ⌜ r ≡ answer-of v ⌝ }
+{
+    match v {
+        View::Plan(_, _) => 0,
+        View::Over(_, _) => 0,
+        View::NoTree(_) => 0,
+        View::Refused(number) => number,
+    }
+}
+
+// The command of a kind below that of a look.
+fn command_at(kind: u8, first: u32, second: u32) -> Command
+    requires { ⌜ kind < 5 ⌝ }
+    ensures { λ r. ⌜ calls.command (command-of r) ≡ call kind first second ⌝ }
+{
+    if kind == 0 {
+        return Command::Pin(Vertex(first), Vertex(second));
+    }
+    if kind == 1 {
+        return Command::Ban(Vertex(first), Vertex(second));
+    }
+    if kind == 2 {
+        return Command::Clear(Vertex(first), Vertex(second));
+    }
+    if kind == 3 {
+        return Command::SetBudget(first);
+    }
+    Command::TakeBack
+}
+
+// A write whose card is not wanted: what it answers.
+fn write_away(b: Board) -> u32
+    ensures { λ r. ⌜ r ≡ cond (valid (model-of b)) 0 15 ⌝ }
+{
+    let mut out = [0u8; LONGEST_CARD];
+    let written = write_card(b, &mut out);
+    written.number
+}
+
+// One call of the list.
+fn make_call(
+    b: Board,
+    kind: u8,
+    first: u32,
+    second: u32,
+    parents: &mut [u8],
+    states: &mut [u8],
+    cuts: &mut [u32],
+) -> Answered
+    ensures { λ r. ⌜ Makes (call kind first second) b r (buffers (now (parents .entry)) (now (states .entry)) (now (cuts .entry))) (buffers (now (parents .exit)) (now (states .exit)) (now (cuts .exit))) ⌝ }
+{
+    if kind < LOOK {
+        let command = command_at(kind, first, second);
+        return execute(b, command);
+    }
+    if kind == LOOK {
+        let view = look(b, parents, states, cuts);
+        let answer = view_answer(view);
+        return Answered { answer, board: b };
+    }
+    let answer = write_away(b);
+    Answered { answer, board: b }
+}
+
+fn is_unfit(kinds: usize, firsts: usize, seconds: usize, answers: usize) -> bool
+    ensures { λ r. ⌜ r ≡ unfit kinds firsts seconds answers ⌝ }
+{
+    if firsts != kinds {
+        return true;
+    }
+    if seconds != kinds {
+        return true;
+    }
+    answers < kinds
+}
+
+// Opens the card, makes every call of the lists (kind, first and second number of each; a kind 0 pins, 1 bans, 2 clears, 3 sets the
+// budget, 4 takes back, 5 looks, any other writes), stores every answer, and looks at the end. A look between goes into the same buffers.
+pub fn replay(
+    bytes: &[u8],
+    kinds: &[u8],
+    firsts: &[u32],
+    seconds: &[u32],
+    answers: &mut [u32],
+    parents: &mut [u8],
+    states: &mut [u8],
+    cuts: &mut [u32],
+) -> View
+    ensures { λ r. ⌜ Replays (now (bytes .entry)) (now (kinds .entry)) (now (firsts .entry)) (now (seconds .entry)) r (now (answers .entry)) (now (answers .exit)) (buffers (now (parents .entry)) (now (states .entry)) (now (cuts .entry))) (buffers (now (parents .exit)) (now (states .exit)) (now (cuts .exit))) ⌝ }
+{
+    let opened = open_card(bytes);
+    let refusal = opened.answer;
+    if refusal != 0 {
+        return View::Refused(refusal);
+    }
+    if is_unfit(kinds.len(), firsts.len(), seconds.len(), answers.len()) {
+        return View::Refused(14);
+    }
+    let mut b = opened.board;
+    let mut i: usize = 0;
+    while i < kinds.len() {
+        let made = make_call(b, kinds[i], firsts[i], seconds[i], parents, states, cuts);
+        answers[i] = made.answer;
+        b = made.board;
+        i += 1;
+    }
+    look(b, parents, states, cuts)
+}
