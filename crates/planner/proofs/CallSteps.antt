@@ -71,6 +71,9 @@ pub record Look-step (t : Bool) (n : ℕ) (v : View) (old new : Buffers) : Type 
   pub answer : answer-of v ≡ cond t 14 0
   pub since : Since t n old new
 
+pub shown-answer : (s : Instance) (v : View) (old new : Buffers) → Shows s v old new → answer-of v ≡ 0
+shown-answer s v old new x = ap answer-of (x .result) ∙ view-answers (outcome s) (pairs v)
+
 module _ (s : Instance) (v : View) (old new : Buffers) (room : s .n * s .n ≤ length (old .states)) (x : Shows s v old new) where
   states-long : length (states s) ≡ s .n * s .n
   states-long = states-read s .size
@@ -78,7 +81,7 @@ module _ (s : Instance) (v : View) (old new : Buffers) (room : s .n * s .n ≤ l
   shown-step : Look-step false (s .n) v old new
   shown-step =
       record {
-        answer = ap answer-of (x .result) ∙ view-answers (outcome s) (pairs v);
+        answer = shown-answer s v old new x;
         since =
             record {
               untouched = λ (e : false ≡ true). absurd (true≢false (sym e));

@@ -7,3 +7,7 @@ pub mod SurveyLaws
 pub mod CallKinds
 pub mod CallSteps
 pub mod ReplayLaws
+pub mod Learnt
+pub mod DemandOne
+pub mod DemandTwo
+pub mod DemandThree

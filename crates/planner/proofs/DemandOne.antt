@@ -1,0 +1,130 @@
+-- DEMAND 1, stated once: whatever a public call was handed, its answer is 0 or one of document 01's refusals 1 to 15. (That every call ends,
+-- and that nothing is required of the caller, is what each function's own proof says; that board and buffers are as before after a
+-- refusal, its contract.) Assumes nothing.
+use mathlib.Core.Path.{_≡_, refl, sym, ap, _∙_, subst}
+use mathlib.Core.Bool.{Bool, true, false, cond, not, _&&_}
+use mathlib.Core.List.{List, [], _∷_}
+use Prim.Native.Nat.{ℕ, zero, suc, _≤_}
+use native.Mathlib.Omega.{arith}
+use lib.Dec.{ltb, leb}
+use lib.ListN.{length}
+use Rattle.instance.specs.Instance.{Instance, is-arc, mark}
+use Rattle.instance.specs.Limits.{max-records, max-budget}
+use Rattle.card.specs.Card.{card-refusal, bytes-needed}
+use Rattle.card.specs.Writing.{written}
+use Rattle.card.specs.declared.write.Written.{Written}
+use Rattle.card.proofs.OpensLaws.{card-refusal-most}
+use Rattle.board.specs.Model.{Command, pin, ban, clear, set-budget, undo, Replaced, old-mark, old-budget, with-mark, with-budget, Model, Result, refused, accepted, marked, budgeted, undone, applied, valid, answered}
+use Rattle.board.specs.ModelOf.{model-of, instance-of}
+use Rattle.board.specs.declared.Board.{Board}
+use Rattle.board.specs.declared.Answered.{Answered}
+use Rattle.board.proofs.CallLaws.{call-answer}
+use Rattle.board.proofs.RunLaws.{Called, called-answers}
+use Rattle.planner.specs.declared.Opened.{Opened}
+use Rattle.planner.specs.declared.View.{View}
+use Rattle.planner.specs.Calls.{Writes}
+use Rattle.planner.specs.Look.{Buffers, answer-of, short-for, Shows, Looks-at, Looks}
+use Rattle.board.specs.Log.{Log, effective}
+use Rattle.planner.specs.Replay.{Call, calls-after, Replays-at, Replays}
+use Rattle.planner.proofs.CallSteps.{shown-answer}
+use Rattle.planner.proofs.Learnt.{Opened-by, opened-by, Looked, looked, Wrote, wrote, Replayed, replayed}
+use Rattle.planner.proofs.OpenLaws.{opened-answer}
+
+-- an answer that some public call gave
+pub data Given : ℕ → Type 0 where
+  by-open-card : {ws : List ℕ} {o : Opened} → Opened-by ws o → Given (o .answer)
+  by-command : {c : Command} {b : Board} {r : Answered} → Called c b r → Given (r .answer)
+  by-looking : {b : Board} {v : View} {old new : Buffers} → Looked b v old new → Given (answer-of v)
+  by-write-card : {b : Board} {r : Written} {out out′ : List ℕ} → Wrote b r out out′ → Given (r .number)
+  by-replaying : {ws ks fs gs : List ℕ} {v : View} {xs xs′ : List ℕ} {old new : Buffers} → Replayed ws ks fs gs v xs xs′ old new → Given (answer-of v)
+
+-- COMMANDS
+mark-answers : (p q r : Bool) (b : Model) (y : Result) → y .answer ≤ 15 → cond p (refused 9 b) (cond q (refused 10 b) (cond r (refused 12 b) y)) .answer ≤ 15
+unfolding refused
+mark-answers true q r b y l = omega arith
+mark-answers false true r b y l = omega arith
+mark-answers false false true b y l = omega arith
+mark-answers false false false b y l = l
+
+budget-answers : (p r : Bool) (b : Model) (y : Result) → y .answer ≤ 15 → cond p (refused 11 b) (cond r (refused 12 b) y) .answer ≤ 15
+unfolding refused
+budget-answers true r b y l = omega arith
+budget-answers false true b y l = omega arith
+budget-answers false false b y l = l
+
+accepted-most : (r : Replaced) (s : Instance) (b : Model) → accepted r s b .answer ≤ 15
+unfolding accepted
+accepted-most r s b = omega arith
+
+marked-most : (m t h : ℕ) (b : Model) → marked m t h b .answer ≤ 15
+unfolding marked
+marked-most m t h b =
+    let s = b .instance in
+    let y = accepted (old-mark t h (mark s t h)) (with-mark m t h s) b in
+    mark-answers (not (ltb t (s .n) && ltb h (s .n))) (not (is-arc s t h)) (leb max-records (length (b .history))) b y
+    (accepted-most (old-mark t h (mark s t h)) (with-mark m t h s) b)
+
+budgeted-most : (v : ℕ) (b : Model) → budgeted v b .answer ≤ 15
+unfolding budgeted
+budgeted-most v b =
+    let s = b .instance in
+    budget-answers (ltb max-budget v) (leb max-records (length (b .history))) b (accepted (old-budget (s .budget)) (with-budget v s) b)
+    (accepted-most (old-budget (s .budget)) (with-budget v s) b)
+
+undone-most : (rs : List Replaced) (b : Model) → undone rs b .answer ≤ 15
+unfolding undone refused
+undone-most [] b = omega arith
+undone-most (r ∷ rs) b = omega arith
+
+applied-most : (c : Command) (b : Model) → applied c b .answer ≤ 15
+unfolding applied
+applied-most (pin t h) b = marked-most _ t h b
+applied-most (ban t h) b = marked-most _ t h b
+applied-most (clear t h) b = marked-most _ t h b
+applied-most (set-budget v) b = budgeted-most v b
+applied-most undo b = undone-most (b .history) b
+
+answered-most : (c : Command) (b : Model) → answered c b .answer ≤ 15
+unfolding answered refused
+answered-most c b = go (valid b)
+  where
+    go : (t : Bool) → cond t (applied c b) (refused 15 b) .answer ≤ 15
+    go true = applied-most c b
+    go false = omega arith
+
+-- LOOKS
+looks-at-most : (g t : Bool) (s : Instance) (v : View) (old new : Buffers) → Looks-at g t s v old new → answer-of v ≤ 15
+unfolding Looks-at
+looks-at-most false t s v old new u = let e = ap answer-of (u .result) in omega arith
+looks-at-most true true s v old new u = let e = ap answer-of (u .result) in omega arith
+looks-at-most true false s v old new x = let e = shown-answer s v old new x in omega arith
+
+-- WRITES
+writes-most : (b : Board) (r : Written) (out out′ : List ℕ) → Writes b r out out′ → r .number ≤ 15
+unfolding written
+writes-most b r out out′ w = let e = ap (λ (x : Written). x .number) (w .result) in subst (λ (n : ℕ). n ≤ 15) (sym e) (go (valid (model-of b)) (ltb (length out) (bytes-needed (b .n))))
+  where
+    go : (g t : Bool) → cond {A = Written} g (cond t (record { number = 14; length = 0 }) (record { number = 0; length = bytes-needed (b .n) })) (record { number = 15; length = 0 }) .number ≤ 15
+    go true true = omega arith
+    go true false = omega arith
+    go false t = omega arith
+
+-- REPLAYS
+replays-at-most :
+    (a : ℕ) (u t : Bool) (cs : List Call) (k : Log) (v : View) (xs xs′ : List ℕ) (old new : Buffers) → a ≤ 8 → Replays-at a u t cs k v xs xs′ old new → answer-of v ≤ 15
+unfolding Replays-at
+replays-at-most (suc a) u t cs k v xs xs′ old new l r = let e = ap answer-of (r .1 .result) in omega arith
+replays-at-most zero true t cs k v xs xs′ old new l r = let e = ap answer-of (r .1 .result) in omega arith
+replays-at-most zero false true cs k v xs xs′ old new l r = let e = ap answer-of (r .1 .result) in omega arith
+replays-at-most zero false false cs k v xs xs′ old new l r = let e = shown-answer (effective (calls-after false cs k)) v old new (r .1) in omega arith
+
+-- EVERY ANSWER IS LISTED
+pub demand-1 : {a : ℕ} → Given a → a ≤ 15
+unfolding Looks Replays
+demand-1 (by-open-card {ws = ws} {o = o} p) = let e = opened-answer ws o (opened-by p) in let m = card-refusal-most ws in omega arith
+demand-1 (by-command {c = c} {b = b} {r = r} p) = let e = call-answer c b r (called-answers p) in let m = answered-most c (model-of b) in omega arith
+demand-1 (by-looking {b = b} {v = v} {old = old} {new = new} p) =
+    looks-at-most (valid (model-of b)) (short-for (b .n) old) (instance-of b) v old new (looked p)
+demand-1 (by-write-card {b = b} {r = r} {out = out} {out′ = out′} p) = writes-most b r out out′ (wrote p)
+demand-1 (by-replaying {ws = ws} {v = v} {xs = xs} {xs′ = xs′} {old = old} {new = new} p) =
+    replays-at-most (card-refusal ws) _ _ _ _ v xs xs′ old new (card-refusal-most ws) (replayed p)

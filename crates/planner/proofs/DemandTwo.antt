@@ -1,0 +1,59 @@
+-- DEMAND 2, from the look's own contract: plan, over and none exactly when they should be, and the cuts that stand in the buffer prove the
+-- price that is shown, by weak duality. Assumes nothing.
+use mathlib.Core.Path.{_≡_, refl, sym, _∙_, subst}
+use mathlib.Core.Bool.{Bool, true, false}
+use mathlib.Core.List.{List, [], _∷_}
+use mathlib.Core.Logic.{_⊎_, ⊎-elim}
+use Prim.Native.Nat.{ℕ, _≤_}
+use Rattle.instance.specs.Instance.{Instance}
+use Rattle.instance.specs.Arborescence.{is-arborescence, total}
+use Rattle.instance.specs.Cuts.{Cut, cuts-in, values}
+use Rattle.instance.specs.States.{Outcome, plan, over, no-tree, outcome}
+use Rattle.theory.specs.Readings.{Outcome-reads}
+use Rattle.theory.proofs.Duality.{weak-duality, no-entry}
+use Rattle.theory.proofs.OutcomeLaws.{outcome-reads}
+use Rattle.board.specs.Model.{valid}
+use Rattle.board.specs.ModelOf.{model-of, instance-of}
+use Rattle.board.specs.declared.Board.{Board}
+use Rattle.planner.specs.declared.View.{View}
+use Rattle.planner.specs.Look.{Buffers, view, pairs, short-for, Cuts-shown, Shows, Looks-at}
+use Rattle.planner.proofs.CallSteps.{looks-valid}
+use Rattle.planner.proofs.Learnt.{Looked, looked}
+
+pub record Demand-2 (s : Instance) (v : View) (new : Buffers) : Type 0 where
+  pub shown : v ≡ view (outcome s) (pairs v)
+  pub right : Outcome-reads s (outcome s)
+  pub price : (w : ℕ) → (outcome s ≡ plan w) ⊎ (outcome s ≡ over w) → values (cuts-in (pairs v) (new .cuts)) ≡ w
+  pub cheapest : (ps : List ℕ) → is-arborescence s ps ≡ true → values (cuts-in (pairs v) (new .cuts)) ≤ total s ps
+
+plan-price : (o : Outcome) (s : Instance) (cs : List Cut) (w : ℕ) → Cuts-shown o s cs → o ≡ plan w → values cs ≡ w
+unfolding Cuts-shown
+plan-price (plan u) s cs w c e = c .adds ∙ cc
+plan-price (over u) s cs w c e = cc
+plan-price no-tree s cs w c e = cc
+
+over-price : (o : Outcome) (s : Instance) (cs : List Cut) (w : ℕ) → Cuts-shown o s cs → o ≡ over w → values cs ≡ w
+unfolding Cuts-shown
+over-price (plan u) s cs w c e = cc
+over-price (over u) s cs w c e = c .adds ∙ cc
+over-price no-tree s cs w c e = cc
+
+no-cheaper : (o : Outcome) (s : Instance) (cs : List Cut) → Cuts-shown o s cs → (ps : List ℕ) → is-arborescence s ps ≡ true → values cs ≤ total s ps
+unfolding Cuts-shown
+no-cheaper (plan u) s cs c ps a = weak-duality s ps a cs (c .feasible)
+no-cheaper (over u) s cs c ps a = weak-duality s ps a cs (c .feasible)
+no-cheaper no-tree s cs c ps a = absurd (no-entry s ps a (c .0) (c .2))
+
+pub demand-2 :
+    (b : Board) (v : View) (old new : Buffers) → Looked b v old new → valid (model-of b) ≡ true → short-for (b .n) old ≡ false → Demand-2 (instance-of b) v new
+unfolding Looks-at
+demand-2 b v old new l g t =
+    let s = instance-of b in
+    let x : Shows s v old new = subst (λ (z : Bool). Looks-at true z s v old new) t (looks-valid b v old new g (looked l)) in
+    let cs = cuts-in (pairs v) (new .cuts) in
+    record {
+      shown = x .result;
+      right = outcome-reads s;
+      price = λ w e. ⊎-elim (λ (p : outcome s ≡ plan w). plan-price (outcome s) s cs w (x .cuts-shown) p) (λ (p : outcome s ≡ over w). over-price (outcome s) s cs w (x .cuts-shown) p) e;
+      cheapest = no-cheaper (outcome s) s cs (x .cuts-shown);
+    }

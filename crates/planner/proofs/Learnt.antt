@@ -1,0 +1,59 @@
+-- What a caller learns of the public calls that are functions of this crate, from the functions' own contracts (`Learnt`): so the theorems that
+-- cite it are about these functions and no others. The commands' part is `Called` of crate board. Assumes nothing.
+use mathlib.Core.Path.{_≡_}
+use mathlib.Core.List.{List}
+use Prim.Native.Nat.{ℕ}
+use contract.Lifetimes.{Lfts}
+use borrow.Fn.Kinds.{Dens, endedOf}
+use denote.Ref.{now}
+use denote.Triple.Clauses.{AtExit}
+use Rattle.card.specs.declared.write.Written.{Written}
+use Rattle.board.specs.declared.Board.{Board}
+use Rattle.planner.specs.declared.Opened.{Opened}
+use Rattle.planner.specs.declared.View.{View}
+use Rattle.planner.specs.Calls.{opened-from, Writes}
+use Rattle.planner.specs.Look.{Buffers, buffers, Looks}
+use Rattle.planner.specs.Replay.{Replays}
+use Rattle.planner.proofs.open.open_card.Reads as open-reads
+use Rattle.planner.proofs.open.open_card.Kinds as open-kinds
+use Rattle.planner.proofs.inspect.look.Reads as look-reads
+use Rattle.planner.proofs.inspect.look.Kinds as look-kinds
+use Rattle.planner.proofs.write.write_card.Reads as write-reads
+use Rattle.planner.proofs.write.write_card.Kinds as write-kinds
+use Rattle.planner.proofs.replaying.replay.Reads as replay-reads
+use Rattle.planner.proofs.replaying.replay.Kinds as replay-kinds
+
+pub data Opened-by : (card : List ℕ) → Opened → Type 0 where
+  by-open :
+      (κs : Lfts 1) (a : Dens κs open-kinds.ps) (o : Opened) (e : AtExit (endedOf 1 open-kinds.ps open-kinds.r) κs) → open-reads.Learnt κs a o e →
+      Opened-by (now (a .0)) o
+
+pub data Looked : Board → View → (old new : Buffers) → Type 0 where
+  by-look :
+      (κs : Lfts 3) (a : Dens κs look-kinds.ps) (v : View) (e : AtExit (endedOf 3 look-kinds.ps look-kinds.r) κs) → look-reads.Learnt κs a v e →
+      Looked (a .0) v (buffers (now (a .1 .0)) (now (a .1 .1 .0)) (now (a .1 .1 .1 .0))) (buffers (now (e .1 .0)) (now (e .1 .1 .0)) (now (e .1 .1 .1 .0)))
+
+pub data Wrote : Board → Written → (out out′ : List ℕ) → Type 0 where
+  by-write :
+      (κs : Lfts 1) (a : Dens κs write-kinds.ps) (r : Written) (e : AtExit (endedOf 1 write-kinds.ps write-kinds.r) κs) → write-reads.Learnt κs a r e →
+      Wrote (a .0) r (now (a .1 .0)) (now (e .1 .0))
+
+pub opened-by : {ws : List ℕ} {o : Opened} → Opened-by ws o → o ≡ opened-from ws
+opened-by (by-open κs a o e l) = l
+
+pub looked : {b : Board} {v : View} {old new : Buffers} → Looked b v old new → Looks b v old new
+looked (by-look κs a v e l) = l
+
+pub wrote : {b : Board} {r : Written} {out out′ : List ℕ} → Wrote b r out out′ → Writes b r out out′
+wrote (by-write κs a r e l) = l
+
+pub data Replayed : (card kinds firsts seconds : List ℕ) → View → (answers answers′ : List ℕ) → (old new : Buffers) → Type 0 where
+  by-replay :
+      (κs : Lfts 8) (a : Dens κs replay-kinds.ps) (v : View) (e : AtExit (endedOf 8 replay-kinds.ps replay-kinds.r) κs) → replay-reads.Learnt κs a v e →
+      Replayed (now (a .0)) (now (a .1 .0)) (now (a .1 .1 .0)) (now (a .1 .1 .1 .0)) v (now (a .1 .1 .1 .1 .0)) (now (e .1 .1 .1 .1 .0))
+      (buffers (now (a .1 .1 .1 .1 .1 .0)) (now (a .1 .1 .1 .1 .1 .1 .0)) (now (a .1 .1 .1 .1 .1 .1 .1 .0)))
+      (buffers (now (e .1 .1 .1 .1 .1 .0)) (now (e .1 .1 .1 .1 .1 .1 .0)) (now (e .1 .1 .1 .1 .1 .1 .1 .0)))
+
+pub replayed :
+    {ws ks fs gs : List ℕ} {v : View} {xs xs′ : List ℕ} {old new : Buffers} → Replayed ws ks fs gs v xs xs′ old new → Replays ws ks fs gs v xs xs′ old new
+replayed (by-replay κs a v e l) = l
