@@ -76,7 +76,7 @@ module _ {ws ls tails heads : List ℕ} {n root left : ℕ} (r : Ready ws ls tai
     cycle : Cycle n root (cost ws) (at ls) (at tails) (at heads) on v
     cycle = cycle-at (r .chosen)
 
-    pub v-below : v < n
+    v-below : v < n
     v-below = mt .walk .v-below
 
     v-label : at ls v ≡ v
@@ -94,7 +94,7 @@ module _ {ws ls tails heads : List ℕ} {n root left : ℕ} (r : Ready ws ls tai
     label-root : at lc root ≡ at ls root
     label-root = label-off root root-below (cycle .root-off)
 
-    pub root-not-v : at lc root ≢ v
+    root-not-v : at lc root ≢ v
     root-not-v e = not-both (on v) (cycle .c-on) (subst (λ (x : ℕ). on x ≡ false) (sym label-root ∙ e) (cycle .root-off))
 
     back-on : (u : ℕ) → u < n → at lc u ≡ v → on (at ls u) ≡ true
@@ -134,7 +134,7 @@ module _ {ws ls tails heads : List ℕ} {n root left : ℕ} (r : Ready ws ls tai
         (λ (o : on (at ls u) ≡ false). eq-eqb (at ls u) u (sym (label-off u l o) ∙ eqb-true (at lc u) u e)) (test (on (at ls u)))
 
     -- the group of the tail of v's arc is another of the cycle
-    pub fewer : groups n (at lc) + 1 ≤ groups n (at ls)
+    fewer : groups n (at lc) + 1 ≤ groups n (at ls)
     fewer =
         let tb = cycle .tail-below v (cycle .c-on) in
         let u = at ls (at tails v) in
@@ -144,7 +144,7 @@ module _ {ws ls tails heads : List ℕ} {n root left : ℕ} (r : Ready ws ls tai
         count-more n (λ x. eqb (at lc x) x) (λ x. eqb (at ls x) x) still-own u ub
         (ne-eqb (at lc u) u (λ e. cycle .tail-out v (cycle .c-on) (sym e ∙ lu))) (eq-eqb (at ls u) u us)
 
-    pub two-left : 2 ≤ groups n (at lc)
+    two-left : 2 ≤ groups n (at lc)
     two-left =
         let ρ = at lc root in
         let ρs = coarse-labels .self root root-below in
