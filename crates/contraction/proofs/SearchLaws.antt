@@ -36,6 +36,7 @@ module _ (n root : ℕ) (label tail stamp : ℕ → ℕ) (first now v : ℕ) (k 
       ⊎-elim (λ (h : suc (stamp x) ≡ stamp (follow x)). go (from-x d (follow x) g (omega arith) (omega arith)))
       (λ (h : (follow x ≡ v) × (suc (stamp x) ≡ now)). absurd (omega (arith, k .last g, h .1))) (k .new x l)
 
+  -- its groups are stamped no earlier than v
   abbrev pub on-cycle : ℕ → Bool
   on-cycle g = leb (stamp v) (stamp g)
 

@@ -126,13 +126,13 @@ module _ (ws₀ : List ℕ) (n root : ℕ) (size : length ws₀ ≡ cells) (smal
 
       module _ (th : found ≡ true) where
         joined : cuts-from k 0 cuts ++ cuts-from (count - k) k cuts′ ≡ cs
-        joined = cuts-begun k count cuts cuts′ (so .least th) (so .frame th)
+        joined = cuts-begun k count cuts cuts′ (so .solution th .least) (so .solution th .frame)
 
         lowered : Lowered n (cost ws₀) (cost ws′) cs
-        lowered = subst (Lowered n (cost ws₀) (cost ws′)) joined (lowered-twice (b .lowered) (so .lowered th))
+        lowered = subst (Lowered n (cost ws₀) (cost ws′)) joined (lowered-twice (b .lowered) (so .solution th .lowered))
 
         fine : Each (Fine n root) cs
-        fine = subst (Each (Fine n root)) joined (each-append (cuts-from k 0 cuts) (cuts-from (count - k) k cuts′) (b .fine) (so .fine th))
+        fine = subst (Each (Fine n root)) joined (each-append (cuts-from k 0 cuts) (cuts-from (count - k) k cuts′) (b .fine) (so .solution th .fine))
 
         same-parent : (q : ℕ) → q < n → parent (take n ps) q ≡ at ps q
         same-parent q l = let z = so .parents-size in getD-take n ps q no-parent l ∙ default ps q no-parent 0 (omega arith)
@@ -141,10 +141,10 @@ module _ (ws₀ : List ℕ) (n root : ℕ) (size : length ws₀ ≡ cells) (smal
         tree =
             tree-same n root (cost ws′) (at ls) (λ q. q) (at ps) (parent (take n ps)) rb (λ q l. sym (own q (omega arith))) same-parent cs
             (subst (λ (x : List Cut). Tree n root (cost ws′) (at ls) x (at ps)) joined
-            (b .lifts (cost ws′) (cuts-from (count - k) k cuts′) (at ps) (so .tree th)))
+            (b .lifts (cost ws′) (cuts-from (count - k) k cuts′) (at ps) (so .solution th .tree)))
 
         few : count ≤ cut-limit n
-        few = all-few small own rb b end le bound count (so .most th)
+        few = all-few small own rb b end le bound count (so .solution th .most)
 
         minimum : Minimum s (take n ps) cs
         unfolding unmarked
@@ -152,7 +152,7 @@ module _ (ws₀ : List ℕ) (n root : ℕ) (size : length ws₀ ≡ cells) (smal
             let z = so .parents-size in
             let sh = shows n root ws₀ small size fits in
             let sized : length (take n ps) ≡ n = length-take-le n ps (omega arith) in
-            let at-root : parent (take n ps) root ≡ no-parent = same-parent root rb ∙ so .root-none th in
+            let at-root : parent (take n ps) root ≡ no-parent = same-parent root rb ∙ so .solution th .root-none in
             let l = cuts-length count 0 cuts′ in
             let f = few in
             record {
@@ -174,7 +174,7 @@ module _ (ws₀ : List ℕ) (n root : ℕ) (size : length ws₀ ≡ cells) (smal
             rest =
                 λ th.
                 drop-same (2 * count) cuts′ cuts₀ (so .cuts-size ∙ sym cuts-size)
-                (λ i l. so .frame th i (inr l) ∙ b .frame i (omega (arith, so .least th)));
+                (λ i l. so .solution th .frame i (inr l) ∙ b .frame i (omega (arith, so .solution th .least)));
             no-set = so .no-set;
             no-entry = λ no-tree. no-entry (closed-before (b .lowered) (so .closed no-tree));
             no-parents = λ no-tree. so .none no-tree .0;

@@ -25,7 +25,7 @@ use Rattle.contraction.proofs.SearchLaws as search-laws
 use Rattle.edmonds.specs.Cells.{at, cost}
 use Rattle.edmonds.specs.Charge.{Enters, Closed, Charged-group}
 use Rattle.edmonds.specs.Cycle.{Searchable, Met, No-cycle, on-cycle, Contracted, Own-arcs, Entry, Entered, Expanded}
-use Rattle.edmonds.specs.Level.{Ready, Solved}
+use Rattle.edmonds.specs.Level.{Ready, Solution, Solved}
 use Rattle.edmonds.proofs.CutLaws.{no-cuts, cuts-joined}
 
 -- a set that no arc enters was one before the arcs were lowered
@@ -49,13 +49,17 @@ module _ {ws ls tails heads : List ℕ} {n root left : ℕ} (r : Ready ws ls tai
         size = r .size;
         cuts-size = size;
         parents-size = own .size;
-        tree = λ _. rw e (tree-same n root (cost ws) (at ls) (at ls) (own-arcs root (at ls) (at tails) (at heads)) (at ps) root-below (λ v l. refl) (own .is) [] t);
-        lowered = λ _. rw e (lowered-none n (cost ws));
-        fine = λ _. rw e none-left;
-        least = λ _. omega arith;
-        most = λ _. omega (arith, r .two);
-        frame = λ _ i why. refl;
-        root-none = λ _. own .is root root-below ∙ rw (eq-eqb (at ls root) (at ls root) refl);
+        solution =
+            λ _.
+            record {
+              tree = rw e (tree-same n root (cost ws) (at ls) (at ls) (own-arcs root (at ls) (at tails) (at heads)) (at ps) root-below (λ v l. refl) (own .is) [] t);
+              lowered = rw e (lowered-none n (cost ws));
+              fine = rw e none-left;
+              least = omega arith;
+              most = omega (arith, r .two);
+              frame = λ i why. refl;
+              root-none = own .is root root-below ∙ rw (eq-eqb (at ls root) (at ls root) refl);
+            };
         no-set = λ _. refl;
         closed = λ x. absurd (not-both true refl x);
         none = λ x. absurd (not-both true refl x);
@@ -72,7 +76,7 @@ module _ {ws ls tails heads : List ℕ} {n root left : ℕ} (r : Ready ws ls tai
     cycle : Cycle n root (cost ws) (at ls) (at tails) (at heads) on v
     cycle = cycle-at (r .chosen)
 
-    pub v-below : v < n
+    v-below : v < n
     v-below = mt .walk .v-below
 
     v-label : at ls v ≡ v
@@ -90,7 +94,7 @@ module _ {ws ls tails heads : List ℕ} {n root left : ℕ} (r : Ready ws ls tai
     label-root : at lc root ≡ at ls root
     label-root = label-off root root-below (cycle .root-off)
 
-    pub root-not-v : at lc root ≢ v
+    root-not-v : at lc root ≢ v
     root-not-v e = not-both (on v) (cycle .c-on) (subst (λ (x : ℕ). on x ≡ false) (sym label-root ∙ e) (cycle .root-off))
 
     back-on : (u : ℕ) → u < n → at lc u ≡ v → on (at ls u) ≡ true
@@ -130,7 +134,7 @@ module _ {ws ls tails heads : List ℕ} {n root left : ℕ} (r : Ready ws ls tai
         (λ (o : on (at ls u) ≡ false). eq-eqb (at ls u) u (sym (label-off u l o) ∙ eqb-true (at lc u) u e)) (test (on (at ls u)))
 
     -- the group of the tail of v's arc is another of the cycle
-    pub fewer : groups n (at lc) + 1 ≤ groups n (at ls)
+    fewer : groups n (at lc) + 1 ≤ groups n (at ls)
     fewer =
         let tb = cycle .tail-below v (cycle .c-on) in
         let u = at ls (at tails v) in
@@ -140,7 +144,7 @@ module _ {ws ls tails heads : List ℕ} {n root left : ℕ} (r : Ready ws ls tai
         count-more n (λ x. eqb (at lc x) x) (λ x. eqb (at ls x) x) still-own u ub
         (ne-eqb (at lc u) u (λ e. cycle .tail-out v (cycle .c-on) (sym e ∙ lu))) (eq-eqb (at ls u) u us)
 
-    pub two-left : 2 ≤ groups n (at lc)
+    two-left : 2 ≤ groups n (at lc)
     two-left =
         let ρ = at lc root in
         let ρs = coarse-labels .self root root-below in
@@ -161,13 +165,7 @@ module _ {ws ls tails heads : List ℕ} {n root left : ℕ} (r : Ready ws ls tai
             size = ch .size;
             cuts-size = ch .cuts-size;
             parents-size = refl;
-            tree = λ x. absurd (not-both false x refl);
-            lowered = λ x. absurd (not-both false x refl);
-            fine = λ x. absurd (not-both false x refl);
-            least = λ x. absurd (not-both false x refl);
-            most = λ x. absurd (not-both false x refl);
-            frame = λ x. absurd (not-both false x refl);
-            root-none = λ x. absurd (not-both false x refl);
+            solution = λ x. absurd (not-both false x refl);
             no-set = λ x. absurd (not-both false x refl);
             closed = λ _. ch .closed no-found root root-below root-not-v v v-below label-v;
             none = λ _. (refl, refl);
@@ -244,13 +242,7 @@ module _ {ws ls tails heads : List ℕ} {n root left : ℕ} (r : Ready ws ls tai
                 size = so .size;
                 cuts-size = so .cuts-size;
                 parents-size = so .parents-size;
-                tree = λ x. absurd (not-both found′ x e);
-                lowered = λ x. absurd (not-both found′ x e);
-                fine = λ x. absurd (not-both found′ x e);
-                least = λ x. absurd (not-both found′ x e);
-                most = λ x. absurd (not-both found′ x e);
-                frame = λ x. absurd (not-both found′ x e);
-                root-none = λ x. absurd (not-both found′ x e);
+                solution = λ x. absurd (not-both found′ x e);
                 no-set = λ x. absurd (not-both found′ x e);
                 closed = λ x. closed-before (ch .lowered) (so .closed x);
                 none = so .none;
@@ -262,22 +254,22 @@ module _ {ws ls tails heads : List ℕ} {n root left : ℕ} (r : Ready ws ls tai
             entered-at (step u l e p rest) x = (u, record { below = l; on = back-on u l (e ∙ x); has = p })
 
             pub entered : Entered ps ls stamp n v
-            entered = entered-at (so .tree th .reached v v-below) label-v
+            entered = entered-at (so .solution th .tree .reached v v-below) label-v
 
             abbrev cs : List Cut
             cs = cuts-from (m - k) k cuts″
 
             joined : cuts-from (k′ - k) k cuts′ ++ cuts-from (m - k′) k′ cuts″ ≡ cs
-            joined = cuts-joined k k′ m cuts′ cuts″ (ch .least) (so .least th) (so .frame th)
+            joined = cuts-joined k k′ m cuts′ cuts″ (ch .least) (so .solution th .least) (so .solution th .frame)
 
             lowered : Lowered n (cost ws) (cost ws″) cs
-            lowered = subst (Lowered n (cost ws) (cost ws″)) joined (lowered-twice (ch .lowered) (so .lowered th))
+            lowered = subst (Lowered n (cost ws) (cost ws″)) joined (lowered-twice (ch .lowered) (so .solution th .lowered))
 
             coarse-tree : Tree n root (cost ws″) (contracted (at ls) on v) cs (at ps)
             coarse-tree =
                 tree-same n root (cost ws″) (at lc) (contracted (at ls) on v) (at ps) (at ps) root-below (λ u l. sym (ct .is u l)) (λ u l. refl) cs
                 (subst (λ (x : List Cut). Tree n root (cost ws″) (at lc) x (at ps)) joined
-                (ch .lifts is-found root root-not-v (cost ws″) (cuts-from (m - k′) k′ cuts″) (at ps) (so .tree th)))
+                (ch .lifts is-found root root-not-v (cost ws″) (cuts-from (m - k′) k′ cuts″) (at ps) (so .solution th .tree)))
 
             module _ {e : ℕ} (en : Entry ps ls stamp n v e) {ps′ : List ℕ} (ex : Expanded ps ls stamp tails heads n v e ps′) where
               fine-tree : Tree n root (cost ws″) (at ls) cs (at ps′)
@@ -285,30 +277,35 @@ module _ {ws ls tails heads : List ℕ} {n root left : ℕ} (r : Ready ws ls tai
                   tree-same n root (cost ws″) (at ls) (at ls) (expanded (at ls) (at tails) (at heads) on (at ls e) (at ps)) (at ps′) root-below (λ u l. refl) (ex .is) cs
                   (expand-tree n root (cost ws″) (at ls) (at tails) (at heads) on v (cycle-at (chosen-lowered lowered (r .chosen))) cs (at ps) coarse-tree e (en .below) (en .on) (en .has))
 
-              pub expands : Solved ws ws″ ls n root left cuts cuts″ k true ps′ m 0
-              expands =
+              solution : Solution ws ws″ ls n root left cuts cuts″ k ps′ m
+              solution =
                   let kk = ch .least in
                   let kk′ = ch .most in
-                  let km = so .least th in
-                  let mm = so .most th in
+                  let km = so .solution th .least in
+                  let mm = so .solution th .most in
                   let lp = three in
+                  record {
+                    tree = fine-tree;
+                    lowered = lowered;
+                    fine =
+                        subst (Each (Fine n root)) joined
+                        (each-append (cuts-from (k′ - k) k cuts′) (cuts-from (m - k′) k′ cuts″) (ch .fine is-found root root-below root-not-v) (so .solution th .fine));
+                    least = omega arith;
+                    most = omega arith;
+                    frame =
+                        λ i why.
+                        ⊎-elim (λ (d : i < 2 * k). so .solution th .frame i (inl (omega arith)) ∙ ch .frame i (inl d))
+                        (λ (d : 2 * m ≤ i). so .solution th .frame i (inr d) ∙ ch .frame i (inr (omega arith))) why;
+                    root-none = ex .is root root-below ∙ rw (cycle .root-off) (so .solution th .root-none);
+                  }
+
+              pub expands : Solved ws ws″ ls n root left cuts cuts″ k true ps′ m 0
+              expands =
                   record {
                     size = so .size;
                     cuts-size = so .cuts-size;
                     parents-size = ex .size;
-                    tree = λ _. fine-tree;
-                    lowered = λ _. lowered;
-                    fine =
-                        λ _.
-                        subst (Each (Fine n root)) joined
-                        (each-append (cuts-from (k′ - k) k cuts′) (cuts-from (m - k′) k′ cuts″) (ch .fine is-found root root-below root-not-v) (so .fine th));
-                    least = λ _. omega arith;
-                    most = λ _. omega arith;
-                    frame =
-                        λ _ i why.
-                        ⊎-elim (λ (d : i < 2 * k). so .frame th i (inl (omega arith)) ∙ ch .frame i (inl d))
-                        (λ (d : 2 * m ≤ i). so .frame th i (inr d) ∙ ch .frame i (inr (omega arith))) why;
-                    root-none = λ _. ex .is root root-below ∙ rw (cycle .root-off) (so .root-none th);
+                    solution = λ _. solution;
                     no-set = λ _. refl;
                     closed = λ x. absurd (not-both true refl x);
                     none = λ x. absurd (not-both true refl x);

@@ -54,6 +54,13 @@ pub record Entry (ps ls stamp : List ℕ) (n v e : ℕ) : Type 0 where
 abbrev pub Entered : (ps ls stamp : List ℕ) (n v : ℕ) → Type 0
 Entered ps ls stamp n v = (e : ℕ) × Entry ps ls stamp n v e
 
+-- each group of the cycle but the one entered at e takes its own arc
 pub record Expanded (ps ls stamp tails heads : List ℕ) (n v e : ℕ) (r : List ℕ) : Type 0 where
   pub size : length r ≡ max-vertices
   pub is : (u : ℕ) → u < n → at r u ≡ expanded (at ls) (at tails) (at heads) (on-cycle stamp v) (at ls e) (at ps) u
+
+-- the cycle is entered at some vertex, and expanded there
+pub record Expansion (ps ls stamp tails heads : List ℕ) (n v : ℕ) (r : List ℕ) : Type 0 where
+  pub at : ℕ
+  pub entry : Entry ps ls stamp n v at
+  pub expanded : Expanded ps ls stamp tails heads n v at r

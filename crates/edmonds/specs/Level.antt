@@ -23,18 +23,22 @@ pub record Ready (ws ls tails heads : List ℕ) (n root left : ℕ) : Type 0 whe
   pub enough : groups n (at ls) ≤ left
   pub two : 2 ≤ left
 
--- The cuts of this level and of those below it are at the places from k up to count. The matrix holds the reduced costs that they leave.
+-- A tree of the groups. The cuts of this level and of those below it are at the places from k up to count, and the matrix holds the
+-- reduced costs that they leave.
+pub record Solution (ws ws′ ls : List ℕ) (n root left : ℕ) (cuts cuts′ : List ℕ) (k : ℕ) (ps : List ℕ) (count : ℕ) : Type 0 where
+  pub tree : Tree n root (cost ws′) (at ls) (cuts-from (count - k) k cuts′) (at ps)
+  pub lowered : Lowered n (cost ws) (cost ws′) (cuts-from (count - k) k cuts′)
+  pub fine : Each (Fine n root) (cuts-from (count - k) k cuts′)
+  pub least : k ≤ count
+  pub most : count + 2 ≤ k + left
+  pub frame : (i : ℕ) → (i < 2 * k) ⊎ (2 * count ≤ i) → at cuts′ i ≡ at cuts i
+  pub root-none : at ps root ≡ no-parent
+
 pub record Solved (ws ws′ ls : List ℕ) (n root left : ℕ) (cuts cuts′ : List ℕ) (k : ℕ) (found : Bool) (ps : List ℕ) (count set : ℕ) : Type 0 where
   pub size : length ws′ ≡ cells
   pub cuts-size : length cuts′ ≡ cut-words
   pub parents-size : length ps ≡ max-vertices
-  pub tree : found ≡ true → Tree n root (cost ws′) (at ls) (cuts-from (count - k) k cuts′) (at ps)
-  pub lowered : found ≡ true → Lowered n (cost ws) (cost ws′) (cuts-from (count - k) k cuts′)
-  pub fine : found ≡ true → Each (Fine n root) (cuts-from (count - k) k cuts′)
-  pub least : found ≡ true → k ≤ count
-  pub most : found ≡ true → count + 2 ≤ k + left
-  pub frame : found ≡ true → (i : ℕ) → (i < 2 * k) ⊎ (2 * count ≤ i) → at cuts′ i ≡ at cuts i
-  pub root-none : found ≡ true → at ps root ≡ no-parent
+  pub solution : found ≡ true → Solution ws ws′ ls n root left cuts cuts′ k ps count
   pub no-set : found ≡ true → set ≡ 0
   pub closed : found ≡ false → Closed n root ws set
   pub none : found ≡ false → (ps ≡ replicate max-vertices no-parent) × (count ≡ 0)

@@ -3,7 +3,7 @@
 ghost use mathlib.Core.Path.{_≡_};
 ghost use Prim.Native.Nat.{_≤_, _<_};
 ghost use lib.ListN.{length};
-ghost use Rattle.edmonds.specs.Cycle.{Below, Own-arcs, Entry, Entered, Expanded};
+ghost use Rattle.edmonds.specs.Cycle.{Below, Own-arcs, Entry, Entered, Expanded, Expansion};
 use instance::Vertex;
 
 pub const NO_PARENT: u8 = 255;
@@ -64,7 +64,7 @@ pub fn entry_vertex(
 }
 
 // Each group of the cycle but the entry's takes its own arc again.
-pub fn expand_cycle(
+pub fn take_arcs(
     parents: &mut [u8; 32],
     label: &[u8; 32],
     stamp: &[u8; 32],
@@ -94,4 +94,32 @@ pub fn expand_cycle(
         }
         u += 1;
     }
+}
+
+// Expands the cycle at v: only the arc that the one chosen outside replaces is dropped.
+pub fn expand_cycle(
+    parents: &mut [u8; 32],
+    label: &[u8; 32],
+    stamp: &[u8; 32],
+    tails: &[u8; 32],
+    heads: &[u8; 32],
+    n: usize,
+    v: Vertex,
+)
+    requires { ⌜ (length (now parents) ≡ 32) × (n ≤ 32) × (v .0 < n) × Below n (now label) × Entered (now parents) (now label) (now stamp) n (v .0) ⌝ }
+    ensures { λ _. ⌜ Expansion (now (parents .entry)) (now (label .entry)) (now (stamp .entry)) (now (tails .entry)) (now (heads .entry)) n (v .0) (now (parents .exit)) ⌝ }
+{
+    let at = v.0;
+    let e = entry_vertex(parents, label, stamp, n, Vertex(at));
+    let entry = e.0;
+    take_arcs(
+        parents,
+        label,
+        stamp,
+        tails,
+        heads,
+        n,
+        Vertex(at),
+        Vertex(entry),
+    );
 }

@@ -3,8 +3,9 @@
 // its group.
 
 ghost use mathlib.Core.Path.{_≡_};
+ghost use mathlib.Core.Bool.{true, false};
 ghost use Prim.Native.Nat.{_+_, _-_, _≤_, _<_};
-ghost use lib.ListN.{length};
+ghost use lib.ListN.{length, replicate};
 ghost use Rattle.edmonds.specs.Cells.{Own-labels};
 ghost use Rattle.edmonds.specs.Planned.{Weights, Planned-matrix};
 
@@ -26,6 +27,30 @@ pub struct Planned {
     pub parents: [u8; 32],
     pub count: u32,
     pub set: u32,
+}
+
+impl Planned {
+    fn tree(parents: [u8; 32], count: u32) -> Planned
+        ensures { λ r. ⌜ (r .found ≡ true) × (r .parents ≡ parents) × (r .count ≡ count) × (r .set ≡ 0) ⌝ }
+    {
+        Planned {
+            found: true,
+            parents,
+            count,
+            set: 0,
+        }
+    }
+
+    fn none(set: u32) -> Planned
+        ensures { λ r. ⌜ (r .found ≡ false) × (r .parents ≡ replicate 32 255) × (r .count ≡ 0) × (r .set ≡ set) ⌝ }
+    {
+        Planned {
+            found: false,
+            parents: [NO_PARENT; 32],
+            count: 0,
+            set,
+        }
+    }
 }
 
 // Each vertex is its own label.
@@ -66,12 +91,7 @@ pub fn plan_matrix(w: &mut [u32; 1024], n: usize, root: Vertex, cuts: &mut [u32;
         if g != r {
             let next = charge_group(w, &label, n, Vertex(g), cuts, CutIndex(k));
             if !next.found {
-                return Planned {
-                    found: false,
-                    parents: [NO_PARENT; 32],
-                    count: 0,
-                    set: next.set,
-                };
+                return Planned::none(next.set);
             }
             tails[v] = next.tail as u8;
             heads[v] = next.head as u8;

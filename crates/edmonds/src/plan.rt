@@ -8,8 +8,6 @@ use super::Planned;
 use super::charge::charge_group;
 use super::contract::contracted_labels;
 use super::cycle::find_cycle;
-use super::expand::NO_PARENT;
-use super::expand::entry_vertex;
 use super::expand::expand_cycle;
 use super::expand::own_parents;
 use instance::CutIndex;
@@ -35,24 +33,14 @@ pub fn plan_groups(
     let walked = find_cycle(label, tails, n, Vertex(r));
     if !walked.found {
         let parents = own_parents(label, tails, heads, n, Vertex(r));
-        return Planned {
-            found: true,
-            parents,
-            count: k,
-            set: 0,
-        };
+        return Planned::tree(parents, k);
     }
     let at = walked.at;
     let stamp = walked.stamp;
     let coarse = contracted_labels(label, &stamp, n, Vertex(at));
     let next = charge_group(w, &coarse, n, Vertex(at), cuts, CutIndex(k));
     if !next.found {
-        return Planned {
-            found: false,
-            parents: [NO_PARENT; 32],
-            count: 0,
-            set: next.set,
-        };
+        return Planned::none(next.set);
     }
     let place = at as usize;
     let mut tails2 = *tails;
@@ -74,22 +62,6 @@ pub fn plan_groups(
         return inner;
     }
     let mut parents = inner.parents;
-    let e = entry_vertex(&parents, label, &stamp, n, Vertex(at));
-    let entry = e.0;
-    expand_cycle(
-        &mut parents,
-        label,
-        &stamp,
-        tails,
-        heads,
-        n,
-        Vertex(at),
-        Vertex(entry),
-    );
-    Planned {
-        found: true,
-        parents,
-        count: inner.count,
-        set: 0,
-    }
+    expand_cycle(&mut parents, label, &stamp, tails, heads, n, Vertex(at));
+    Planned::tree(parents, inner.count)
 }

@@ -32,17 +32,23 @@ charge-group-requires c κs =
     let few = b .few in
     (b .size, b .cuts-size, al .before .before .pre .2, omega arith, omega arith)
 
+none-requires : tie.Need-none-requires Inv-loop μ-loop
+none-requires c κs = search needs
+
 returns : tie.Need-returns Inv-loop μ-loop
 returns c =
-    let cg = c .before .before in
+    let e = c .none .ensures in
+    let t2 = c .before in
+    let cg = t2 .before .before in
     let th = cg .before .before .before .before in
     let il = th .before in
     let al = il .before in
     let ol = al .before in
     let pre = ol .before .pre in
     let ch = cg .charge-group .ensures in
-    planned-none _ _ _ (pre .0) (pre .2) (pre .3) (pre .4) (ch .size) (ch .cuts-size)
-    (none-enters (pre .2) (ol .own-labels .ensures) (pre .3) (al .loop .inv .1) (il .loop-test .taken) (th .if1 .taken) ch (not-true (cg .charge-group .result .found) (c .if2 .taken)))
+    rw (e .0, e .1, e .2, e .3)
+    (planned-none _ _ _ (pre .0) (pre .2) (pre .3) (pre .4) (ch .size) (ch .cuts-size)
+    (none-enters (pre .2) (ol .own-labels .ensures) (pre .3) (al .loop .inv .1) (il .loop-test .taken) (th .if1 .taken) ch (not-true (cg .charge-group .result .found) (t2 .if2 .taken))))
 
 cast-tails : tie.Need-cast-tails Inv-loop μ-loop
 cast-tails c =
@@ -123,6 +129,7 @@ plan-matrix-spec =
     loop-holds
     cast-g
     charge-group-requires
+    none-requires
     returns
     cast-tails
     array-write-tails

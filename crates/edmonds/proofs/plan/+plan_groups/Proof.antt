@@ -2,6 +2,7 @@
 -- bound on the number of groups. Assumes nothing.
 use Prim.Native.Nat.{ℕ, _<_}
 use native.Mathlib.Omega.{arith}
+use borrow.Author.Needs.{needs}
 use borrow.Author.Tests.{not-true, not-false}
 use borrow.Fn.Kinds.{In}
 use borrow.Fn.PlainCycle.{Measures, is, falls, and}
@@ -12,9 +13,10 @@ use Rattle.edmonds.proofs.plan.+plan_groups.Lts-plan_groups as lts
 use Rattle.edmonds.proofs.charge.charge_group.Reads as charge-group
 use Rattle.edmonds.proofs.contract.contracted_labels.Reads as contracted-labels
 use Rattle.edmonds.proofs.cycle.find_cycle.Reads as find-cycle
-use Rattle.edmonds.proofs.expand.entry_vertex.Reads as entry-vertex
 use Rattle.edmonds.proofs.expand.expand_cycle.Reads as expand-cycle
 use Rattle.edmonds.proofs.expand.own_parents.Reads as own-parents
+use Rattle.edmonds.proofs.Planned.tree.Reads as tree
+use Rattle.edmonds.proofs.Planned.none.Reads as none
 use Rattle.edmonds.proofs.plan.+plan_groups.{statement}
 use Rattle.edmonds.proofs.plan.+plan_groups.Tie.{close}
 
@@ -33,14 +35,16 @@ callees t = (
   find-cycle.Learnt,
   own-parents.Asked,
   own-parents.Learnt,
+  tree.Asked,
+  tree.Learnt,
   contracted-labels.Asked,
   contracted-labels.Learnt,
   charge-group.Asked,
   charge-group.Learnt,
+  none.Asked,
+  none.Learnt,
   below t,
   plan.Post,
-  entry-vertex.Asked,
-  entry-vertex.Learnt,
   expand-cycle.Asked,
   expand-cycle.Learnt,
 )
@@ -58,13 +62,18 @@ own-parents-requires t c κs =
     let r = st .pre .1 .0 in
     (r .small, r .labels .root-below, r .labels .below)
 
+tree-requires : (t : ℕ) → lts.Need-tree-requires (callees t) (at-measure t) plan.Post
+tree-requires t c κs = search needs
+
 returns : (t : ℕ) → lts.Need-returns (callees t) (at-measure t) plan.Post
 returns t c =
-    let t1 = c .before in
+    let e = c .tree .ensures in
+    let t1 = c .before .before in
     let fc = t1 .before .before in
     let st = fc .before in
     let r = st .pre .1 .0 in
-    solved-plain r (st .pre .1 .1) (fc .find-cycle .ensures .none (not-true (fc .find-cycle .result .found) (t1 .if1 .taken))) (c .own-parents .ensures)
+    rw (e .0, e .1, e .2, e .3)
+    (solved-plain r (st .pre .1 .1) (fc .find-cycle .ensures .none (not-true (fc .find-cycle .result .found) (t1 .if1 .taken))) (c .before .own-parents .ensures))
 
 contracted-labels-requires : (t : ℕ) → lts.Need-contracted-labels-requires (callees t) (at-measure t) plan.Post
 contracted-labels-requires t c κs =
@@ -88,9 +97,14 @@ charge-group-requires t c κs =
     let room = st .pre .1 .2 in
     (r .size, st .pre .1 .1, r .small, mt .walk .v-below, omega arith)
 
+none-requires : (t : ℕ) → lts.Need-none-requires (callees t) (at-measure t) plan.Post
+none-requires t c κs = search needs
+
 returns-2 : (t : ℕ) → lts.Need-returns-2 (callees t) (at-measure t) plan.Post
 returns-2 t c =
-    let cg = c .before .before in
+    let e = c .none .ensures in
+    let t2 = c .before in
+    let cg = t2 .before .before in
     let cl = cg .before .before .before .before in
     let e1 = cl .before .before .before in
     let fc = e1 .before .before in
@@ -99,10 +113,13 @@ returns-2 t c =
     let mt = fc .find-cycle .ensures .cycle (not-false (fc .find-cycle .result .found) (e1 .if1 .left)) in
     let ct = cl .contracted-labels .ensures in
     let ch = cg .charge-group .ensures in
-    stopped r mt ct ch (not-true (cg .charge-group .result .found) (c .if2 .taken))
+    rw (e .0, e .1, e .2, e .3) (stopped r mt ct ch (not-true (cg .charge-group .result .found) (t2 .if2 .taken)))
 
-cast-place : (t : ℕ) → lts.Need-cast-place (callees t) (at-measure t) plan.Post
-cast-place t c =
+-- what is stored in the arrays of arcs fits there
+stored : (t : ℕ) (c : lts.Else2 (callees t) (at-measure t) plan.Post)
+    → (c .before .before .before .before .before .before .before .before .before .before .before .find-cycle .result .at < 32) × (c .before .before .charge-group .result .tail < 32)
+    × (c .before .before .charge-group .result .head < 32)
+stored t c =
     let e2 = c in
     let cg = e2 .before .before in
     let cl = cg .before .before .before .before in
@@ -111,80 +128,29 @@ cast-place t c =
     let st = fc .before in
     let r = st .pre .1 .0 in
     let mt = fc .find-cycle .ensures .cycle (not-false (fc .find-cycle .result .found) (e1 .if1 .left)) in
-    let ct = cl .contracted-labels .ensures in
     let ch = cg .charge-group .ensures in
     let yes-arc = not-false (cg .charge-group .result .found) (e2 .if2 .left) in
     let v = mt .walk .v-below in
     let m = r .small in
-    omega arith
+    let arc = ch .arc yes-arc in
+    let tb = arc .tail-below in
+    let hb = arc .head-below in
+    (omega arith, omega arith, omega arith)
+
+cast-place : (t : ℕ) → lts.Need-cast-place (callees t) (at-measure t) plan.Post
+cast-place t c = let b = stored t c in omega arith
 
 cast-tails2 : (t : ℕ) → lts.Need-cast-tails2 (callees t) (at-measure t) plan.Post
-cast-tails2 t c =
-    let e2 = c .before .before .before in
-    let cg = e2 .before .before in
-    let cl = cg .before .before .before .before in
-    let e1 = cl .before .before .before in
-    let fc = e1 .before .before in
-    let st = fc .before in
-    let r = st .pre .1 .0 in
-    let mt = fc .find-cycle .ensures .cycle (not-false (fc .find-cycle .result .found) (e1 .if1 .left)) in
-    let ct = cl .contracted-labels .ensures in
-    let ch = cg .charge-group .ensures in
-    let yes-arc = not-false (cg .charge-group .result .found) (e2 .if2 .left) in
-    let v = ch .arc yes-arc .tail-below in
-    let m = r .small in
-    omega arith
+cast-tails2 t c = let b = stored t (c .before .before .before) in omega arith
 
 array-write-tails2 : (t : ℕ) → lts.Need-array-write-tails2 (callees t) (at-measure t) plan.Post
-array-write-tails2 t c =
-    let e2 = c .before .before .before in
-    let cg = e2 .before .before in
-    let cl = cg .before .before .before .before in
-    let e1 = cl .before .before .before in
-    let fc = e1 .before .before in
-    let st = fc .before in
-    let r = st .pre .1 .0 in
-    let mt = fc .find-cycle .ensures .cycle (not-false (fc .find-cycle .result .found) (e1 .if1 .left)) in
-    let ct = cl .contracted-labels .ensures in
-    let ch = cg .charge-group .ensures in
-    let yes-arc = not-false (cg .charge-group .result .found) (e2 .if2 .left) in
-    let v = mt .walk .v-below in
-    let m = r .small in
-    omega arith
+array-write-tails2 t c = let b = stored t (c .before .before .before) in omega arith
 
 cast-heads2 : (t : ℕ) → lts.Need-cast-heads2 (callees t) (at-measure t) plan.Post
-cast-heads2 t c =
-    let e2 = c .before .before .before .before in
-    let cg = e2 .before .before in
-    let cl = cg .before .before .before .before in
-    let e1 = cl .before .before .before in
-    let fc = e1 .before .before in
-    let st = fc .before in
-    let r = st .pre .1 .0 in
-    let mt = fc .find-cycle .ensures .cycle (not-false (fc .find-cycle .result .found) (e1 .if1 .left)) in
-    let ct = cl .contracted-labels .ensures in
-    let ch = cg .charge-group .ensures in
-    let yes-arc = not-false (cg .charge-group .result .found) (e2 .if2 .left) in
-    let v = ch .arc yes-arc .head-below in
-    let m = r .small in
-    omega arith
+cast-heads2 t c = let b = stored t (c .before .before .before .before) in omega arith
 
 array-write-heads2 : (t : ℕ) → lts.Need-array-write-heads2 (callees t) (at-measure t) plan.Post
-array-write-heads2 t c =
-    let e2 = c .before .before .before .before in
-    let cg = e2 .before .before in
-    let cl = cg .before .before .before .before in
-    let e1 = cl .before .before .before in
-    let fc = e1 .before .before in
-    let st = fc .before in
-    let r = st .pre .1 .0 in
-    let mt = fc .find-cycle .ensures .cycle (not-false (fc .find-cycle .result .found) (e1 .if1 .left)) in
-    let ct = cl .contracted-labels .ensures in
-    let ch = cg .charge-group .ensures in
-    let yes-arc = not-false (cg .charge-group .result .found) (e2 .if2 .left) in
-    let v = mt .walk .v-below in
-    let m = r .small in
-    omega arith
+array-write-heads2 t c = let b = stored t (c .before .before .before .before) in omega arith
 
 sub-plan-groups : (t : ℕ) → lts.Need-sub-plan-groups (callees t) (at-measure t) plan.Post
 sub-plan-groups t c =
@@ -195,10 +161,6 @@ sub-plan-groups t c =
     let fc = e1 .before .before in
     let st = fc .before in
     let r = st .pre .1 .0 in
-    let mt = fc .find-cycle .ensures .cycle (not-false (fc .find-cycle .result .found) (e1 .if1 .left)) in
-    let ct = cl .contracted-labels .ensures in
-    let ch = cg .charge-group .ensures in
-    let yes-arc = not-false (cg .charge-group .result .found) (e2 .if2 .left) in
     let two = r .two in
     omega arith
 
@@ -238,8 +200,8 @@ returns-3 t c =
     let so = pg .plan-groups .ensures in
     none-below r mt ct ch yes-arc so (not-true (pg .plan-groups .result .found) (c .if3 .taken))
 
-entry-vertex-requires : (t : ℕ) → lts.Need-entry-vertex-requires (callees t) (at-measure t) plan.Post
-entry-vertex-requires t c κs =
+expand-cycle-requires : (t : ℕ) → lts.Need-expand-cycle-requires (callees t) (at-measure t) plan.Post
+expand-cycle-requires t c κs =
     let e3 = c .before .before .before in
     let pg = e3 .before .before in
     let e2 = pg .before .before .before .before .before .before .before .before .before .before in
@@ -255,33 +217,16 @@ entry-vertex-requires t c κs =
     let yes-arc = not-false (cg .charge-group .result .found) (e2 .if2 .left) in
     let so = pg .plan-groups .ensures in
     let yes-tree = not-false (pg .plan-groups .result .found) (e3 .if3 .left) in
-    (r .small, mt .walk .v-below, r .labels .below, entered r mt ct ch yes-arc so yes-tree)
+    (so .parents-size, r .small, mt .walk .v-below, r .labels .below, entered r mt ct ch yes-arc so yes-tree)
 
-expand-cycle-requires : (t : ℕ) → lts.Need-expand-cycle-requires (callees t) (at-measure t) plan.Post
-expand-cycle-requires t c κs =
-    let ev = c .before .before in
-    let e3 = ev .before .before .before .before in
-    let pg = e3 .before .before in
-    let e2 = pg .before .before .before .before .before .before .before .before .before .before in
-    let cg = e2 .before .before in
-    let cl = cg .before .before .before .before in
-    let e1 = cl .before .before .before in
-    let fc = e1 .before .before in
-    let st = fc .before in
-    let r = st .pre .1 .0 in
-    let mt = fc .find-cycle .ensures .cycle (not-false (fc .find-cycle .result .found) (e1 .if1 .left)) in
-    let ct = cl .contracted-labels .ensures in
-    let ch = cg .charge-group .ensures in
-    let yes-arc = not-false (cg .charge-group .result .found) (e2 .if2 .left) in
-    let so = pg .plan-groups .ensures in
-    let yes-tree = not-false (pg .plan-groups .result .found) (e3 .if3 .left) in
-    (so .parents-size, r .small, mt .walk .v-below, ev .entry-vertex .ensures .below, r .labels .below)
+tree-requires-2 : (t : ℕ) → lts.Need-tree-requires-2 (callees t) (at-measure t) plan.Post
+tree-requires-2 t c κs = search needs
 
 returns-4 : (t : ℕ) → lts.Need-returns-4 (callees t) (at-measure t) plan.Post
 returns-4 t c =
-    let ec = c in
-    let ev = ec .before .before .before in
-    let e3 = ev .before .before .before .before in
+    let e = c .tree2 .ensures in
+    let ec = c .before in
+    let e3 = ec .before .before .before .before in
     let pg = e3 .before .before in
     let e2 = pg .before .before .before .before .before .before .before .before .before .before in
     let cg = e2 .before .before in
@@ -296,7 +241,8 @@ returns-4 t c =
     let yes-arc = not-false (cg .charge-group .result .found) (e2 .if2 .left) in
     let so = pg .plan-groups .ensures in
     let yes-tree = not-false (pg .plan-groups .result .found) (e3 .if3 .left) in
-    expands r mt ct ch yes-arc so yes-tree (ev .entry-vertex .ensures) (ec .expand-cycle .ensures)
+    let ex = ec .expand-cycle .ensures in
+    rw (e .0, e .1, e .2, e .3) (expands r mt ct ch yes-arc so yes-tree (ex .entry) (ex .expanded))
 
 pub +plan-groups-spec : {M : Type 1} → statement M
 +plan-groups-spec =
@@ -304,9 +250,11 @@ pub +plan-groups-spec : {M : Type 1} → statement M
     lts.spec (callees t) (at-measure t) plan.Post
     (find-cycle-requires t)
     (own-parents-requires t)
+    (tree-requires t)
     (returns t)
     (contracted-labels-requires t)
     (charge-group-requires t)
+    (none-requires t)
     (returns-2 t)
     (cast-place t)
     (cast-tails2 t)
@@ -316,6 +264,6 @@ pub +plan-groups-spec : {M : Type 1} → statement M
     (sub-plan-groups t)
     (plan-groups-requires t)
     (returns-3 t)
-    (entry-vertex-requires t)
     (expand-cycle-requires t)
+    (tree-requires-2 t)
     (returns-4 t)

@@ -1,4 +1,4 @@
--- `edmonds::expand::expand_cycle` meets its contract. The loop has expanded the vertices below u. Assumes nothing.
+-- `edmonds::expand::take_arcs` meets its contract. The loop has expanded the vertices below u. Assumes nothing.
 use mathlib.Core.Logic.{⊎-elim}
 use Prim.Native.Nat.{_-_, _≤_}
 use native.Mathlib.Omega.{arith}
@@ -7,8 +7,8 @@ use Rattle.contraction.specs.Groups.{expanded}
 use Rattle.edmonds.specs.Cells.{at as place}
 use Rattle.edmonds.specs.Cycle.{on-cycle}
 use Rattle.edmonds.proofs.FillLaws.{Filled, fill-none, fill-store, fill-pass}
-use Rattle.edmonds.proofs.expand.expand_cycle.Statement.{statement}
-use Rattle.edmonds.proofs.expand.expand_cycle.Tie as tie
+use Rattle.edmonds.proofs.expand.take_arcs.Statement.{statement}
+use Rattle.edmonds.proofs.expand.take_arcs.Tie as tie
 
 abbrev Inv-loop : tie.InvT-loop
 Inv-loop parents₀ label stamp tails heads n at first e entered u₀ parents u =
@@ -94,8 +94,8 @@ loop-again c =
 returns : tie.Need-returns Inv-loop μ-loop
 returns c = record { size = c .before .loop .inv .1 .size; is = λ p l. c .before .loop .inv .1 .done p (omega arith) }
 
-pub expand-cycle-spec : {M : Type 1} → statement M
-expand-cycle-spec =
+pub take-arcs-spec : {M : Type 1} → statement M
+take-arcs-spec =
     tie.close
     (tie.spec
     Inv-loop
