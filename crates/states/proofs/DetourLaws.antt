@@ -1,6 +1,6 @@
 -- The least weights that the search for an exchange keeps, and the exchange that they stand for. Assumes nothing.
-use mathlib.Core.Path.{_≡_, refl, sym, ap, _∙_}
-use mathlib.Core.Bool.{Bool, true, false, not}
+use mathlib.Core.Path.{_≡_}
+use mathlib.Core.Bool.{true}
 use mathlib.Core.List.{List}
 use mathlib.Core.Logic.{_≢_}
 use Prim.Native.Nat.{ℕ, _+_, _-_, _≤_, _<_}
@@ -11,15 +11,15 @@ use Rattle.base.proofs.ListLaws.{default}
 use Rattle.contraction.proofs.Unmarked.{arc-remaining}
 use Rattle.instance.specs.Limits.{no-arc}
 use Rattle.instance.specs.Instance.{Instance, cell, weight}
-use Rattle.instance.specs.Arborescence.{remaining, parent, is-arborescence, total, uses}
+use Rattle.instance.specs.Arborescence.{remaining, parent, uses}
 use Rattle.instance.specs.Matrix.{unmarked}
 use Rattle.states.proofs.Filling.{filled-none, filled-more}
 use Rattle.states.proofs.WalkLaws.{below-avoids, way-below, root-avoids}
 use Rattle.states.proofs.ExchangeLaws.{exchange, exchange-total, exchange-uses, exchange-two, exchange-two-total, exchange-two-uses}
 use Rattle.states.proofs.TreeLaws.{tree-rooted}
 use Rattle.states.specs.Walks.{Rooted, Below, Avoids, Way, start, onward}
-use Rattle.states.specs.Tree.{Matrix-ok, Matrix-tree}
-use Rattle.states.specs.Exchange.{Exchange, Detour, Below-says, Below-table, Least-outside, Increase, Increases, Path-least, Detours}
+use Rattle.states.specs.Tree.{Matrix-tree}
+use Rattle.states.specs.Exchange.{Detour, Below-says, Below-table, Least-outside, Increase, Increases, Path-least, Detours}
 
 module _ (m below : List ℕ) (k : ℕ) where
   pub outside-none : Least-outside 0 m below k no-arc
@@ -82,13 +82,15 @@ module _ (n root : ℕ) (m ps : List ℕ) (k : Matrix-tree n root m ps) (h t : �
       record {
         exchange =
             λ r _.
-              let below = k .matrix-ok .root-below in
-              let e = exchange-total s tree below (k .found) t h r out in
-              record {
-                made = set tree h t;
-                found = exchange s tree below (k .found) t h r out;
-                used = eq-eqb (parent (set tree h t) h) t (exchange-uses s tree below (k .found) t h r out);
-                cost = omega arith } }
+            let below = k .matrix-ok .root-below in
+            let e = exchange-total s tree below (k .found) t h r out in
+            record {
+              made = set tree h t;
+              found = exchange s tree below (k .found) t h r out;
+              used = eq-eqb (parent (set tree h t) h) t (exchange-uses s tree below (k .found) t h r out);
+              cost = omega arith;
+            };
+      }
 
   module _ (inside : h < n) (no-root : h ≢ root) (t-inside : t < n) (below : List ℕ) (b : Below-table tree h n below) (under : Below tree h t) where
     -- the arc that the increase at a vertex on the way stands for
@@ -120,7 +122,8 @@ module _ (n root : ℕ) (m ps : List ℕ) (k : Matrix-tree n root m ps) (h t : �
           tail = x .0;
           out = out;
           arc = arc-remaining n root m (x .0) v (record { tail-below = x-in; head-below = v-in; distinct = distinct; no-root = v-root; there = λ z. omega arith });
-          cost = omega arith }
+          cost = omega arith;
+        }
 
     pub detour-two : (table : List ℕ) (d : ℕ) → Increases n m tree below n table → Path-least tree table h t d → Detour s tree h t d
     unfolding unmarked uses
@@ -128,19 +131,21 @@ module _ (n root : ℕ) (m ps : List ℕ) (k : Matrix-tree n root m ps) (h t : �
         record {
           exchange =
               λ r l.
-                let v = p .at l in
-                let v-in = way-within n root tree h t (v .0) (tree-rooted n root m ps k) (k .matrix-ok .small) inside no-root t-inside under (v .1) in
-                let x = step (v .0) d (v .1) (v .2) l (rw (v .3) at (i .at (v .0) v-in)) in
-                let below-root = k .matrix-ok .root-below in
-                let e = exchange-two-total s tree below-root (k .found) t h (x .tail) (v .0) r (x .arc) (v .1) (v .2) under (x .out) in
-                let c = x .cost in
-                record {
-                  made = set (set tree (v .0) (x .tail)) h t;
-                  found = exchange-two s tree below-root (k .found) t h (x .tail) (v .0) r (x .arc) (v .1) (v .2) under (x .out);
-                  used =
-                      eq-eqb (parent (set (set tree (v .0) (x .tail)) h t) h) t
-                      (exchange-two-uses s tree below-root (k .found) t h (x .tail) (v .0) r (x .arc) (v .1) (v .2) under (x .out));
-                  cost = omega arith } }
+              let v = p .at l in
+              let v-in = way-within n root tree h t (v .0) (tree-rooted n root m ps k) (k .matrix-ok .small) inside no-root t-inside under (v .1) in
+              let x = step (v .0) d (v .1) (v .2) l (rw (v .3) at (i .at (v .0) v-in)) in
+              let below-root = k .matrix-ok .root-below in
+              let e = exchange-two-total s tree below-root (k .found) t h (x .tail) (v .0) r (x .arc) (v .1) (v .2) under (x .out) in
+              let c = x .cost in
+              record {
+                made = set (set tree (v .0) (x .tail)) h t;
+                found = exchange-two s tree below-root (k .found) t h (x .tail) (v .0) r (x .arc) (v .1) (v .2) under (x .out);
+                used =
+                    eq-eqb (parent (set (set tree (v .0) (x .tail)) h t) h) t
+                    (exchange-two-uses s tree below-root (k .found) t h (x .tail) (v .0) r (x .arc) (v .1) (v .2) under (x .out));
+                cost = omega arith;
+              };
+        }
 
 module _ (s : Instance) (ps : List ℕ) (h : ℕ) where
   pub detours-none : (table : List ℕ) → Detours s ps h 0 table

@@ -1,20 +1,19 @@
 -- Exchanging arcs of an arborescence. A vertex h can take any parent t that is not below it; and where t is below it, after some
 -- vertex on the way from t to h has taken a parent that is not below h. Assumes nothing.
-use mathlib.Core.Path.{_≡_, refl, sym, ap, _∙_, subst}
-use mathlib.Core.Bool.{Bool, true, false, _&&_, cond}
+use mathlib.Core.Path.{_≡_, refl, sym, ap, _∙_}
+use mathlib.Core.Bool.{true, false, cond}
 use mathlib.Core.List.{List}
 use mathlib.Core.Logic.{⊎-elim, _≢_}
 use Prim.Native.Nat.{ℕ, zero, suc, _+_, _≤_, _<_}
 use native.Mathlib.Omega.{arith}
 use native.Mathlib.Decide.{ℕ-discrete}
 use lib.Dec.{eqb}
-use lib.ListN.{length, getD, set, length-set}
-use borrow.Author.Tests.{eqb-true, eqb-false, eq-eqb, ne-eqb}
+use lib.ListN.{length, set, length-set}
+use borrow.Author.Tests.{eqb-true, eq-eqb}
 use Rattle.base.specs.Bounded.{sum-below}
 use Rattle.base.proofs.Tests.{test, not-both}
-use Rattle.instance.specs.Limits.{no-parent}
 use Rattle.instance.specs.Instance.{Instance, weight}
-use Rattle.instance.specs.Arborescence.{remaining, parent, reaches, is-arborescence, total, uses}
+use Rattle.instance.specs.Arborescence.{remaining, parent, reaches, is-arborescence, total}
 use Rattle.theory.proofs.ArborescenceLaws.{remaining-ends, parents-size, root-parent, joined, make-arborescence}
 use Rattle.contraction.proofs.Steps.{enough}
 use Rattle.states.specs.Walks.{Rooted, Below, Avoids, Way, start, onward}
@@ -29,6 +28,7 @@ sum-change (suc k) f g h l e = at (ℕ-discrete h k) (λ m. sum-change k f g h m
     same : (j : ℕ) → j ≤ k → h ≡ k → sum-below j f ≡ sum-below j g
     same zero b z = refl
     same (suc j) b z = let x = same j (omega arith) z in let y = e j (omega arith) (λ w. omega arith) in omega arith
+
     at : Dec (h ≡ k) → (h < k → sum-below k f + g h ≡ sum-below k g + f h) → (f k + sum-below k f) + g h ≡ (g k + sum-below k g) + f h
     at (yes z) r = let x = same k (omega arith) z in rw z (omega arith)
     at (no z) r = let x = r (omega arith) in let y = e k (omega arith) (λ w. z (sym w)) in omega arith
@@ -46,7 +46,8 @@ module _ (s : Instance) (ps : List ℕ) (root-below : s .root < s .n) (a : is-ar
         root-below = root-below;
         at-root = root-parent s ps a (s .root) root-below (eq-eqb (s .root) (s .root) refl);
         below = λ v l e. remaining-ends s (parent ps v) v (joined s ps a v l e .arc) .tail-below;
-        reach = reach }
+        reach = reach;
+      }
 
   -- ONE ARC
   module _ (t h : ℕ) (r : remaining s t h ≡ true) (out : Avoids ps h t) where
@@ -75,7 +76,7 @@ module _ (s : Instance) (ps : List ℕ) (root-below : s .root < s .n) (a : is-ar
     exchange =
         make-arborescence s qs (simp length-set (parents-size s ps a))
         (λ v l e.
-          parent-other ps h t v (λ z. not-both (eqb v (s .root)) e (rw z (remaining-ends s t h r .not-root))) ∙ root-parent s ps a v l e)
+        parent-other ps h t v (λ z. not-both (eqb v (s .root)) e (rw z (remaining-ends s t h r .not-root))) ∙ root-parent s ps a v l e)
         (λ v l e. record { arc = arcs v l e; reach = meets v l })
 
     pub exchange-total : total s qs + weight s (parent ps h) h ≡ total s ps + weight s t h
@@ -85,8 +86,8 @@ module _ (s : Instance) (ps : List ℕ) (root-below : s .root < s .n) (a : is-ar
         let here : cond (eqb h (s .root)) 0 (weight s (parent ps h) h) ≡ weight s (parent ps h) h = rw off in
         let there : cond (eqb h (s .root)) 0 (weight s (parent qs h) h) ≡ weight s t h = rw (off, exchange-uses) in
         let sums =
-            sum-change (s .n) (λ v. cond (eqb v (s .root)) 0 (weight s (parent qs v) v)) (λ v. cond (eqb v (s .root)) 0 (weight s (parent ps v) v)) h
-            (remaining-ends s t h r .head-below) (λ v l z. rw (parent-other ps h t v z)) in
+        sum-change (s .n) (λ v. cond (eqb v (s .root)) 0 (weight s (parent qs v) v)) (λ v. cond (eqb v (s .root)) 0 (weight s (parent ps v) v)) h
+        (remaining-ends s t h r .head-below) (λ v l z. rw (parent-other ps h t v z)) in
         omega arith
 
 -- TWO ARCS

@@ -4,14 +4,14 @@ use mathlib.Core.Path.{_≡_, refl, sym, ap, _∙_}
 use mathlib.Core.Bool.{Bool, true, false, _&&_, _||_, not, cond, and-true, true≢false}
 use mathlib.Core.List.{List}
 use mathlib.Core.Logic.{_↔_, _≢_, ⊎-elim}
-use Prim.Native.Nat.{ℕ, _+_, _*_, _/_, _%_, _≤_, _<_}
+use Prim.Native.Nat.{ℕ, _+_, _/_, _%_, _≤_, _<_}
 use native.Mathlib.Omega.{arith}
 use native.Mathlib.Decide.{ℕ-discrete}
 use lib.Dec.{ltb, eqb}
 use lib.ListN.{length, getD, set, take, length-set}
 use lib.Seq.{getD-set-same, getD-set-other}
-use borrow.Author.Tests.{ltb-true, ltb-false, lt-ltb, le-ltb, eq-eqb, ne-eqb, not-true}
-use Rattle.base.proofs.Tests.{test, is-false, and-left, and-right, and-false-left, and-false-right}
+use borrow.Author.Tests.{lt-ltb, le-ltb, eq-eqb, ne-eqb}
+use Rattle.base.proofs.Tests.{test, is-false, and-left, and-right, and-false-right}
 use Rattle.base.proofs.ListLaws.{default}
 use Rattle.instance.specs.Limits.{no-arc, cells}
 use Rattle.instance.specs.Instance.{Instance, cell, can-be-arc, is-arc, weight}
@@ -26,7 +26,7 @@ use Rattle.theory.proofs.Restriction.{unmarked-remaining, restricted-remaining,
 use Rattle.theory.proofs.Forced.{forced-arborescence}
 use Rattle.edmonds.specs.Planned.{Planned-matrix}
 use Rattle.states.proofs.Filling.{ltb-more}
-use Rattle.states.specs.Tree.{Matrix-ok, Matrix-tree}
+use Rattle.states.specs.Tree.{Matrix-ok}
 use Rattle.states.specs.Judge.{taken-out, Forced-matrix, Forced-plan}
 
 stays-in : (a b : Bool) → not a || b ≡ true → a && not b ≡ false
@@ -63,11 +63,13 @@ module _ (t₀ h₀ : ℕ) (m : List ℕ) where
           let t : i / 32 ≡ g = omega arith in
           let h : i % 32 ≡ h₀ = omega arith in
           rw (t, h, lt-ltb g (g + 1) (omega arith), eq-eqb h₀ h₀ refl, ne-eqb g t₀ e)
+
       other : (i : ℕ) → i ≢ cell g h₀ → Dec (i / 32 ≡ g) → taken-out (g + 1) t₀ h₀ (i / 32) (i % 32) ≡ taken-out g t₀ h₀ (i / 32) (i % 32)
       other i z (no y) = more-other g (i / 32) (i % 32) y
       other i z (yes y) =
           let apart : i % 32 ≢ h₀ = λ x. z (omega arith) in
           rw (ne-eqb (i % 32) h₀ apart, and-false-right (ltb (i / 32) (g + 1)) false refl, and-false-right (ltb (i / 32) g) false refl)
+
       cases : (i : ℕ) → i < cells → Dec (i ≡ cell g h₀) → getD (set w (cell g h₀) no-arc) i 0 ≡ cond (taken-out (g + 1) t₀ h₀ (i / 32) (i % 32)) no-arc (getD m i 0)
       cases i c (yes z) =
           let size = k .size in
@@ -88,7 +90,8 @@ module _ (n root : ℕ) (m w : List ℕ) (t₀ h₀ : ℕ) (ok : Matrix-ok n roo
         small = ok .small;
         root-below = ok .root-below;
         size = f .size;
-        bounded = λ i l. let a = f .size in let b = ok .size in rw (default w i no-arc 0 (omega arith), f .at i l, default m i 0 no-arc (omega arith)) (at (taken-out n t₀ h₀ (i / 32) (i % 32)) (ok .bounded i l)) }
+        bounded = λ i l. let a = f .size in let b = ok .size in rw (default w i no-arc 0 (omega arith), f .at i l, default m i 0 no-arc (omega arith)) (at (taken-out n t₀ h₀ (i / 32) (i % 32)) (ok .bounded i l));
+      }
     where
       at : {v : ℕ} (b : Bool) → v ≤ no-arc → cond b no-arc v ≤ no-arc
       at true l = omega arith
@@ -117,15 +120,17 @@ module _ (n root : ℕ) (m w : List ℕ) (t₀ h₀ : ℕ) (ok : Matrix-ok n roo
       unmarked-remaining n root w t h
       ∙ ⊎-elim
       (λ (c : can-be-arc n root t h ≡ true).
-        let e = ends n root t h c in
-        rw (c, weight-forced t h (e .tail-below) (e .head-below)) (kept (eqb h h₀) (eqb t t₀) (weight whole t h)) ∙ back c)
+      let e = ends n root t h c in
+      rw (c, weight-forced t h (e .tail-below) (e .head-below)) (kept (eqb h h₀) (eqb t t₀) (weight whole t h)) ∙ back c)
       (λ (c : can-be-arc n root t h ≡ false). rw c (none c))
       (test (can-be-arc n root t h))
     where
       other : remaining (restricted whole (forced t₀ h₀)) t h ≡ is-arc whole t h && (not (eqb h h₀) || eqb t t₀)
       other = restricted-remaining whole (forced t₀ h₀) (ok .small) t h ∙ ap (λ (b : Bool). b && (not (eqb h h₀) || eqb t t₀)) (unmarked-remaining n root m t h)
+
       back : can-be-arc n root t h ≡ true → not (eqb (weight whole t h) no-arc) && (not (eqb h h₀) || eqb t t₀) ≡ remaining (restricted whole (forced t₀ h₀)) t h
       back c = sym (other ∙ rw c)
+
       none : can-be-arc n root t h ≡ false → false ≡ remaining (restricted whole (forced t₀ h₀)) t h
       none c = sym (other ∙ rw c)
 
@@ -138,11 +143,12 @@ module _ (n root : ℕ) (m w : List ℕ) (t₀ h₀ : ℕ) (ok : Matrix-ok n roo
         arcs = remains;
         weights =
             λ t h r.
-              let stays = sym (remains t h) ∙ r in
-              let both = sym (restricted-remaining whole (forced t₀ h₀) (ok .small) t h) ∙ stays in
-              let e = remaining-ends whole t h (and-left (remaining whole t h) (forced t₀ h₀ t h) both) in
-              weight-forced t h (e .tail-below) (e .head-below)
-              ∙ rw (in-place t h (and-right (remaining whole t h) (forced t₀ h₀ t h) both)) (sym (restricted-same-weight whole (forced t₀ h₀) (ok .small) t h stays)) }
+            let stays = sym (remains t h) ∙ r in
+            let both = sym (restricted-remaining whole (forced t₀ h₀) (ok .small) t h) ∙ stays in
+            let e = remaining-ends whole t h (and-left (remaining whole t h) (forced t₀ h₀ t h) both) in
+            weight-forced t h (e .tail-below) (e .head-below)
+            ∙ rw (in-place t h (and-right (remaining whole t h) (forced t₀ h₀ t h) both)) (sym (restricted-same-weight whole (forced t₀ h₀) (ok .small) t h stays));
+      }
     where
       in-place : (t h : ℕ) → forced t₀ h₀ t h ≡ true → eqb h h₀ && not (eqb t t₀) ≡ false
       in-place t h e = stays-in (eqb h h₀) (eqb t t₀) e
@@ -153,9 +159,10 @@ module _ (n root : ℕ) (m w : List ℕ) (t₀ h₀ : ℕ) (ok : Matrix-ok n roo
     pub forced-uses : (qs : List ℕ) → (is-arborescence left qs ≡ true) ↔ ((is-arborescence whole qs ≡ true) × (uses qs t₀ h₀ ≡ true))
     unfolding unmarked
     forced-uses qs =
-        let on = restricted whole (forced t₀ h₀) in
-        ((λ a. forced-arborescence whole t₀ h₀ (ok .small) r qs .0 (same-arborescence left on forced-same qs a)),
-         (λ x. same-arborescence on left (same-back left on forced-same) qs (forced-arborescence whole t₀ h₀ (ok .small) r qs .1 x)))
+        let on = restricted whole (forced t₀ h₀) in (
+          (λ a. forced-arborescence whole t₀ h₀ (ok .small) r qs .0 (same-arborescence left on forced-same qs a)),
+          (λ x. same-arborescence on left (same-back left on forced-same) qs (forced-arborescence whole t₀ h₀ (ok .small) r qs .1 x)),
+        )
 
     forced-total : (qs : List ℕ) → is-arborescence left qs ≡ true → total left qs ≡ total whole qs
     unfolding unmarked
@@ -172,12 +179,13 @@ module _ (n root : ℕ) (m w : List ℕ) (t₀ h₀ : ℕ) (ok : Matrix-ok n roo
           used = λ _. x .1;
           least =
               λ _ qs b u.
-                let c = forced-uses qs .1 (b, u) in
-                let w = weak-duality left qs c cs fe in
-                let p = forced-total qs c in
-                let q = forced-total (take n ps) a in
-                omega arith;
-          shut = λ z. absurd (true≢false z) }
+              let c = forced-uses qs .1 (b, u) in
+              let w = weak-duality left qs c cs fe in
+              let p = forced-total qs c in
+              let q = forced-total (take n ps) a in
+              omega arith;
+          shut = λ z. absurd (true≢false z);
+        }
 
     pub forced-shut : (ps : List ℕ) (c : Cut) → No-entry left c → Forced-plan n root m t₀ h₀ false ps
     forced-shut ps c e =
@@ -185,7 +193,8 @@ module _ (n root : ℕ) (m w : List ℕ) (t₀ h₀ : ℕ) (ok : Matrix-ok n roo
           tree = λ z. absurd (true≢false (sym z));
           used = λ z. absurd (true≢false (sym z));
           least = λ z. absurd (true≢false (sym z));
-          shut = λ _ qs b. is-false (uses qs t₀ h₀) (λ u. no-entry left qs (forced-uses qs .1 (b, u)) c e) }
+          shut = λ _ qs b. is-false (uses qs t₀ h₀) (λ u. no-entry left qs (forced-uses qs .1 (b, u)) c e);
+        }
 
     pub planned-forced : (w′ cuts cuts′ ps : List ℕ) (found : Bool) (count set : ℕ) → Planned-matrix n root w w′ cuts cuts′ found ps count set
         → Forced-plan n root m t₀ h₀ found ps

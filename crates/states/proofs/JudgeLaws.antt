@@ -1,5 +1,5 @@
 -- Why an arc of a matrix is usable or not. Assumes nothing.
-use mathlib.Core.Path.{_≡_, refl, _∙_}
+use mathlib.Core.Path.{_≡_, _∙_}
 use mathlib.Core.Bool.{Bool, true, false}
 use mathlib.Core.List.{List, []}
 use mathlib.Core.Logic.{_≢_}
@@ -96,8 +96,8 @@ module _ (n root b : ℕ) (m : List ℕ) where
     unusable-root l small k z =
         usable-none s t h .1
         (λ ps f.
-          let p = root-parent s ps (fits-arborescence s ps f) h (rw z l) (eq-eqb h root z) in
-          ne-eqb (parent ps h) t (λ w. omega arith))
+        let p = root-parent s ps (fits-arborescence s ps f) h (rw z l) (eq-eqb h root z) in
+        ne-eqb (parent ps h) t (λ w. omega arith))
 
     -- by reduced costs
     pub unusable-reduced : (reduced : List ℕ) (v : ℕ) → Reduced n root m reduced v → remaining on t h ≡ true → b < v + getD reduced (cell t h) 0 → usable s t h ≡ false
@@ -115,10 +115,10 @@ module _ (n root b : ℕ) (m : List ℕ) where
     unusable-dear ps found k z past =
         usable-none s t h .1
         (λ qs f.
-          is-false (uses qs t h)
-          (λ u.
-            let a = level-arborescence n root b m qs .0 (fits-arborescence s qs f) in
-            let l = k .least z qs a u in
-            let e = level-total n root b m qs a in
-            let g = fits-total s qs f in
-            omega arith))
+        is-false (uses qs t h)
+        (λ u.
+        let a = level-arborescence n root b m qs .0 (fits-arborescence s qs f) in
+        let l = k .least z qs a u in
+        let e = level-total n root b m qs a in
+        let g = fits-total s qs f in
+        omega arith))

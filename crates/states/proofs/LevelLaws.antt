@@ -1,6 +1,6 @@
 -- From an instance with marks to the matrix of what remains of it, with the same budget: the same arcs are usable. Assumes nothing.
-use mathlib.Core.Path.{_≡_, refl, sym, ap, _∙_, subst}
-use mathlib.Core.Bool.{Bool, true, false}
+use mathlib.Core.Path.{_≡_, refl, sym, _∙_}
+use mathlib.Core.Bool.{true}
 use mathlib.Core.List.{List, []}
 use mathlib.Core.Logic.{_↔_}
 use Prim.Native.Nat.{ℕ, _≤_}
@@ -23,7 +23,8 @@ same-on a b c e f =
       vertices = e .vertices ∙ f .vertices;
       roots = e .roots ∙ f .roots;
       arcs = λ t h. e .arcs t h ∙ f .arcs t h;
-      weights = λ t h r. e .weights t h r ∙ f .weights t h (sym (e .arcs t h) ∙ r) }
+      weights = λ t h r. e .weights t h r ∙ f .weights t h (sym (e .arcs t h) ∙ r);
+    }
 
 -- SAME ARCS AND BUDGET
 same-fits : (a b : Instance) → Same-arcs a b → a .budget ≡ b .budget → (ps : List ℕ) → fits a ps ≡ true → fits b ps ≡ true
@@ -49,9 +50,10 @@ module _ (n r b : ℕ) (m : List ℕ) where
   level-remaining = level-same .arcs
 
   pub level-arborescence : (ps : List ℕ) → (is-arborescence (fields n r b m []) ps ≡ true) ↔ (is-arborescence (unmarked n r m) ps ≡ true)
-  level-arborescence ps =
-      (same-arborescence (fields n r b m []) (unmarked n r m) level-same ps,
-       same-arborescence (unmarked n r m) (fields n r b m []) (same-back (fields n r b m []) (unmarked n r m) level-same) ps)
+  level-arborescence ps = (
+    same-arborescence (fields n r b m []) (unmarked n r m) level-same ps,
+    same-arborescence (unmarked n r m) (fields n r b m []) (same-back (fields n r b m []) (unmarked n r m) level-same) ps,
+  )
 
   pub level-total : (ps : List ℕ) → is-arborescence (unmarked n r m) ps ≡ true → total (fields n r b m []) ps ≡ total (unmarked n r m) ps
   level-total ps a = same-total (fields n r b m []) (unmarked n r m) level-same ps (level-arborescence ps .1 a)

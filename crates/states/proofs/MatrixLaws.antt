@@ -1,21 +1,19 @@
 -- The cells of the matrix of an instance. Assumes nothing.
-use mathlib.Core.Path.{_≡_, refl, sym, ap, _∙_, subst}
-use mathlib.Core.Bool.{Bool, true, false, _&&_, not, cond}
-use mathlib.Core.List.{List}
+use mathlib.Core.Path.{_≡_, refl, sym}
+use mathlib.Core.Bool.{true, false, _&&_, not, cond}
 use mathlib.Core.Logic.{⊎-elim}
-use Prim.Native.Nat.{ℕ, _+_, _*_, _/_, _%_, _≤_, _<_}
+use Prim.Native.Nat.{ℕ, _/_, _%_, _<_}
 use native.Mathlib.Omega.{arith}
-use lib.Dec.{ltb, eqb}
+use lib.Dec.{eqb}
 use lib.ListN.{length, getD}
-use borrow.Author.Tests.{ltb-true}
 use Rattle.base.specs.Lists.{tabulate}
-use Rattle.base.proofs.Tests.{test, not-both, and-false-left, and-not}
+use Rattle.base.proofs.Tests.{test}
 use Rattle.base.proofs.ListLaws.{default}
 use Rattle.instance.specs.Limits.{no-arc, banned, cells}
 use Rattle.instance.specs.Instance.{Instance, weight-at, mark-at, can-be-arc, is-arc, weight, mark}
 use Rattle.instance.specs.Arborescence.{remaining}
 use Rattle.instance.specs.Matrix.{matrix, matrix-where}
-use Rattle.theory.proofs.ArborescenceLaws.{ends, remaining-ends}
+use Rattle.theory.proofs.ArborescenceLaws.{ends}
 use Rattle.states.specs.Pins.{Pins, lets}
 use Rattle.states.proofs.CellLaws.{cell-of}
 use Rattle.states.proofs.PinLaws.{pins-weight}
@@ -42,7 +40,7 @@ module _ (s : Instance) (i p : ℕ) where
   cell-judged l e k =
       ⊎-elim
       (λ (a : can-be-arc (s .n) (s .root) (i / 32) (i % 32) ≡ true).
-        let w = pins-weight s (i / 32) (i % 32) p (omega arith) (k (ends (s .n) (s .root) (i / 32) (i % 32) a .head-below)) in
-        rw (default (s .weights) i 0 no-arc (omega arith)) (sym (rw (cell-of i) at w)))
+      let w = pins-weight s (i / 32) (i % 32) p (omega arith) (k (ends (s .n) (s .root) (i / 32) (i % 32) a .head-below)) in
+      rw (default (s .weights) i 0 no-arc (omega arith)) (sym (rw (cell-of i) at w)))
       empty
       (test (can-be-arc (s .n) (s .root) (i / 32) (i % 32)))

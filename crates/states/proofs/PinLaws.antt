@@ -1,19 +1,18 @@
 -- Laws of pins: one tail more, and what they say of the weight of a cell in the matrix. Assumes nothing.
-use mathlib.Core.Path.{_≡_, refl, sym, ap, _∙_}
+use mathlib.Core.Path.{_≡_, refl, sym, _∙_}
 use mathlib.Core.Bool.{Bool, true, false, _&&_, _||_, not, cond}
 use mathlib.Core.List.{List}
 use mathlib.Core.Logic.{_⊎_, inl, inr, ⊎-elim}
-use Prim.Native.Nat.{ℕ, zero, suc, _+_, _*_, _-_, _/_, _%_, _≤_, _<_}
+use Prim.Native.Nat.{ℕ, _+_, _-_, _≤_, _<_}
 use native.Mathlib.Omega.{arith}
 use native.Mathlib.Numerals.{add-one}
-use lib.Dec.{ltb, eqb}
-use lib.ListN.{length, getD, set}
-use borrow.Author.Tests.{eq-eqb, ne-eqb, eqb-true, eqb-false}
+use lib.Dec.{eqb}
+use lib.ListN.{length, set}
+use borrow.Author.Tests.{ne-eqb, eqb-true}
 use Rattle.base.specs.Bounded.{any-below}
-use Rattle.base.proofs.Tests.{test, and-false-right, or-right, or-left}
-use Rattle.base.proofs.ListLaws.{default}
+use Rattle.base.proofs.Tests.{and-false-right}
 use Rattle.instance.specs.Limits.{no-arc, banned}
-use Rattle.instance.specs.Instance.{Instance, can-be-arc, is-arc, weight, mark, weight-at, mark-at}
+use Rattle.instance.specs.Instance.{Instance, can-be-arc, is-arc, weight, mark}
 use Rattle.instance.specs.Arborescence.{is-pinned, other-pinned, remaining}
 use Rattle.states.proofs.Filling.{filled-none, filled-more}
 use Rattle.states.specs.Pins.{Pins, Pin-table, lets}
@@ -46,7 +45,8 @@ module _ (s : Instance) (h : ℕ) where
       rw add-one
       (record {
         where-from = ⊎-elim (λ (l : p < g). inl (omega arith)) (λ (l : 32 ≤ p). inr l) (k .where-from);
-        say = λ t l. rw (e, and-false-right (not (eqb g t)) false refl) (k .say t l) })
+        say = λ t l. rw (e, and-false-right (not (eqb g t)) false refl) (k .say t l);
+      })
 
   pub pins-first : (g p : ℕ) → is-pinned s g h ≡ true → g < 32 → p ≡ 32 → Pins s h g p → Pins s h (g + 1) g
   unfolding any-below
@@ -55,6 +55,7 @@ module _ (s : Instance) (h : ℕ) where
       only : (x : Bool) → (not x && true) || not true ≡ not x
       only true = refl
       only false = refl
+
       at : (t : ℕ) → any-below g (others t) ≡ not (lets p t) → others t g || any-below g (others t) ≡ not (lets g t)
       at t r = rw (e, r, q, lets-none t, lets-tail g t (λ z. omega arith)) (only (eqb g t))
 
@@ -64,9 +65,11 @@ module _ (s : Instance) (h : ℕ) where
     where
       apart : p ≡ g → ⊥
       apart z = ⊎-elim (λ (l : p < g). omega arith) (λ (l : 32 ≤ p). omega arith) (k .where-from)
+
       cases : (t : ℕ) (x : Bool) → eqb g t ≡ x → any-below g (others t) ≡ not (lets p t) → (not x && true) || any-below g (others t) ≡ true
       cases t true z r = r ∙ rw (← eqb-true g t z, lets-out p g q apart)
       cases t false z r = refl
+
       at : (t : ℕ) → t < 32 → any-below g (others t) ≡ not (lets p t) → others t g || any-below g (others t) ≡ not (lets 33 t)
       at t l r = rw (e, lets-out 33 t (λ z. omega arith) (λ z. omega arith)) (cases t (eqb g t) refl r)
 
@@ -86,7 +89,7 @@ judged true x y w = at (eqb w no-arc) refl x y
 
 pub pins-weight : (s : Instance) (t h p : ℕ) → t < 32 → Pins s h (s .n) p
     → cond (remaining s t h && true) (weight s t h) no-arc
-      ≡ cond (can-be-arc (s .n) (s .root) t h && (not (eqb (mark s t h) banned) && lets p t)) (weight s t h) no-arc
+    ≡ cond (can-be-arc (s .n) (s .root) t h && (not (eqb (mark s t h) banned) && lets p t)) (weight s t h) no-arc
 unfolding remaining is-arc other-pinned
 pins-weight s t h p l k =
     rw (k .say t l) (judged (can-be-arc (s .n) (s .root) t h) (not (eqb (mark s t h) banned)) (lets p t) (weight s t h))

@@ -1,17 +1,17 @@
 -- What judging an arc makes of the table: it stays sound and loses nothing. Assumes nothing.
-use mathlib.Core.Path.{_≡_, refl, sym, ap, _∙_}
-use mathlib.Core.Bool.{Bool, true, false, _&&_, not, cond}
+use mathlib.Core.Path.{_≡_, _∙_}
+use mathlib.Core.Bool.{true, false, _&&_, not, cond}
 use mathlib.Core.List.{List}
 use mathlib.Core.Logic.{_≢_, ⊎-elim}
-use Prim.Native.Nat.{ℕ, _+_, _*_, _/_, _%_, _≤_, _<_}
+use Prim.Native.Nat.{ℕ, _+_, _/_, _%_, _≤_, _<_}
 use native.Mathlib.Omega.{arith}
 use native.Mathlib.Decide.{ℕ-discrete}
 use lib.Dec.{ltb, eqb}
-use lib.ListN.{length, getD, set, replicate, length-set, length-replicate, getD-replicate}
+use lib.ListN.{getD, set, replicate, length-set, length-replicate, getD-replicate}
 use lib.Seq.{getD-set-same, getD-set-other}
-use borrow.Author.Tests.{eqb-true, eq-eqb, ne-eqb, lt-ltb}
+use borrow.Author.Tests.{ne-eqb, lt-ltb}
 use Rattle.base.proofs.Tests.{test, not-both, same-test, and-right}
-use Rattle.instance.specs.Limits.{max-vertices, cells}
+use Rattle.instance.specs.Limits.{cells}
 use Rattle.instance.specs.Instance.{Instance, cell}
 use Rattle.instance.specs.Arborescence.{uses}
 use Rattle.theory.specs.Usable.{usable}
@@ -23,7 +23,8 @@ module _ (s : Instance) where
   sound-none =
       record {
         size = length-replicate {A = ℕ} cells 0;
-        right = λ t h l m e. absurd (not-both (is-used (replicate cells 0) t h) e (rw (getD-replicate {A = ℕ} cells (cell t h) 0 0 (omega arith)))) }
+        right = λ t h l m e. absurd (not-both (is-used (replicate cells 0) t h) e (rw (getD-replicate {A = ℕ} cells (cell t h) 0 0 (omega arith))));
+      }
 
   -- NOTHING TO STORE
   module _ (used : List ℕ) (k : Sound s used) (t h : ℕ) where
@@ -39,16 +40,19 @@ module _ (s : Instance) where
         record {
           sound = record { size = simp length-set (k .size); right = λ u v a b x. right u v a b x (ℕ-discrete (cell u v) (cell t h)) };
           kept = λ u v a b x. keep u v x (ℕ-discrete (cell u v) (cell t h));
-          done = λ _. here }
+          done = λ _. here;
+        }
       where
         here : is-used (set used (cell t h) 1) t h ≡ true
         here = let size = k .size in rw (getD-set-same used (cell t h) 1 0 (omega arith))
+
         right : (u v : ℕ) → u < 32 → v < 32 → is-used (set used (cell t h) 1) u v ≡ true → Dec (cell u v ≡ cell t h) → usable s u v ≡ true
         right u v a b x (yes z) =
             let p : u ≡ t = omega arith in
             let q : v ≡ h = omega arith in
             rw (p, q) e
         right u v a b x (no z) = k .right u v a b (rw (getD-set-other used (cell t h) (cell u v) 1 0 z) at x)
+
         keep : (u v : ℕ) → is-used used u v ≡ true → Dec (cell u v ≡ cell t h) → is-used (set used (cell t h) 1) u v ≡ true
         keep u v x (yes z) = rw z here
         keep u v x (no z) = rw (getD-set-other used (cell t h) (cell u v) 1 0 z) x
@@ -120,4 +124,5 @@ module _ (s : Instance) where
       record {
         exact =
             λ t h l m.
-              same-test (is-used used t h) (usable s t h) (k .sound .right t h (omega arith) (omega arith)) (k .done t h l m) }
+            same-test (is-used used t h) (usable s t h) (k .sound .right t h (omega arith) (omega arith)) (k .done t h l m);
+      }

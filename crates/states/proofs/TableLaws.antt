@@ -3,14 +3,14 @@ use mathlib.Core.Path.{_≡_, refl, sym, ap, _∙_}
 use mathlib.Core.Bool.{Bool, true, false, _&&_, not, cond}
 use mathlib.Core.List.{List}
 use mathlib.Core.Logic.{⊎-elim, _≢_}
-use Prim.Native.Nat.{ℕ, zero, suc, _+_, _*_, _/_, _%_, _≤_, _<_}
+use Prim.Native.Nat.{ℕ, _+_, _/_, _%_, _≤_, _<_}
 use native.Mathlib.Omega.{arith}
 use native.Mathlib.Decide.{ℕ-discrete}
 use native.Mathlib.Numerals.{add-one}
 use lib.Dec.{ltb, eqb}
 use lib.ListN.{length, getD, set, length-set}
 use lib.Seq.{getD-set-same, getD-set-other}
-use borrow.Author.Tests.{lt-ltb, le-ltb, eqb-true, eqb-false, eq-eqb, ne-eqb, not-true}
+use borrow.Author.Tests.{lt-ltb, le-ltb, eqb-true, eq-eqb, ne-eqb, not-true}
 use Rattle.base.specs.Bounded.{any-below, sum-below}
 use Rattle.base.proofs.Tests.{test, not-both, and-left, and-right, and-both, and-false-right}
 use Rattle.base.proofs.BoundedLaws.{any-found, any-intro}
@@ -60,12 +60,14 @@ module _ (root : ℕ) (ps before : List ℕ) where
     where
       there : length after ≡ cells
       there = k .size ∙ size
+
       other : (i : ℕ) → i < cells → i ≢ cell p v → Dec (i % 32 ≡ v) → getD after i 0 ≡ cond (in-tree (v + 1) root ps (i / 32) (i % 32)) 1 (getD before i 0)
       other i b ne (no z) = rw (more-other root ps v (i / 32) (i % 32) z) (k .at i b)
       other i b ne (yes z) =
           let apart : parent ps v ≢ i / 32 = λ w. ne (omega arith) in
           let was : getD after i 0 ≡ getD before i 0 = k .at i b ∙ rw (z, before-own root ps v (i / 32)) in
           was ∙ rw (z, more-own root ps v (i / 32) e, ne-eqb (parent ps v) (i / 32) apart)
+
       cases : (i : ℕ) → i < cells → Dec (i ≡ cell p v) → getD (set after (cell p v) 1) i 0 ≡ cond (in-tree (v + 1) root ps (i / 32) (i % 32)) 1 (getD before i 0)
       cases i b (yes z) =
           let d : cell p v / 32 ≡ p = omega arith in
@@ -88,19 +90,22 @@ others-count n t P l p = at (any-below n (λ g. not (eqb g t) && P g)) refl
         let f = any-found n (λ g. not (eqb g t) && P g) e in
         let one = count-one n (λ g. eqb g t) t l (eq-eqb t t refl) in
         let two =
-            count-more n (λ g. eqb g t) P (λ g b z. rw (eqb-true g t z) p) (f .0) (f .1)
-            (not-true (eqb (f .0) t) (and-left (not (eqb (f .0) t)) (P (f .0)) (f .2))) (and-right (not (eqb (f .0) t)) (P (f .0)) (f .2)) in
+        count-more n (λ g. eqb g t) P (λ g b z. rw (eqb-true g t z) p) (f .0) (f .1)
+        (not-true (eqb (f .0) t) (and-left (not (eqb (f .0) t)) (P (f .0)) (f .2))) (and-right (not (eqb (f .0) t)) (P (f .0)) (f .2)) in
         omega arith
+
     alone : any-below n (λ g. not (eqb g t) && P g) ≡ false → (g : ℕ) → g < n → g ≢ t → P g ≡ false
     alone e g b z =
         ⊎-elim
         (λ (y : P g ≡ true).
-          absurd
-          (not-both (any-below n (λ k. not (eqb k t) && P k))
-           (any-intro n (λ k. not (eqb k t) && P k) g b (and-both (not (eqb g t)) (P g) (ap not (ne-eqb g t z)) y)) e))
+        absurd
+        (not-both (any-below n (λ k. not (eqb k t) && P k))
+        (any-intro n (λ k. not (eqb k t) && P k) g b (and-both (not (eqb g t)) (P g) (ap not (ne-eqb g t z)) y)) e))
         (λ (y : P g ≡ false). y) (test (P g))
+
     one : any-below n (λ g. not (eqb g t) && P g) ≡ false → count-below n P ≡ 1
     one e = sum-one n (λ g. cond (P g) 1 0) t l (λ g b z. rw (alone e g b z)) ∙ rw p
+
     at : (b : Bool) → any-below n (λ g. not (eqb g t) && P g) ≡ b → b ≡ not (eqb (count-below n P) 1)
     at true e = let k = several e in sym (ap not (ne-eqb (count-below n P) 1 (λ z. omega arith)))
     at false e = sym (ap not (eq-eqb (count-below n P) 1 (one e)))
@@ -116,18 +121,19 @@ module _ (n : ℕ) (used : List ℕ) where
 -- the state by a count is the state by the table
 pub state-counted : (n root : ℕ) (used weights : List ℕ) (t h : ℕ)
     → cond (can-be-arc n root t h && not (eqb (getD weights (cell t h) 0) no-arc))
-      (cond (is-used used t h) (cond (eqb (count-below n (λ g. is-used used g h)) 1) 3 2) 1) 0
-      ≡ state-by n root used weights t h
+    (cond (is-used used t h) (cond (eqb (count-below n (λ g. is-used used g h)) 1) 3 2) 1) 0
+    ≡ state-by n root used weights t h
 unfolding state-by
 state-counted n root used weights t h = at (can-be-arc n root t h) refl (is-used used t h) refl
   where
     swap : (b : Bool) → _≡_ {A = ℕ} (cond b 3 2) (cond (not b) 2 3)
     swap true = refl
     swap false = refl
+
     at : (a : Bool) → can-be-arc n root t h ≡ a → (u : Bool) → is-used used t h ≡ u
         → _≡_ {A = ℕ}
-          (cond (a && not (eqb (getD weights (cell t h) 0) no-arc)) (cond u (cond (eqb (count-below n (λ g. is-used used g h)) 1) 3 2) 1) 0)
-          (cond (a && not (eqb (getD weights (cell t h) 0) no-arc)) (cond u (cond (any-below n (λ g. not (eqb g t) && is-used used g h)) 2 3) 1) 0)
+        (cond (a && not (eqb (getD weights (cell t h) 0) no-arc)) (cond u (cond (eqb (count-below n (λ g. is-used used g h)) 1) 3 2) 1) 0)
+        (cond (a && not (eqb (getD weights (cell t h) 0) no-arc)) (cond u (cond (any-below n (λ g. not (eqb g t) && is-used used g h)) 2 3) 1) 0)
     at false e u f = refl
     at true e false f = refl
     at true e true f =

@@ -1,7 +1,7 @@
 -- The pins into a head, summed up in one number: 32 for none, the tail of the only one, 33 for several. Assumes nothing: these are
 -- definitions.
 use mathlib.Core.Path.{_≡_}
-use mathlib.Core.Bool.{Bool, true, false, _&&_, _||_, not}
+use mathlib.Core.Bool.{Bool, _&&_, _||_, not}
 use mathlib.Core.List.{List}
 use mathlib.Core.Logic.{_⊎_}
 use Prim.Native.Nat.{ℕ, _<_, _≤_}

@@ -59,7 +59,14 @@ fn least_outside(m: &[u32; 1024], below: &[u8; 32], n: u32, vertex: u32) -> u32
 }
 
 // What such a tail adds to the weight of the vertex's own arc.
-fn increase(m: &[u32; 1024], parents: &[u8; 32], below: &[u8; 32], n: u32, root: u32, vertex: u32) -> u32
+fn increase(
+    m: &[u32; 1024],
+    parents: &[u8; 32],
+    below: &[u8; 32],
+    n: u32,
+    root: u32,
+    vertex: u32,
+) -> u32
     requires { ⌜ Matrix-tree n root (now m) (now parents) × (vertex < n) ⌝ }
     ensures { λ r. ⌜ Increase n (now (m .entry)) (take n (now (parents .entry))) (now (below .entry)) vertex r ⌝ }
 {

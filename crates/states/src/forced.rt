@@ -8,7 +8,6 @@ ghost use Rattle.instance.specs.Matrix.{unmarked};
 ghost use Rattle.states.specs.Fields.{fields};
 ghost use Rattle.states.specs.Tree.{Matrix-ok};
 ghost use Rattle.states.specs.Judge.{Forced-matrix, Forced-plan};
-
 use edmonds::Planned;
 use instance::Vertex;
 

@@ -12,14 +12,24 @@ ghost use Rattle.states.specs.Fields.{fields};
 ghost use Rattle.states.specs.Pins.{Pins, Pin-table, lets};
 
 const NO_ARC: u32 = 1048575;
+
 const PINNED: u8 = 1;
+
 const BANNED: u8 = 2;
 
 // Pins into a head: a tail, or one of these.
 const NO_PIN: u32 = 32;
+
 const SEVERAL_PINS: u32 = 33;
 
-fn is_pinned<'a>(weights: &'a [u32; 1024], marks: &'a [u8; 1024], n: u32, root: u32, tail: u32, head: u32) -> bool
+fn is_pinned<'a>(
+    weights: &'a [u32; 1024],
+    marks: &'a [u8; 1024],
+    n: u32,
+    root: u32,
+    tail: u32,
+    head: u32,
+) -> bool
     requires { ⌜ (n ≤ 32) × (length (now weights) ≡ 1024) × (length (now marks) ≡ 1024) ⌝ }
     ensures { λ r. ⌜ r ≡ pinned-arc (fields n root 0 (now (weights .entry)) (now (marks .entry))) tail head ⌝ }
 {
@@ -34,7 +44,13 @@ fn is_pinned<'a>(weights: &'a [u32; 1024], marks: &'a [u8; 1024], n: u32, root: 
 }
 
 // The tail of the only pinned arc into the head, or that there is none, or several.
-fn pins_into<'a>(weights: &'a [u32; 1024], marks: &'a [u8; 1024], n: u32, root: u32, head: u32) -> u32
+fn pins_into<'a>(
+    weights: &'a [u32; 1024],
+    marks: &'a [u8; 1024],
+    n: u32,
+    root: u32,
+    head: u32,
+) -> u32
     requires { ⌜ (n ≤ 32) × (length (now weights) ≡ 1024) × (length (now marks) ≡ 1024) ⌝ }
     ensures { λ r. ⌜ Pins (fields n root 0 (now (weights .entry)) (now (marks .entry))) head n r ⌝ }
 {
@@ -86,7 +102,12 @@ fn remaining_weight(weight: u32, mark: u8, pin: u32, n: u32, root: u32, tail: u3
 }
 
 // The weights of the remaining arcs, and no arc elsewhere.
-pub fn remaining_matrix<'a>(weights: &'a [u32; 1024], marks: &'a [u8; 1024], n: u32, root: u32) -> [u32; 1024]
+pub fn remaining_matrix<'a>(
+    weights: &'a [u32; 1024],
+    marks: &'a [u8; 1024],
+    n: u32,
+    root: u32,
+) -> [u32; 1024]
     requires { ⌜ (n ≤ 32) × (length (now weights) ≡ 1024) × (length (now marks) ≡ 1024) ⌝ }
     ensures { λ r. ⌜ r ≡ matrix (fields n root 0 (now (weights .entry)) (now (marks .entry))) ⌝ }
 {
@@ -97,7 +118,15 @@ pub fn remaining_matrix<'a>(weights: &'a [u32; 1024], marks: &'a [u8; 1024], n: 
         let head = i % 32;
         let weight = weights[i];
         let mark = marks[i];
-        w[i] = remaining_weight(weight, mark, pins[head], n, root, (i / 32) as u32, head as u32);
+        w[i] = remaining_weight(
+            weight,
+            mark,
+            pins[head],
+            n,
+            root,
+            (i / 32) as u32,
+            head as u32,
+        );
         i += 1;
     }
     w

@@ -72,7 +72,15 @@ pub fn write_states(used: &[u8; 1024], weights: &[u32; 1024], n: u32, root: u32,
         let tail = k / n;
         let head = k % n;
         let i = (32 * tail + head) as usize;
-        out[k as usize] = state_of(used[i], weights[i], counts[head as usize], n, root, tail, head);
+        out[k as usize] = state_of(
+            used[i],
+            weights[i],
+            counts[head as usize],
+            n,
+            root,
+            tail,
+            head,
+        );
         k += 1;
     }
 }

@@ -13,7 +13,6 @@ ghost use Rattle.states.specs.Fields.{fields};
 ghost use Rattle.states.specs.Tree.{Matrix-ok};
 ghost use Rattle.states.specs.Table.{Usable-table};
 ghost use Rattle.states.specs.Judge.{Reduced, Fitting-plan, Offer, Sound, Judged, Judged-head};
-
 use super::exchange::detours;
 use super::forced::plan_with;
 use super::tree::enter_tree;
@@ -22,7 +21,15 @@ use super::tree::tree_total;
 const NO_ARC: u32 = 1048575;
 
 // Plans with the arc, and enters the tree that is found if it fits.
-fn judge_by_planning(m: &[u32; 1024], n: u32, root: u32, budget: u32, tail: u32, head: u32, used: &mut [u8; 1024])
+fn judge_by_planning(
+    m: &[u32; 1024],
+    n: u32,
+    root: u32,
+    budget: u32,
+    tail: u32,
+    head: u32,
+    used: &mut [u8; 1024],
+)
     requires { ⌜ Matrix-ok n root (now m) × (remaining (unmarked n root (now m)) tail head ≡ true) × Sound (fields n root budget (now m) []) (now used) ⌝ }
     ensures { λ _. ⌜ Judged (fields n root budget (now (m .entry)) []) tail head (now (used .entry)) (now (used .exit)) ⌝ }
 {
@@ -39,7 +46,19 @@ fn judge_by_planning(m: &[u32; 1024], n: u32, root: u32, budget: u32, tail: u32,
 }
 
 // One arc. A tree that uses it costs its weight, the detour and the rest, if there is a detour.
-fn judge_arc(m: &[u32; 1024], reduced: &[u32; 1024], n: u32, root: u32, total: u32, budget: u32, rest: u32, detour: u32, tail: u32, head: u32, used: &mut [u8; 1024])
+fn judge_arc(
+    m: &[u32; 1024],
+    reduced: &[u32; 1024],
+    n: u32,
+    root: u32,
+    total: u32,
+    budget: u32,
+    rest: u32,
+    detour: u32,
+    tail: u32,
+    head: u32,
+    used: &mut [u8; 1024],
+)
     requires { ⌜ Matrix-ok n root (now m) × Reduced n root (now m) (now reduced) total × (rest ≤ total) × (total ≤ max-budget) × (tail < n) × (head < n) × (head ≢ root) × Offer (unmarked n root (now m)) tail head rest detour × Sound (fields n root budget (now m) []) (now used) ⌝ }
     ensures { λ _. ⌜ Judged (fields n root budget (now (m .entry)) []) tail head (now (used .entry)) (now (used .exit)) ⌝ }
 {
@@ -54,7 +73,8 @@ fn judge_arc(m: &[u32; 1024], reduced: &[u32; 1024], n: u32, root: u32, total: u
     if weight == NO_ARC {
         return;
     }
-    if budget < total + reduced[i] {
+    let least = total + reduced[i];
+    if budget < least {
         return;
     }
     if detour < NO_ARC {
@@ -67,7 +87,17 @@ fn judge_arc(m: &[u32; 1024], reduced: &[u32; 1024], n: u32, root: u32, total: u
 }
 
 // The arcs into one head.
-fn judge_head(m: &[u32; 1024], reduced: &[u32; 1024], parents: &[u8; 32], n: u32, root: u32, total: u32, budget: u32, head: u32, used: &mut [u8; 1024])
+fn judge_head(
+    m: &[u32; 1024],
+    reduced: &[u32; 1024],
+    parents: &[u8; 32],
+    n: u32,
+    root: u32,
+    total: u32,
+    budget: u32,
+    head: u32,
+    used: &mut [u8; 1024],
+)
     requires { ⌜ Fitting-plan n root (now m) (now reduced) (now parents) total budget × (head < n) × Sound (fields n root budget (now m) []) (now used) ⌝ }
     ensures { λ _. ⌜ Judged-head (fields n root budget (now (m .entry)) []) n head (now (used .entry)) (now (used .exit)) ⌝ }
 {
@@ -79,13 +109,33 @@ fn judge_head(m: &[u32; 1024], reduced: &[u32; 1024], parents: &[u8; 32], n: u32
     let rest = total - m[(32 * tail + head) as usize];
     let mut t: u32 = 0;
     while t < n {
-        judge_arc(m, reduced, n, root, total, budget, rest, detour[t as usize], t, head, used);
+        judge_arc(
+            m,
+            reduced,
+            n,
+            root,
+            total,
+            budget,
+            rest,
+            detour[t as usize],
+            t,
+            head,
+            used,
+        );
         t += 1;
     }
 }
 
 // 1 at the cell of each usable arc.
-pub fn usable_arcs(m: &[u32; 1024], reduced: &[u32; 1024], parents: &[u8; 32], n: u32, root: u32, total: u32, budget: u32) -> [u8; 1024]
+pub fn usable_arcs(
+    m: &[u32; 1024],
+    reduced: &[u32; 1024],
+    parents: &[u8; 32],
+    n: u32,
+    root: u32,
+    total: u32,
+    budget: u32,
+) -> [u8; 1024]
     requires { ⌜ Fitting-plan n root (now m) (now reduced) (now parents) total budget ⌝ }
     ensures { λ r. ⌜ Usable-table (fields n root budget (now (m .entry)) []) r ⌝ }
 {

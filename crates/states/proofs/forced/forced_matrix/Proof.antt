@@ -1,13 +1,11 @@
 use native.Mathlib.Omega.{arith}
-use mathlib.Core.Path.{_≡_, refl}
+use mathlib.Core.Path.{_≡_}
 use mathlib.Core.Logic.{⊎-elim}
 use Prim.Native.Nat.{_-_, _≤_}
 use Rattle.states.specs.Judge.{Forced-matrix}
 use Rattle.states.proofs.ForcedLaws.{forced-none, forced-pass, forced-more}
 use Rattle.states.proofs.forced.forced_matrix.Statement.{statement}
 use Rattle.states.proofs.forced.forced_matrix.Tie as tie
-use Rattle.states.proofs.forced.forced_matrix.Reads as reads
-use Rattle.states.proofs.forced.forced_matrix.Lts as lts
 
 abbrev Inv-loop : tie.InvT-loop
 Inv-loop m n tail head w₀ g₀ w g = (g ≤ n) × Forced-matrix g tail head m w
@@ -15,47 +13,38 @@ Inv-loop m n tail head w₀ g₀ w g = (g ≤ n) × Forced-matrix g tail head m 
 abbrev μ-loop : tie.MeasureT-loop
 μ-loop m n tail head w₀ g₀ w g = n - g
 
--- src/forced.rt:23:5
 loop-holds : tie.Need-loop-holds Inv-loop μ-loop
 loop-holds c = (omega arith, forced-none _ _ _ (c .before .pre .2))
 
--- src/forced.rt:25:16
 mul-w : tie.Need-mul-w Inv-loop μ-loop
 mul-w c = omega arith
 
--- src/forced.rt:25:16
 add-w : tie.Need-add-w Inv-loop μ-loop
 add-w c = omega arith
 
--- src/forced.rt:25:15
 cast-w : tie.Need-cast-w Inv-loop μ-loop
 cast-w c = omega arith
 
--- src/forced.rt:25:13
 mul-w-2 : tie.Need-mul-w-2 Inv-loop μ-loop
 mul-w-2 c = omega arith
 
--- src/forced.rt:25:13
 array-write-w : tie.Need-array-write-w Inv-loop μ-loop
 array-write-w c = omega arith
 
--- src/forced.rt:27:9
 add-g : tie.Need-add-g Inv-loop μ-loop
 add-g c = omega arith
 
--- src/forced.rt:23:5
 loop-less : tie.Need-loop-less Inv-loop μ-loop
 loop-less c = omega arith
 
--- src/forced.rt:23:5
 loop-again : tie.Need-loop-again Inv-loop μ-loop
 loop-again c =
-    let l = c .before .before .loop in
-    (omega arith,
-     ⊎-elim (λ w. rw (w .1) (forced-more _ _ _ (l .g) (l .w) (w .0 .taken) (omega arith) (c .before .before .before .before .pre .1) (l .inv .1)))
-     (λ w. rw (w .1) (forced-pass _ _ _ (l .g) (l .w) (w .0 .left) (l .inv .1))) (c .if1 .came))
+    let l = c .before .before .loop in (
+      omega arith,
+      ⊎-elim (λ w. rw (w .1) (forced-more _ _ _ (l .g) (l .w) (w .0 .taken) (omega arith) (c .before .before .before .before .pre .1) (l .inv .1)))
+          (λ w. rw (w .1) (forced-pass _ _ _ (l .g) (l .w) (w .0 .left) (l .inv .1))) (c .if1 .came),
+    )
 
--- src/forced.rt:17:1
 returns : tie.Need-returns Inv-loop μ-loop
 returns c = let e : c .before .loop .g ≡ c .before .before .before .args .n = omega arith in rw e at (c .before .loop .inv .1)
 

@@ -1,5 +1,5 @@
 use native.Mathlib.Omega.{arith}
-use mathlib.Core.Path.{_≡_, refl, sym, _∙_}
+use mathlib.Core.Path.{_≡_}
 use mathlib.Core.Bool.{true}
 use Prim.Native.Nat.{_≤_}
 use lib.ListN.{take}
@@ -14,38 +14,29 @@ use Rattle.states.proofs.SoundLaws.{judged-unusable, judged-entered}
 use borrow.Author.Needs.{needs}
 use Rattle.states.proofs.usable.judge_by_planning.Statement.{statement}
 use Rattle.states.proofs.usable.judge_by_planning.Tie as tie
-use Rattle.states.proofs.usable.judge_by_planning.Reads as reads
-use Rattle.states.proofs.usable.judge_by_planning.Lts as lts
-use Rattle.states.proofs.forced.plan_with.Reads as plan-with-reads
-use Rattle.states.proofs.tree.enter_tree.Reads as enter-tree-reads
-use Rattle.states.proofs.tree.tree_total.Reads as tree-total-reads
 
--- src/usable.rt:29:9
 plan-with-requires : tie.Need-plan-with-requires
 plan-with-requires c κs = search needs
 
--- src/usable.rt:32:9
 returns : tie.Need-returns
 returns c =
     let p = c .before .before .before in
     let a = p .before .args in
     judged-unusable _ (a .used .now) (p .before .pre .2) (a .tail) (a .head)
     (unusable-shut (a .n) (a .root) (a .budget) (a .m .now) (a .tail) (a .head) (p .plan-with .result .parents) (p .plan-with .result .found) (p .plan-with .ensures)
-     (not-true (p .plan-with .result .found) (c .if1 .taken)))
+    (not-true (p .plan-with .result .found) (c .if1 .taken)))
 
 found : (c : tie.Else1) → c .before .before .before .plan-with .result .found ≡ true
 found c = not-false (c .before .before .before .plan-with .result .found) (c .if1 .left)
 
 tree : (c : tie.Else1)
     → Matrix-tree (c .before .before .before .before .args .n) (c .before .before .before .before .args .root) (c .before .before .before .before .args .m .now)
-      (c .before .before .before .plan-with .result .parents)
+    (c .before .before .before .plan-with .result .parents)
 tree c = c .before .before .before .plan-with .ensures .tree (found c)
 
--- src/usable.rt:34:9
 tree-total-requires : tie.Need-tree-total-requires
 tree-total-requires c κs = tree (c .before)
 
--- src/usable.rt:36:9
 returns-2 : tie.Need-returns-2
 returns-2 c =
     let e = c .before .before .before in
@@ -55,16 +46,14 @@ returns-2 c =
     let past = c .if2 .taken in
     judged-unusable _ (a .used .now) (p .before .pre .2) (a .tail) (a .head)
     (unusable-dear (a .n) (a .root) (a .budget) (a .m .now) (a .tail) (a .head) (p .plan-with .result .parents) (p .plan-with .result .found) (p .plan-with .ensures)
-     (found e) (omega arith))
+    (found e) (omega arith))
 
--- src/usable.rt:38:5
 enter-tree-requires : tie.Need-enter-tree-requires
 enter-tree-requires c κs =
     let e = c .before .before .before .before .before in
     let k = tree e in
     (k .matrix-ok .small, k .places, tree-rooted _ _ _ _ k, e .before .before .before .before .pre .2 .size)
 
--- src/usable.rt:25:1
 returns-3 : tie.Need-returns-3
 returns-3 c =
     let e = c .before .before .before .before .before .before in
