@@ -1,7 +1,7 @@
 -- Charging a group: its vertices become a cut, whose value is taken off the arcs that enter it. A tree for the lowered weights is then
 -- one with the new cut in front, since exactly one arc of any tree of groups enters a group. Assumes nothing.
 use mathlib.Core.Path.{_≡_, refl, sym, _∙_}
-use mathlib.Core.Bool.{Bool, true, false, _&&_, not, cond}
+use mathlib.Core.Bool.{true, false, not}
 use mathlib.Core.List.{List, [], _∷_}
 use mathlib.Core.Logic.{_⊎_, inl, inr, ⊎-elim, _≢_}
 use Prim.Native.Nat.{ℕ, _+_, _≤_, _<_}
@@ -12,7 +12,7 @@ use Rattle.base.proofs.Tests.{test, not-both, and-false-right}
 use Rattle.instance.specs.Limits.{max-vertices, no-arc}
 use Rattle.instance.specs.Cuts.{Cut, inside, enters, charged}
 use Rattle.contraction.specs.Groups.{Lowered}
-use Rattle.contraction.specs.Trees.{Each, more, Reached, here, step, Once, Tree}
+use Rattle.contraction.specs.Trees.{more, Reached, here, step, Once, Tree}
 
 -- an arc enters group g, or not
 pub entering : (label : ℕ → ℕ) (g t h : ℕ) → ((label h ≡ g) × (label t ≢ g)) ⊎ ((label h ≢ g) ⊎ (label t ≡ g))

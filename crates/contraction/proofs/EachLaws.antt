@@ -1,5 +1,5 @@
--- Every cut of a list, and a tree told by other labels and parents that agree below n. Assumes nothing.
-use mathlib.Core.Path.{_≡_, refl, sym, _∙_}
+-- Every cut of a list, and a tree by other labels and parents that agree below n. Assumes nothing.
+use mathlib.Core.Path.{_≡_, sym, _∙_}
 use mathlib.Core.List.{List, [], _∷_, _++_}
 use Prim.Native.Nat.{ℕ, _<_}
 use Rattle.instance.specs.Cuts.{Cut}

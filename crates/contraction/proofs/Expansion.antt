@@ -3,17 +3,16 @@
 -- the cycle from tj's group reaches each of its groups. The cycle's arcs enter no cut, since every cut is a union of contracted groups.
 -- Assumes nothing.
 use mathlib.Core.Path.{_≡_, refl, sym, ap, _∙_, subst}
-use mathlib.Core.Bool.{Bool, true, false, _&&_, not, cond}
+use mathlib.Core.Bool.{Bool, true, false, _&&_, not}
 use mathlib.Core.List.{List}
 use mathlib.Core.Logic.{_⊎_, inl, inr, ⊎-elim, _≢_}
-use Prim.Native.Nat.{ℕ, _≤_, _<_}
-use native.Mathlib.Omega.{arith}
+use Prim.Native.Nat.{ℕ, _<_}
 use lib.Dec.{eqb}
 use borrow.Author.Tests.{eqb-true, eqb-false, eq-eqb, ne-eqb, not-true}
 use Rattle.base.proofs.Tests.{test, not-both, and-left, and-right}
 use Rattle.instance.specs.Cuts.{Cut, inside, enters}
 use Rattle.contraction.specs.Groups.{Along, stop, go, Cycle, contracted, expanded}
-use Rattle.contraction.specs.Trees.{Each, Reached, here, step, Once, Union, Tree}
+use Rattle.contraction.specs.Trees.{Reached, here, step, Once, Union, Tree}
 use Rattle.contraction.proofs.EachLaws.{each-map, each-zip}
 
 not-self : (b : Bool) → not b && b ≡ false

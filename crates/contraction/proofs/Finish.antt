@@ -1,6 +1,6 @@
 -- From a tree at single vertices to an arborescence of the instance, and cuts that prove its total: each arc's weight is what the cuts
 -- charge it, and each cut is entered once, so that weights and values add up to the same. Assumes nothing.
-use mathlib.Core.Path.{_≡_, refl, sym, ap, _∙_}
+use mathlib.Core.Path.{_≡_, refl, sym, _∙_}
 use mathlib.Core.Bool.{Bool, true, false, _&&_, not, cond}
 use mathlib.Core.List.{List, [], _∷_}
 use mathlib.Core.Logic.{inr, ⊎-elim, _≢_}
@@ -10,12 +10,12 @@ use lib.Dec.{ltb, leb, eqb}
 use lib.ListN.{length}
 use borrow.Author.Tests.{eqb-true, eqb-false, eq-eqb, ne-eqb, lt-ltb, le-leb, ltb-true, ltb-false}
 use Rattle.base.specs.Bounded.{all-below, sum-below}
-use Rattle.base.proofs.Tests.{test, not-both, and-both, and-false-right}
+use Rattle.base.proofs.Tests.{test, and-both, and-false-right}
 use Rattle.base.proofs.BoundedLaws.{all-intro, sum-add, sum-zero, sum-eq}
 use Rattle.instance.specs.Limits.{max-vertices, no-arc, no-parent, cut-limit}
 use Rattle.instance.specs.Instance.{Instance, weight}
 use Rattle.instance.specs.Arborescence.{remaining, parent, reaches, parent-ok, is-arborescence, total}
-use Rattle.instance.specs.Cuts.{Cut, inside, enters, charged, values, set-ok, sets-ok, all-positive, Feasible, Proves, reduced-cost, No-entry}
+use Rattle.instance.specs.Cuts.{Cut, inside, enters, charged, values, set-ok, sets-ok, all-positive, Proves, reduced-cost}
 use Rattle.contraction.specs.Groups.{Lowered}
 use Rattle.contraction.specs.Trees.{Each, none-left, more, Reached, here, step, Once, Tree, Proper, Fine}
 use Rattle.contraction.proofs.CountingLaws.{sum-one}

@@ -1,12 +1,11 @@
 -- Lowered weights: nothing charged, one charge after another, and what stays 0. Assumes nothing.
-use mathlib.Core.Path.{_≡_, refl, sym, ap, _∙_}
-use mathlib.Core.Bool.{Bool, true, false, cond}
+use mathlib.Core.Path.{_≡_, refl, _∙_}
 use mathlib.Core.List.{List, [], _∷_, _++_}
 use mathlib.Core.Logic.{_⊎_, inl, inr, ⊎-elim}
 use Prim.Native.Nat.{ℕ, _+_, _≤_, _<_}
 use native.Mathlib.Omega.{arith}
-use Rattle.instance.specs.Limits.{max-vertices, no-arc}
-use Rattle.instance.specs.Cuts.{Cut, enters, charged}
+use Rattle.instance.specs.Limits.{no-arc}
+use Rattle.instance.specs.Cuts.{Cut, charged}
 use Rattle.contraction.specs.Groups.{Lowered, Chosen}
 
 pub charged-append : (cs ds : List Cut) (t h : ℕ) → charged (cs ++ ds) t h ≡ charged cs t h + charged ds t h

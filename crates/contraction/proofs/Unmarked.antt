@@ -1,19 +1,19 @@
 -- The arcs of a weight matrix: where every arc is free, all arcs remain. Assumes nothing.
 use mathlib.Core.Path.{_≡_, refl, sym, _∙_}
-use mathlib.Core.Bool.{Bool, true, false, _&&_, _||_, not, cond}
-use mathlib.Core.List.{List, []}
+use mathlib.Core.Bool.{Bool, true, false, _&&_, not}
+use mathlib.Core.List.{List}
 use mathlib.Core.Logic.{⊎-elim, _≢_}
-use Prim.Native.Nat.{ℕ, _+_, _*_, _≤_, _<_}
+use Prim.Native.Nat.{ℕ, _≤_, _<_}
 use native.Mathlib.Omega.{arith}
 use lib.Dec.{ltb, eqb}
 use lib.ListN.{getD, length}
-use borrow.Author.Tests.{eqb-true, eqb-false, eq-eqb, ne-eqb, ltb-true, lt-ltb, not-true}
+use borrow.Author.Tests.{eqb-false, ne-eqb, ltb-true, lt-ltb, not-true}
 use Rattle.base.specs.Bounded.{any-below}
-use Rattle.base.proofs.Tests.{test, not-both, and-left, and-right, and-both, and-false-right}
+use Rattle.base.proofs.Tests.{test, not-both, and-left, and-right}
 use Rattle.base.proofs.BoundedLaws.{any-found}
 use Rattle.base.proofs.ListLaws.{default}
 use Rattle.instance.specs.Limits.{max-vertices, no-arc, cells}
-use Rattle.instance.specs.Instance.{Instance, cell, weight, mark, can-be-arc, is-arc}
+use Rattle.instance.specs.Instance.{cell, weight, mark, can-be-arc, is-arc}
 use Rattle.instance.specs.Arborescence.{is-pinned, other-pinned, remaining}
 use Rattle.instance.specs.Matrix.{unmarked}
 use Rattle.contraction.proofs.Finish.{Shows}

@@ -15,7 +15,7 @@ pub record Labels (n root : ℕ) (label : ℕ → ℕ) : Type 0 where
   pub self : (v : ℕ) → v < n → label (label v) ≡ label v
   pub root-below : root < n
 
--- g stands for a group other than the root's
+-- g is the label of a group other than the root's
 abbrev pub Group : (n root : ℕ) (label : ℕ → ℕ) → ℕ → Type 0
 Group n root label g = (g < n) × (label g ≡ g) × (g ≢ label root)
 

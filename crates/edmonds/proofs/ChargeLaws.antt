@@ -1,25 +1,23 @@
 -- A charged group, in the three ways that charging ends: a value charged, nothing to charge, no arc at all. Assumes nothing.
-use mathlib.Core.Path.{_≡_, refl, sym, _∙_}
-use mathlib.Core.Bool.{Bool, true, false, not, _&&_}
+use mathlib.Core.Path.{_≡_, refl, _∙_}
+use mathlib.Core.Bool.{true, false}
 use mathlib.Core.List.{List, [], _∷_}
 use mathlib.Core.Logic.{_≢_, _⊎_, inl, inr, ⊎-elim}
 use Prim.Native.Nat.{ℕ, _+_, _*_, _-_, _≤_, _<_}
 use native.Mathlib.Omega.{arith}
-use lib.Dec.{ltb, eqb}
+use lib.Dec.{ltb}
 use lib.ListN.{length, set, length-set}
 use lib.Seq.{getD-set-other}
 use borrow.Author.Tests.{eq-eqb, ne-eqb, ltb-true, ltb-false}
 use Rattle.base.proofs.Tests.{test, not-both}
 use Rattle.instance.specs.Limits.{max-vertices, no-arc, cells, cut-words}
-use Rattle.instance.specs.Instance.{cell}
-use Rattle.instance.specs.Cuts.{Cut, inside, enters, cuts-from}
-use Rattle.contraction.specs.Groups.{Lowered}
-use Rattle.contraction.specs.Trees.{Each, none-left, more, Proper}
+use Rattle.instance.specs.Cuts.{Cut, cuts-from}
+use Rattle.contraction.specs.Trees.{none-left, more, Proper}
 use Rattle.contraction.proofs.Lowering.{lowered-none}
 use Rattle.contraction.proofs.Charging.{entering, enters-no, lowered-charge, charge-tree}
 use Rattle.contraction.proofs.SetBits.{inside-some}
 use Rattle.edmonds.specs.Cells.{at, cost}
-use Rattle.edmonds.specs.Charge.{Cheapest, Affords, Lowered-cells, low, Members, Enters, Closed, Charged-group}
+use Rattle.edmonds.specs.Charge.{Cheapest, Affords, Lowered-cells, low, Members, Charged-group}
 use Rattle.edmonds.proofs.LowerLaws.{low-in, low-out}
 use Rattle.edmonds.proofs.CutLaws.{no-cuts, one-cut}
 

@@ -1,5 +1,4 @@
 -- A vertex at which a cycle is entered has a parent and is on the cycle. Assumes nothing.
-use mathlib.Core.Path.{_≡_}
 use mathlib.Core.List.{List}
 use Prim.Native.Nat.{ℕ, _≤_, _<_}
 use native.Mathlib.Omega.{arith}

@@ -1,12 +1,12 @@
 -- From the solved first level to the contract. Assumes nothing.
 use mathlib.Core.Path.{_≡_, refl, sym, ap, _∙_, subst}
 use mathlib.Core.Bool.{Bool, true, false, cond}
-use mathlib.Core.List.{List, [], _++_}
-use mathlib.Core.Logic.{_≢_, _⊎_, inl, inr, ⊎-elim}
+use mathlib.Core.List.{List, _++_}
+use mathlib.Core.Logic.{_⊎_, inl, inr, ⊎-elim}
 use Prim.Native.Nat.{ℕ, _+_, _*_, _-_, _/_, _%_, _≤_, _<_}
 use native.Mathlib.Omega.{arith}
 use lib.Dec.{ltb, eqb}
-use lib.ListN.{length, getD, take, drop, replicate, length-drop}
+use lib.ListN.{length, take, drop, replicate, length-drop}
 use lib.Seq.{getD-take, getD-drop, length-take-le, ext-getD}
 use borrow.Author.Tests.{eqb-true, eqb-false, ltb-true, ltb-false}
 use Rattle.base.proofs.Tests.{test, not-both}
@@ -14,14 +14,14 @@ use Rattle.base.proofs.ListLaws.{default, tabulate-is}
 use Rattle.instance.specs.Limits.{max-vertices, no-arc, no-parent, cells, cut-limit, cut-words}
 use Rattle.instance.specs.Instance.{Instance, cell, weight, weight-at}
 use Rattle.instance.specs.Arborescence.{remaining, parent}
-use Rattle.instance.specs.Cuts.{Cut, cuts-from, cuts-in, enters, charged, Proves, reduced-cost, No-entry}
+use Rattle.instance.specs.Cuts.{Cut, cuts-from, cuts-in, charged, reduced-cost, No-entry}
 use Rattle.instance.specs.Matrix.{unmarked}
 use Rattle.contraction.specs.Groups.{Lowered}
 use Rattle.contraction.specs.Trees.{Each, Tree, Fine}
 use Rattle.contraction.proofs.EachLaws.{each-append, tree-same}
 use Rattle.contraction.proofs.Lowering.{lowered-twice}
 use Rattle.contraction.proofs.Finish.{set-fine, charged-self, charged-root, arborescence, tight-reduced, proves}
-use Rattle.contraction.proofs.Unmarked.{Arc, remaining-arc, arc-remaining, shows}
+use Rattle.contraction.proofs.Unmarked.{remaining-arc, shows}
 use Rattle.edmonds.specs.Cells.{at, cost, Own-labels}
 use Rattle.edmonds.specs.Charge.{Closed}
 use Rattle.edmonds.specs.Level.{Solved}

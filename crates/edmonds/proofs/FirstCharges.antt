@@ -1,7 +1,7 @@
 -- The first charges, of single vertices, one after the other. Assumes nothing.
 use mathlib.Core.Path.{_≡_, refl, sym, ap, _∙_, subst}
 use mathlib.Core.Bool.{Bool, true, false}
-use mathlib.Core.List.{List, [], _++_, append-assoc}
+use mathlib.Core.List.{List, _++_, append-assoc}
 use mathlib.Core.Logic.{_≢_, _⊎_, inl, inr, ⊎-elim}
 use Prim.Native.Nat.{ℕ, _+_, _*_, _-_, _≤_, _<_}
 use native.Mathlib.Omega.{arith}
@@ -13,7 +13,6 @@ use Rattle.instance.specs.Limits.{max-vertices, cells, cut-words}
 use Rattle.instance.specs.Cuts.{Cut, cuts-from}
 use Rattle.contraction.specs.Groups.{Group, Lowered}
 use Rattle.contraction.specs.Trees.{Each, none-left, Tree, Fine}
-use Rattle.contraction.specs.Counting.{groups}
 use Rattle.contraction.proofs.CountingLaws.{count-le}
 use Rattle.contraction.proofs.EachLaws.{each-append}
 use Rattle.contraction.proofs.Lowering.{lowered-none, lowered-twice}

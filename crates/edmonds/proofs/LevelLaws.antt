@@ -1,7 +1,7 @@
 -- One level of planning: with no cycle it is solved; with one, the contracted level is ready, and what solves it solves this level, once
 -- the cycle is expanded. Assumes nothing.
-use mathlib.Core.Path.{_≡_, refl, sym, ap, _∙_, subst}
-use mathlib.Core.Bool.{Bool, true, false, cond}
+use mathlib.Core.Path.{_≡_, refl, sym, _∙_, subst}
+use mathlib.Core.Bool.{Bool, true, false}
 use mathlib.Core.List.{List, [], _++_}
 use mathlib.Core.Logic.{_≢_, _⊎_, inl, inr, ⊎-elim}
 use Prim.Native.Nat.{ℕ, _+_, _*_, _-_, _≤_, _<_}
@@ -13,7 +13,7 @@ use borrow.Author.Tests.{eq-eqb, ne-eqb, eqb-true, eqb-false}
 use Rattle.base.proofs.Tests.{test, not-both}
 use Rattle.instance.specs.Limits.{max-vertices, no-parent, cut-words}
 use Rattle.instance.specs.Cuts.{Cut, cuts-from}
-use Rattle.contraction.specs.Counting.{count-below, groups}
+use Rattle.contraction.specs.Counting.{groups}
 use Rattle.contraction.specs.Groups.{Labels, Group, Chosen, Cycle, Lowered, contracted, expanded, own-arcs}
 use Rattle.contraction.specs.Trees.{Each, none-left, Reached, here, step, Tree, Fine}
 use Rattle.contraction.proofs.CountingLaws.{count-more, count-one}

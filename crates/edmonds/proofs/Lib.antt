@@ -10,3 +10,4 @@ pub mod EntryLaws
 pub mod LevelLaws
 pub mod FirstCharges
 pub mod FinishLaws
+pub mod MatrixLaws

@@ -1,6 +1,6 @@
 -- Lowering the arcs into a group, cell by cell. Assumes nothing.
 use mathlib.Core.Path.{_≡_, refl, sym, ap, _∙_}
-use mathlib.Core.Bool.{Bool, true, false, cond, not, _&&_}
+use mathlib.Core.Bool.{true, false, not}
 use mathlib.Core.List.{List}
 use mathlib.Core.Logic.{_≢_, _⊎_, inl, inr, ⊎-elim}
 use Prim.Native.Nat.{ℕ, _+_, _*_, _-_, _≤_, _<_}
@@ -10,7 +10,7 @@ use lib.ListN.{length, set, length-set}
 use lib.Seq.{getD-set-same, getD-set-other}
 use borrow.Author.Tests.{ltb-true, ltb-false, lt-ltb, le-ltb, eq-eqb, ne-eqb}
 use Rattle.base.proofs.Tests.{test, and-false-right}
-use Rattle.instance.specs.Limits.{max-vertices, no-arc, cells}
+use Rattle.instance.specs.Limits.{no-arc, cells}
 use Rattle.instance.specs.Instance.{cell}
 use Rattle.edmonds.specs.Cells.{at, cost}
 use Rattle.edmonds.specs.Charge.{low, Lowered-cells}

@@ -1,15 +1,13 @@
 -- A group's vertices, put together bit by bit. Assumes nothing.
-use mathlib.Core.Path.{_≡_, refl, sym, ap, _∙_}
+use mathlib.Core.Path.{_≡_, sym, ap, _∙_}
 use mathlib.Core.List.{List}
 use mathlib.Core.Logic.{_≢_, ⊎-elim}
-use Prim.Native.Nat.{ℕ, suc, _+_, _*_, _%_, _^_, _≤_, _<_}
+use Prim.Native.Nat.{ℕ, _+_, _*_, _%_, _^_, _≤_, _<_}
 use native.Mathlib.Omega.{arith}
 use native.Mathlib.Nat.{mod-eq-of-lt, eq-or-lt-of-le, pow-suc, one-mul}
 use native.Mathlib.Numerals.{add-one}
-use lib.Dec.{eqb}
 use lib.Pow.{pow-mono, pow-lt}
 use borrow.Author.Tests.{eq-eqb, ne-eqb}
-use Rattle.instance.specs.Cuts.{inside}
 use Rattle.contraction.proofs.SetBits.{inside-low, inside-top, inside-none}
 use Rattle.edmonds.specs.Cells.{at}
 use Rattle.edmonds.specs.Charge.{Members}

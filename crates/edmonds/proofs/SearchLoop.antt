@@ -1,7 +1,7 @@
 -- The search for a cycle as two loops: what holds between walks, and on one. A walk ends since each of its steps stamps a place that had
 -- no stamp. Assumes nothing.
 use mathlib.Core.Path.{_≡_, refl, sym, subst, _∙_}
-use mathlib.Core.Bool.{Bool, true, false, cond}
+use mathlib.Core.Bool.{true, false, cond}
 use mathlib.Core.List.{List, [], _∷_}
 use mathlib.Core.Logic.{_≢_, _⊎_, inl, inr, ⊎-elim}
 use Prim.Native.Nat.{ℕ, zero, suc, _+_, _≤_, _<_}
@@ -86,7 +86,7 @@ module _ (ls tails : List ℕ) (n root : ℕ) (sb : Searchable ls tails n root) 
           room = b .room;
         }
 
-    -- s does not stand for a group
+    -- s is no group's label
     pub pass : at ls s ≢ s → Between ls tails n root stamp now (s + 1)
     pass ne =
         record {

@@ -1,7 +1,7 @@
 -- Arrays by index: a matrix of weights with a stride of 32, labels, parents. Assumes nothing: these are definitions.
 use mathlib.Core.Path.{_≡_}
 use mathlib.Core.List.{List}
-use Prim.Native.Nat.{ℕ, _+_, _*_, _<_}
+use Prim.Native.Nat.{ℕ, _<_}
 use lib.ListN.{getD}
 use Rattle.instance.specs.Limits.{max-vertices}
 use Rattle.instance.specs.Instance.{cell}

@@ -5,7 +5,7 @@ use mathlib.Core.List.{List, _++_}
 use mathlib.Core.Logic.{_⊎_, _≢_}
 use Prim.Native.Nat.{ℕ, _+_, _*_, _-_, _^_, _≤_, _<_}
 use lib.Dec.{ltb, eqb}
-use lib.ListN.{length, getD}
+use lib.ListN.{length}
 use Rattle.instance.specs.Limits.{max-vertices, no-arc, cells, cut-words}
 use Rattle.instance.specs.Instance.{cell}
 use Rattle.instance.specs.Cuts.{Cut, cuts-from, inside, enters}
@@ -56,7 +56,7 @@ pub record Closed (n root : ℕ) (ws : List ℕ) (set : ℕ) : Type 0 where
   pub proper : Proper n root set
   pub shut : (t h : ℕ) → t < n → h < n → cost ws t h < no-arc → enters set t h ≡ false
 
--- A charged group: the cut, if any, stands at place k, and next is the place after it. A tree for the cuts that follow is one for all.
+-- A charged group: the cut, if any, is at place k, and next is the place after it. A tree for the cuts that follow is one for all.
 pub record Charged-group (ws ws′ ls : List ℕ) (n g : ℕ) (cuts cuts′ : List ℕ) (k : ℕ) (found : Bool) (t h next set : ℕ) : Type 0 where
   pub size : length ws′ ≡ cells
   pub cuts-size : length cuts′ ≡ cut-words

@@ -23,7 +23,7 @@ pub record Ready (ws ls tails heads : List ℕ) (n root left : ℕ) : Type 0 whe
   pub enough : groups n (at ls) ≤ left
   pub two : 2 ≤ left
 
--- The cuts of this level and those below it stand from place k up to count. The matrix holds the reduced costs that they leave.
+-- The cuts of this level and of those below it are at the places from k up to count. The matrix holds the reduced costs that they leave.
 pub record Solved (ws ws′ ls : List ℕ) (n root left : ℕ) (cuts cuts′ : List ℕ) (k : ℕ) (found : Bool) (ps : List ℕ) (count set : ℕ) : Type 0 where
   pub size : length ws′ ≡ cells
   pub cuts-size : length cuts′ ≡ cut-words

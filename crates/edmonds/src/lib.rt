@@ -1,4 +1,4 @@
-// Minimum weight arborescences by Edmonds' algorithm (Algorithm 1 of document 000), on a weight matrix that is lent and lowered in
+// Minimum weight arborescences by Edmonds' algorithm (Algorithm 1 of document 000), on the caller's weight matrix, which is lowered in
 // place: afterwards it holds the reduced costs. Vertices keep their numbers through every contraction; a label for each vertex tells
 // its group.
 

@@ -54,11 +54,11 @@ pub fn plan_groups(
             set: next.set,
         };
     }
-    let i = at as usize;
+    let place = at as usize;
     let mut tails2 = *tails;
     let mut heads2 = *heads;
-    tails2[i] = next.tail as u8;
-    heads2[i] = next.head as u8;
+    tails2[place] = next.tail as u8;
+    heads2[place] = next.head as u8;
     let inner = plan_groups(
         w,
         &coarse,

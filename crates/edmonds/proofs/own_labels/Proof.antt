@@ -1,11 +1,10 @@
+-- `edmonds::own_labels` meets its contract. Assumes nothing.
 use mathlib.Core.Path.{refl}
-use Prim.Native.Nat.{_+_, _-_, _≤_}
+use Prim.Native.Nat.{_-_, _≤_}
 use native.Mathlib.Omega.{arith}
 use Rattle.edmonds.proofs.FillLaws.{Filled, fill-none, fill-store}
 use Rattle.edmonds.proofs.own_labels.Statement.{statement}
 use Rattle.edmonds.proofs.own_labels.Tie as tie
-use Rattle.edmonds.proofs.own_labels.Reads as reads
-use Rattle.edmonds.proofs.own_labels.Lts as lts
 
 abbrev Inv-loop : tie.InvT-loop
 Inv-loop label₀ i₀ label i = (i ≤ 32) × Filled label₀ label (λ v. v) i
@@ -13,31 +12,24 @@ Inv-loop label₀ i₀ label i = (i ≤ 32) × Filled label₀ label (λ v. v) i
 abbrev μ-loop : tie.MeasureT-loop
 μ-loop label₀ i₀ label i = 32 - i
 
--- src/lib.rt:38:5
 loop-holds : tie.Need-loop-holds Inv-loop μ-loop
 loop-holds c = (omega arith, fill-none _ _ refl)
 
--- src/lib.rt:39:20
 cast-label : tie.Need-cast-label Inv-loop μ-loop
 cast-label c = omega arith
 
--- src/lib.rt:39:9
 array-write-label : tie.Need-array-write-label Inv-loop μ-loop
 array-write-label c = omega arith
 
--- src/lib.rt:40:9
 add-i : tie.Need-add-i Inv-loop μ-loop
 add-i c = omega arith
 
--- src/lib.rt:38:5
 loop-less : tie.Need-loop-less Inv-loop μ-loop
 loop-less c = omega arith
 
--- src/lib.rt:38:5
 loop-again : tie.Need-loop-again Inv-loop μ-loop
 loop-again c = (omega arith, fill-store _ _ (c .before .loop .label) (c .before .loop .i) _ (c .before .loop .inv .1) (omega arith) refl)
 
--- src/lib.rt:33:1
 returns : tie.Need-returns Inv-loop μ-loop
 returns c = λ v l. c .before .loop .inv .1 .done v (omega arith)
 

@@ -1,57 +1,43 @@
+-- `edmonds::charge::charge_group` meets its contract: one law for each way to return. Assumes nothing.
 use native.Mathlib.Omega.{arith}
-use Rattle.edmonds.proofs.ChargeLaws.{affords, charged, uncharged, no-arcs}
 use borrow.Author.Needs.{needs}
+use Rattle.edmonds.proofs.ChargeLaws.{affords, charged, uncharged, no-arcs}
 use Rattle.edmonds.proofs.charge.charge_group.Statement.{statement}
 use Rattle.edmonds.proofs.charge.charge_group.Tie as tie
-use Rattle.edmonds.proofs.charge.charge_group.Reads as reads
-use Rattle.edmonds.proofs.charge.charge_group.Lts as lts
-use Rattle.edmonds.proofs.charge.cheapest_arc.Reads as cheapest-arc-reads
-use Rattle.edmonds.proofs.charge.lower_arcs.Reads as lower-arcs-reads
-use Rattle.edmonds.proofs.charge.members.Reads as members-reads
-use Rattle.edmonds.proofs.charge.put_cut.Reads as put-cut-reads
 
--- src/charge.rt:117:9
 cheapest-arc-requires : tie.Need-cheapest-arc-requires
 cheapest-arc-requires c κs = search needs
 
--- src/charge.rt:120:13
 members-requires : tie.Need-members-requires
 members-requires c κs = search needs
 
--- src/charge.rt:121:9
 returns : tie.Need-returns
 returns c =
     let ch = c .before .before in
     let pre = ch .before .before .pre in
     no-arcs _ _ _ _ (pre .2) (ch .cheapest-arc .ensures) _ _ _ (pre .0) (pre .1) (c .before .if1 .taken) (c .members .ensures)
 
--- src/charge.rt:124:9
 returns-2 : tie.Need-returns-2
 returns-2 c =
     let ch = c .before .before in
     let pre = ch .before .before .pre in
     uncharged _ _ _ _ (pre .2) (ch .cheapest-arc .ensures) _ _ (pre .0) (pre .1) (c .if2 .taken)
 
--- src/charge.rt:126:5
 lower-arcs-requires : tie.Need-lower-arcs-requires
 lower-arcs-requires c κs =
     let ch = c .before .before .before in
     let pre = ch .before .before .pre in
     (pre .0, pre .2, pre .3, affords _ _ _ _ (pre .2) (ch .cheapest-arc .ensures))
 
--- src/charge.rt:127:9
 members-requires-2 : tie.Need-members-requires-2
 members-requires-2 c κs = search needs
 
--- src/charge.rt:128:5
 put-cut-requires : tie.Need-put-cut-requires
 put-cut-requires c κs = search needs
 
--- src/charge.rt:129:66
 add-t21 : tie.Need-add-t21
 add-t21 c = search needs
 
--- src/charge.rt:111:1
 returns-3 : tie.Need-returns-3
 returns-3 c =
     let lw = c .before .before .before in

@@ -1,5 +1,6 @@
+-- `edmonds::charge::cheapest_arc` meets its contract. Both loops keep the cheapest arc among the cells passed. Assumes nothing.
 use mathlib.Core.Logic.{inl, inr, ⊎-elim}
-use Prim.Native.Nat.{_+_, _*_, _-_, _≤_}
+use Prim.Native.Nat.{_*_, _-_, _≤_}
 use native.Mathlib.Omega.{arith}
 use native.Mathlib.Nat.{add-zero}
 use Rattle.instance.specs.Instance.{cell}
@@ -7,8 +8,6 @@ use Rattle.edmonds.specs.Charge.{Cheapest}
 use Rattle.edmonds.proofs.CheapestLaws.{none-yet, take-cell, pass-cell, end-row, pass-row, all-rows}
 use Rattle.edmonds.proofs.charge.cheapest_arc.Statement.{statement}
 use Rattle.edmonds.proofs.charge.cheapest_arc.Tie as tie
-use Rattle.edmonds.proofs.charge.cheapest_arc.Reads as reads
-use Rattle.edmonds.proofs.charge.cheapest_arc.Lts as lts
 
 abbrev Inv-loop2 : tie.InvT-loop2
 Inv-loop2 w label n group tail₀ head₀ best₀ t h₀ tail head best h = (h ≤ n) × Cheapest w label n group (cell t h) tail head best
@@ -22,51 +21,39 @@ Inv-loop w label n group tail₀ head₀ best₀ t₀ tail head best t = (t ≤ 
 abbrev μ-loop : tie.MeasureT-loop
 μ-loop w label n group tail₀ head₀ best₀ t₀ tail head best t = n - t
 
--- src/charge.rt:26:17
 cast-group : tie.Need-cast-group Inv-loop2 μ-loop2 Inv-loop μ-loop
 cast-group c = omega arith
 
--- src/charge.rt:31:5
 loop-holds : tie.Need-loop-holds Inv-loop2 μ-loop2 Inv-loop μ-loop
 loop-holds c = (omega arith, none-yet _ _ _ _ (c .before .pre .0))
 
--- src/charge.rt:32:12
 element-copy-out-if1 : tie.Need-element-copy-out-if1 Inv-loop2 μ-loop2 Inv-loop μ-loop
 element-copy-out-if1 c = omega arith
 
--- src/charge.rt:34:13
 loop2-holds : tie.Need-loop2-holds Inv-loop2 μ-loop2 Inv-loop μ-loop
 loop2-holds c = (omega arith, rw (add-zero (32 * c .before .before .before .loop .t)) (c .before .before .before .loop .inv .1))
 
--- src/charge.rt:35:20
 element-copy-out-if2 : tie.Need-element-copy-out-if2 Inv-loop2 μ-loop2 Inv-loop μ-loop
 element-copy-out-if2 c = omega arith
 
--- src/charge.rt:36:31
 mul-x : tie.Need-mul-x Inv-loop2 μ-loop2 Inv-loop μ-loop
 mul-x c = omega arith
 
--- src/charge.rt:36:31
 add-x : tie.Need-add-x Inv-loop2 μ-loop2 Inv-loop μ-loop
 add-x c = omega arith
 
--- src/charge.rt:36:29
 mul-x-2 : tie.Need-mul-x-2 Inv-loop2 μ-loop2 Inv-loop μ-loop
 mul-x-2 c = omega arith
 
--- src/charge.rt:36:29
 element-copy-out-x : tie.Need-element-copy-out-x Inv-loop2 μ-loop2 Inv-loop μ-loop
 element-copy-out-x c = omega arith
 
--- src/charge.rt:43:17
 add-h : tie.Need-add-h Inv-loop2 μ-loop2 Inv-loop μ-loop
 add-h c = omega arith
 
--- src/charge.rt:34:13
 loop2-less : tie.Need-loop2-less Inv-loop2 μ-loop2 Inv-loop μ-loop
 loop2-less c = omega arith
 
--- src/charge.rt:34:13
 loop2-again : tie.Need-loop2-again Inv-loop2 μ-loop2 Inv-loop μ-loop
 loop2-again c =
     let at2 = c .before .before .before in
@@ -80,15 +67,12 @@ loop2-again c =
           (c .if2 .came),
     )
 
--- src/charge.rt:46:9
 add-t : tie.Need-add-t Inv-loop2 μ-loop2 Inv-loop μ-loop
 add-t c = omega arith
 
--- src/charge.rt:31:5
 loop-less : tie.Need-loop-less Inv-loop2 μ-loop2 Inv-loop μ-loop
 loop-less c = omega arith
 
--- src/charge.rt:31:5
 loop-again : tie.Need-loop-again Inv-loop2 μ-loop2 Inv-loop μ-loop
 loop-again c =
     let at1 = c .before .before .before in
@@ -99,7 +83,6 @@ loop-again c =
           (λ w. rw (w .1, w .2, w .3) (pass-row _ _ _ _ pre (at1 .loop .t) (at1 .loop .inv .1) (w .0 .left))) (c .if1 .came),
     )
 
--- src/charge.rt:22:1
 returns : tie.Need-returns Inv-loop2 μ-loop2 Inv-loop μ-loop
 returns c = all-rows _ _ _ _ (c .before .before .before .pre .0) (c .before .loop .t) (c .before .loop .inv .1) (c .loop-test .left)
 

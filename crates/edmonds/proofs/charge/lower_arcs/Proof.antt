@@ -1,5 +1,6 @@
+-- `edmonds::charge::lower_arcs` meets its contract. The cells passed are lowered; a row is lowered by itself and joined to those before it. Assumes nothing.
 use mathlib.Core.Logic.{inl, inr, ⊎-elim}
-use Prim.Native.Nat.{_+_, _*_, _-_, _≤_}
+use Prim.Native.Nat.{_*_, _-_, _≤_}
 use native.Mathlib.Omega.{arith}
 use native.Mathlib.Nat.{add-zero}
 use Rattle.instance.specs.Instance.{cell}
@@ -7,8 +8,6 @@ use Rattle.edmonds.specs.Charge.{Lowered-cells}
 use Rattle.edmonds.proofs.LowerLaws.{none-lowered, join-lowered, lower-cell, pass-cell, end-row, pass-row, all-rows}
 use Rattle.edmonds.proofs.charge.lower_arcs.Statement.{statement}
 use Rattle.edmonds.proofs.charge.lower_arcs.Tie as tie
-use Rattle.edmonds.proofs.charge.lower_arcs.Reads as reads
-use Rattle.edmonds.proofs.charge.lower_arcs.Lts as lts
 
 abbrev Inv-loop2 : tie.InvT-loop2
 Inv-loop2 w₀ label n value group t h₀ w h = (h ≤ n) × Lowered-cells w₀ w label n group value (32 * t) (cell t h)
@@ -22,45 +21,35 @@ Inv-loop w₀ label n value group t₀ w t = (t ≤ n) × Lowered-cells w₀ w l
 abbrev μ-loop : tie.MeasureT-loop
 μ-loop w₀ label n value group t₀ w t = n - t
 
--- src/charge.rt:56:17
 cast-group : tie.Need-cast-group Inv-loop2 μ-loop2 Inv-loop μ-loop
 cast-group c = omega arith
 
--- src/charge.rt:58:5
 loop-holds : tie.Need-loop-holds Inv-loop2 μ-loop2 Inv-loop μ-loop
 loop-holds c = (omega arith, none-lowered _ _ _ _ _ (c .before .pre .1) 0 (c .before .pre .0))
 
--- src/charge.rt:59:12
 element-copy-out-if1 : tie.Need-element-copy-out-if1 Inv-loop2 μ-loop2 Inv-loop μ-loop
 element-copy-out-if1 c = omega arith
 
--- src/charge.rt:61:13
 loop2-holds : tie.Need-loop2-holds Inv-loop2 μ-loop2 Inv-loop μ-loop
 loop2-holds c =
     let at1 = c .before .before .before in
     (omega arith, rw (add-zero (32 * at1 .loop .t)) (none-lowered _ _ _ _ _ (at1 .before .before .pre .1) (32 * at1 .loop .t) (at1 .loop .inv .1 .size)))
 
--- src/charge.rt:62:20
 element-copy-out-if2 : tie.Need-element-copy-out-if2 Inv-loop2 μ-loop2 Inv-loop μ-loop
 element-copy-out-if2 c = omega arith
 
--- src/charge.rt:63:31
 mul-x : tie.Need-mul-x Inv-loop2 μ-loop2 Inv-loop μ-loop
 mul-x c = omega arith
 
--- src/charge.rt:63:31
 add-x : tie.Need-add-x Inv-loop2 μ-loop2 Inv-loop μ-loop
 add-x c = omega arith
 
--- src/charge.rt:63:29
 mul-x-2 : tie.Need-mul-x-2 Inv-loop2 μ-loop2 Inv-loop μ-loop
 mul-x-2 c = omega arith
 
--- src/charge.rt:63:29
 element-copy-out-x : tie.Need-element-copy-out-x Inv-loop2 μ-loop2 Inv-loop μ-loop
 element-copy-out-x c = omega arith
 
--- src/charge.rt:65:41
 sub-w : tie.Need-sub-w Inv-loop2 μ-loop2 Inv-loop μ-loop
 sub-w c =
     let at2 = c .before .before .before .before .before in
@@ -70,31 +59,24 @@ sub-w c =
     let z = at1 .before .before .pre .3 (at1 .loop .t) (at2 .loop2 .h) (omega arith) (omega arith) (c .before .before .if2 .taken) (at2 .before .if1 .taken) in
     omega arith
 
--- src/charge.rt:65:27
 mul-w : tie.Need-mul-w Inv-loop2 μ-loop2 Inv-loop μ-loop
 mul-w c = omega arith
 
--- src/charge.rt:65:27
 add-w : tie.Need-add-w Inv-loop2 μ-loop2 Inv-loop μ-loop
 add-w c = omega arith
 
--- src/charge.rt:65:25
 mul-w-2 : tie.Need-mul-w-2 Inv-loop2 μ-loop2 Inv-loop μ-loop
 mul-w-2 c = omega arith
 
--- src/charge.rt:65:25
 element-write-w : tie.Need-element-write-w Inv-loop2 μ-loop2 Inv-loop μ-loop
 element-write-w c = omega arith
 
--- src/charge.rt:68:17
 add-h : tie.Need-add-h Inv-loop2 μ-loop2 Inv-loop μ-loop
 add-h c = omega arith
 
--- src/charge.rt:61:13
 loop2-less : tie.Need-loop2-less Inv-loop2 μ-loop2 Inv-loop μ-loop
 loop2-less c = omega arith
 
--- src/charge.rt:61:13
 loop2-again : tie.Need-loop2-again Inv-loop2 μ-loop2 Inv-loop μ-loop
 loop2-again c =
     let at2 = c .before .before .before in
@@ -108,15 +90,12 @@ loop2-again c =
           (c .if2 .came),
     )
 
--- src/charge.rt:71:9
 add-t : tie.Need-add-t Inv-loop2 μ-loop2 Inv-loop μ-loop
 add-t c = omega arith
 
--- src/charge.rt:58:5
 loop-less : tie.Need-loop-less Inv-loop2 μ-loop2 Inv-loop μ-loop
 loop-less c = omega arith
 
--- src/charge.rt:58:5
 loop-again : tie.Need-loop-again Inv-loop2 μ-loop2 Inv-loop μ-loop
 loop-again c =
     let at1 = c .before .before .before in
@@ -127,7 +106,6 @@ loop-again c =
           (λ w. rw (w .1) (pass-row _ _ _ _ _ pre (at1 .loop .w) 0 (at1 .loop .t) (at1 .loop .inv .1) (w .0 .left))) (c .if1 .came),
     )
 
--- src/charge.rt:52:1
 returns : tie.Need-returns Inv-loop2 μ-loop2 Inv-loop μ-loop
 returns c = all-rows _ _ _ _ _ (c .before .before .before .pre .1) (c .before .loop .w) 0 (c .before .loop .t) (c .before .loop .inv .1) (c .before .loop .inv .0) (c .loop-test .left)
 

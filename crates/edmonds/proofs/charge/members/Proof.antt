@@ -1,13 +1,12 @@
+-- `edmonds::charge::members` meets its contract. The loop has gathered the group's vertices below v. Assumes nothing.
 use mathlib.Core.Path.{_≡_}
 use mathlib.Core.Logic.{⊎-elim}
-use Prim.Native.Nat.{_+_, _-_, _≤_}
+use Prim.Native.Nat.{_-_, _≤_}
 use native.Mathlib.Omega.{arith}
 use Rattle.edmonds.specs.Charge.{Members}
 use Rattle.edmonds.proofs.MembersLaws.{no-members, member-fits, one-member, no-member}
 use Rattle.edmonds.proofs.charge.members.Statement.{statement}
 use Rattle.edmonds.proofs.charge.members.Tie as tie
-use Rattle.edmonds.proofs.charge.members.Reads as reads
-use Rattle.edmonds.proofs.charge.members.Lts as lts
 
 abbrev Inv-loop : tie.InvT-loop
 Inv-loop label n group set₀ v₀ set v = (v ≤ n) × Members label group v set
@@ -15,39 +14,30 @@ Inv-loop label n group set₀ v₀ set v = (v ≤ n) × Members label group v se
 abbrev μ-loop : tie.MeasureT-loop
 μ-loop label n group set₀ v₀ set v = n - v
 
--- src/charge.rt:80:17
 cast-group : tie.Need-cast-group Inv-loop μ-loop
 cast-group c = omega arith
 
--- src/charge.rt:83:5
 loop-holds : tie.Need-loop-holds Inv-loop μ-loop
 loop-holds c = (omega arith, no-members _ _)
 
--- src/charge.rt:84:12
 element-copy-out-if1 : tie.Need-element-copy-out-if1 Inv-loop μ-loop
 element-copy-out-if1 c = omega arith
 
--- src/charge.rt:85:28
 cast-set : tie.Need-cast-set Inv-loop μ-loop
 cast-set c = omega arith
 
--- src/charge.rt:85:20
 shl-set : tie.Need-shl-set Inv-loop μ-loop
 shl-set c = omega arith
 
--- src/charge.rt:85:13
 add-set : tie.Need-add-set Inv-loop μ-loop
 add-set c = record { fits = member-fits _ _ _ _ (c .before .before .before .loop .inv .1) (omega arith) }
 
--- src/charge.rt:87:9
 add-v : tie.Need-add-v Inv-loop μ-loop
 add-v c = omega arith
 
--- src/charge.rt:83:5
 loop-less : tie.Need-loop-less Inv-loop μ-loop
 loop-less c = omega arith
 
--- src/charge.rt:83:5
 loop-again : tie.Need-loop-again Inv-loop μ-loop
 loop-again c =
     let at = c .before .before .before in (
@@ -56,7 +46,6 @@ loop-again c =
           (λ w. rw (w .1) (no-member _ _ _ _ (at .loop .inv .1) (omega arith) (w .0 .left))) (c .if1 .came),
     )
 
--- src/charge.rt:76:1
 returns : tie.Need-returns Inv-loop μ-loop
 returns c = let e : c .before .loop .v ≡ c .before .before .before .args .n = omega arith in rw e at (c .before .loop .inv .1)
 

@@ -1,6 +1,7 @@
+-- `edmonds::contract::contracted_labels` meets its contract. The loop has filled the labels below u. Assumes nothing.
 use mathlib.Core.Path.{refl}
 use mathlib.Core.Logic.{⊎-elim}
-use Prim.Native.Nat.{_+_, _-_, _≤_}
+use Prim.Native.Nat.{_-_, _≤_}
 use native.Mathlib.Omega.{arith}
 use borrow.Author.Tests.{le-leb, lt-leb}
 use Rattle.contraction.specs.Groups.{contracted}
@@ -9,8 +10,6 @@ use Rattle.edmonds.specs.Cycle.{on-cycle}
 use Rattle.edmonds.proofs.FillLaws.{Filled, fill-none, fill-store}
 use Rattle.edmonds.proofs.contract.contracted_labels.Statement.{statement}
 use Rattle.edmonds.proofs.contract.contracted_labels.Tie as tie
-use Rattle.edmonds.proofs.contract.contracted_labels.Reads as reads
-use Rattle.edmonds.proofs.contract.contracted_labels.Lts as lts
 
 abbrev Inv-loop : tie.InvT-loop
 Inv-loop label stamp n at first out₀ u₀ out u = (u ≤ n) × Filled out₀ out (contracted (place label) (on-cycle stamp at) at) u
@@ -18,58 +17,45 @@ Inv-loop label stamp n at first out₀ u₀ out u = (u ≤ n) × Filled out₀ o
 abbrev μ-loop : tie.MeasureT-loop
 μ-loop label stamp n at first out₀ u₀ out u = n - u
 
--- src/contract.rt:14:14
 cast-at : tie.Need-cast-at Inv-loop μ-loop
 cast-at c = omega arith
 
--- src/contract.rt:15:17
 element-copy-out-first : tie.Need-element-copy-out-first Inv-loop μ-loop
 element-copy-out-first c = omega arith
 
--- src/contract.rt:18:5
 loop-holds : tie.Need-loop-holds Inv-loop μ-loop
 loop-holds c = (omega arith, fill-none _ _ refl)
 
--- src/contract.rt:19:17
 element-copy-out-g : tie.Need-element-copy-out-g Inv-loop μ-loop
 element-copy-out-g c = omega arith
 
--- src/contract.rt:19:17
 cast-g : tie.Need-cast-g Inv-loop μ-loop
 cast-g c = let b = c .before .before .before .before .before .pre .2 (c .before .before .loop .u) (c .before .loop-test .taken) in omega arith
 
--- src/contract.rt:20:21
 element-copy-out-if1 : tie.Need-element-copy-out-if1 Inv-loop μ-loop
 element-copy-out-if1 c = let b = c .before .before .before .before .before .pre .2 (c .before .before .loop .u) (c .before .loop-test .taken) in omega arith
 
--- src/contract.rt:21:22
 cast-out : tie.Need-cast-out Inv-loop μ-loop
 cast-out c = omega arith
 
--- src/contract.rt:21:13
 array-write-out : tie.Need-array-write-out Inv-loop μ-loop
 array-write-out c = omega arith
 
--- src/contract.rt:23:22
 cast-out-2 : tie.Need-cast-out-2 Inv-loop μ-loop
 cast-out-2 c =
     let al = c .before .before .before .before in
     let b = al .before .before .before .pre .2 (al .loop .u) (c .before .before .before .loop-test .taken) in
     omega arith
 
--- src/contract.rt:23:13
 array-write-out-2 : tie.Need-array-write-out-2 Inv-loop μ-loop
 array-write-out-2 c = omega arith
 
--- src/contract.rt:25:9
 add-u : tie.Need-add-u Inv-loop μ-loop
 add-u c = omega arith
 
--- src/contract.rt:18:5
 loop-less : tie.Need-loop-less Inv-loop μ-loop
 loop-less c = omega arith
 
--- src/contract.rt:18:5
 loop-again : tie.Need-loop-again Inv-loop μ-loop
 loop-again c =
     let al = c .before .before .before .before in (
@@ -78,7 +64,6 @@ loop-again c =
           (λ w. rw (w .1) (fill-store _ _ (al .loop .out) (al .loop .u) _ (al .loop .inv .1) (omega arith) (rw (lt-leb _ _ (w .0 .left))))) (c .if1 .came),
     )
 
--- src/contract.rt:10:1
 returns : tie.Need-returns Inv-loop μ-loop
 returns c = record { is = λ p l. c .before .loop .inv .1 .done p (omega arith) }
 

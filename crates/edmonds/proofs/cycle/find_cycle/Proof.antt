@@ -1,13 +1,11 @@
-use mathlib.Core.Path.{_≡_, refl, sym, ap, _∙_, subst}
+-- `edmonds::cycle::find_cycle` meets its contract. The inner loop's measure is the number of places with no stamp. Assumes nothing.
 use mathlib.Core.Logic.{inl, inr, ⊎-elim}
-use Prim.Native.Nat.{ℕ, _+_, _*_, _-_, _^_, _≤_, _<_}
+use Prim.Native.Nat.{_-_, _≤_}
 use native.Mathlib.Omega.{arith}
 use borrow.Author.Tests.{ltb-true, ltb-false}
 use Rattle.edmonds.proofs.SearchLoop.{zeros, Between, Walking, none-stamped, set-out, pass, no-cycle, met, below-32, tail-below, onwards, ends, falls}
 use Rattle.edmonds.proofs.cycle.find_cycle.Statement.{statement}
 use Rattle.edmonds.proofs.cycle.find_cycle.Tie as tie
-use Rattle.edmonds.proofs.cycle.find_cycle.Reads as reads
-use Rattle.edmonds.proofs.cycle.find_cycle.Lts as lts
 
 abbrev Inv-loop : tie.InvT-loop
 Inv-loop label tails n r top stamp₀ now₀ s at₀ g first v₀ stamp now at v = Walking label tails n r stamp first now s v
@@ -21,15 +19,12 @@ Inv-starts label tails n r top stamp₀ now₀ s₀ at₀ stamp now s at = (s �
 abbrev μ-starts : tie.MeasureT-starts
 μ-starts label tails n r top stamp₀ now₀ s₀ at₀ stamp now s at = n - s
 
--- src/cycle.rt:20:13
 cast-r : tie.Need-cast-r Inv-loop μ-loop Inv-starts μ-starts
 cast-r c = omega arith
 
--- src/cycle.rt:21:15
 element-copy-out-top : tie.Need-element-copy-out-top Inv-loop μ-loop Inv-starts μ-starts
 element-copy-out-top c = let l = c .before .pre .labels .root-below in let m = c .before .pre .small in omega arith
 
--- src/cycle.rt:21:15
 cast-top : tie.Need-cast-top Inv-loop μ-loop Inv-starts μ-starts
 cast-top c =
     let sb = c .before .before .pre in
@@ -37,15 +32,12 @@ cast-top c =
     let m = sb .small in
     omega arith
 
--- src/cycle.rt:26:5
 starts-holds : tie.Need-starts-holds Inv-loop μ-loop Inv-starts μ-starts
 starts-holds c = (omega arith, none-stamped _ _ _ _ (c .before .before .pre))
 
--- src/cycle.rt:27:17
 element-copy-out-g : tie.Need-element-copy-out-g Inv-loop μ-loop Inv-starts μ-starts
 element-copy-out-g c = let m = c .before .before .before .before .pre .small in omega arith
 
--- src/cycle.rt:27:17
 cast-g : tie.Need-cast-g Inv-loop μ-loop Inv-starts μ-starts
 cast-g c =
     let os = c .before .before in
@@ -54,20 +46,17 @@ cast-g c =
     let m = sb .small in
     omega arith
 
--- src/cycle.rt:31:13
 loop-holds : tie.Need-loop-holds Inv-loop μ-loop Inv-starts μ-starts
 loop-holds c =
     let os = c .before .before .before in
     set-out _ _ _ _ (os .before .before .before .pre) (os .starts .stamp) (os .starts .now) (os .starts .s) (os .starts .inv .1) (c .before .before .starts-test .taken) (c .if1 .taken)
 
--- src/cycle.rt:32:27
 array-read-met : tie.Need-array-read-met Inv-loop μ-loop Inv-starts μ-starts
 array-read-met c =
     let al = c .before in
     let sb = al .before .before .before .before .before .before .before .pre in
     below-32 _ _ _ _ sb _ _ _ _ _ (al .loop .inv)
 
--- src/cycle.rt:34:26
 cast-at : tie.Need-cast-at Inv-loop μ-loop Inv-starts μ-starts
 cast-at c =
     let al = c .before .before in
@@ -75,28 +64,24 @@ cast-at c =
     let v = below-32 _ _ _ _ sb _ _ _ _ _ (al .loop .inv) in
     omega arith
 
--- src/cycle.rt:40:17
 array-write-stamp : tie.Need-array-write-stamp Inv-loop μ-loop Inv-starts μ-starts
 array-write-stamp c =
     let al = c .before .before .before in
     let sb = al .before .before .before .before .before .before .before .pre in
     below-32 _ _ _ _ sb _ _ _ _ _ (al .loop .inv)
 
--- src/cycle.rt:41:17
 add-now : tie.Need-add-now Inv-loop μ-loop Inv-starts μ-starts
 add-now c =
     let al = c .before .before .before in
     let r = al .loop .inv .room in
     omega arith
 
--- src/cycle.rt:42:25
 element-copy-out-t : tie.Need-element-copy-out-t Inv-loop μ-loop Inv-starts μ-starts
 element-copy-out-t c =
     let al = c .before .before .before in
     let sb = al .before .before .before .before .before .before .before .pre in
     below-32 _ _ _ _ sb _ _ _ _ _ (al .loop .inv)
 
--- src/cycle.rt:42:25
 cast-t : tie.Need-cast-t Inv-loop μ-loop Inv-starts μ-starts
 cast-t c =
     let il = c .before .before .before in
@@ -106,7 +91,6 @@ cast-t c =
     let m = sb .small in
     omega arith
 
--- src/cycle.rt:43:21
 element-copy-out-v : tie.Need-element-copy-out-v Inv-loop μ-loop Inv-starts μ-starts
 element-copy-out-v c =
     let il = c .before .before .before in
@@ -116,7 +100,6 @@ element-copy-out-v c =
     let m = sb .small in
     omega arith
 
--- src/cycle.rt:43:21
 cast-v : tie.Need-cast-v Inv-loop μ-loop Inv-starts μ-starts
 cast-v c =
     let il = c .before .before .before .before in
@@ -126,14 +109,12 @@ cast-v c =
     let m = sb .small in
     omega arith
 
--- src/cycle.rt:31:13
 loop-less : tie.Need-loop-less Inv-loop μ-loop Inv-starts μ-starts
 loop-less c =
     let al = c .before .before .before .before .before in
     let sb = al .before .before .before .before .before .before .before .pre in
     falls _ _ _ _ sb _ _ _ _ _ (al .loop .inv) (omega arith)
 
--- src/cycle.rt:31:13
 loop-again : tie.Need-loop-again Inv-loop μ-loop Inv-starts μ-starts
 loop-again c =
     let il = c .before .before .before .before in
@@ -141,15 +122,12 @@ loop-again c =
     let sb = al .before .before .before .before .before .before .before .pre in
     onwards _ _ _ _ sb _ _ _ _ _ (al .loop .inv) (il .loop-test .taken) (omega arith)
 
--- src/cycle.rt:46:9
 add-s : tie.Need-add-s Inv-loop μ-loop Inv-starts μ-starts
 add-s c = omega arith
 
--- src/cycle.rt:26:5
 starts-less : tie.Need-starts-less Inv-loop μ-loop Inv-starts μ-starts
 starts-less c = omega arith
 
--- src/cycle.rt:26:5
 starts-again : tie.Need-starts-again Inv-loop μ-loop Inv-starts μ-starts
 starts-again c =
     let os = c .before .before .before in
@@ -160,7 +138,6 @@ starts-again c =
           (λ w. rw (w .1, w .2) (pass _ _ _ _ sb (os .starts .stamp) (os .starts .now) (os .starts .s) (os .starts .inv .1) (w .0 .left)))) (c .if1 .came),
     )
 
--- src/cycle.rt:16:1
 returns : tie.Need-returns Inv-loop μ-loop Inv-starts μ-starts
 returns c =
     let os = c .before in

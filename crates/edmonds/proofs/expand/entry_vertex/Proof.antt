@@ -1,15 +1,14 @@
+-- `edmonds::expand::entry_vertex` meets its contract. No vertex below u is an entry, and there is one. Assumes nothing.
 use mathlib.Core.Path.{_≡_, subst}
 use mathlib.Core.Logic.{⊎-elim}
-use Prim.Native.Nat.{ℕ, _+_, _-_, _≤_, _<_}
+use Prim.Native.Nat.{ℕ, _-_, _≤_, _<_}
 use native.Mathlib.Omega.{arith}
 use native.Mathlib.Nat.{eq-or-lt-of-le}
-use borrow.Author.Tests.{le-leb, leb-true}
+use borrow.Author.Tests.{le-leb}
 use Rattle.edmonds.specs.Cycle.{Entry}
 use Rattle.edmonds.proofs.EntryLaws.{no-parent-there, off-cycle}
 use Rattle.edmonds.proofs.expand.entry_vertex.Statement.{statement}
 use Rattle.edmonds.proofs.expand.entry_vertex.Tie as tie
-use Rattle.edmonds.proofs.expand.entry_vertex.Reads as reads
-use Rattle.edmonds.proofs.expand.entry_vertex.Lts as lts
 
 abbrev Inv-loop : tie.InvT-loop
 Inv-loop parents label stamp n at first bound u₀ u = (u ≤ n) × ((q : ℕ) → q < u → Entry parents label stamp n at q → ⊥)
@@ -17,55 +16,42 @@ Inv-loop parents label stamp n at first bound u₀ u = (u ≤ n) × ((q : ℕ) �
 abbrev μ-loop : tie.MeasureT-loop
 μ-loop parents label stamp n at first bound u₀ u = n - u
 
--- src/expand.rt:39:14
 cast-at : tie.Need-cast-at Inv-loop μ-loop
 cast-at c = omega arith
 
--- src/expand.rt:40:17
 element-copy-out-first : tie.Need-element-copy-out-first Inv-loop μ-loop
 element-copy-out-first c = omega arith
 
--- src/expand.rt:41:17
 cast-bound : tie.Need-cast-bound Inv-loop μ-loop
 cast-bound c = omega arith
 
--- src/expand.rt:43:5
 loop-holds : tie.Need-loop-holds Inv-loop μ-loop
 loop-holds c = (omega arith, λ q l e. omega arith)
 
--- src/expand.rt:44:17
 element-copy-out-g : tie.Need-element-copy-out-g Inv-loop μ-loop
 element-copy-out-g c = omega arith
 
--- src/expand.rt:44:17
 cast-g : tie.Need-cast-g Inv-loop μ-loop
 cast-g c = let b = c .before .before .before .before .before .pre .2 (c .before .before .loop .u) (c .before .loop-test .taken) in omega arith
 
--- src/expand.rt:45:21
 element-copy-out-if1 : tie.Need-element-copy-out-if1 Inv-loop μ-loop
 element-copy-out-if1 c = let b = c .before .before .before .before .before .pre .2 (c .before .before .loop .u) (c .before .loop-test .taken) in omega arith
 
--- src/expand.rt:46:16
 element-copy-out-if2 : tie.Need-element-copy-out-if2 Inv-loop μ-loop
 element-copy-out-if2 c = omega arith
 
--- src/expand.rt:47:31
 cast-t24 : tie.Need-cast-t24 Inv-loop μ-loop
 cast-t24 c = omega arith
 
--- src/expand.rt:47:17
 returns : tie.Need-returns Inv-loop μ-loop
 returns c = record { below = omega arith; on = le-leb _ _ (c .before .before .if1 .taken); has = c .if2 .taken }
 
--- src/expand.rt:50:9
 add-u : tie.Need-add-u Inv-loop μ-loop
 add-u c = omega arith
 
--- src/expand.rt:43:5
 loop-less : tie.Need-loop-less Inv-loop μ-loop
 loop-less c = omega arith
 
--- src/expand.rt:43:5
 loop-again : tie.Need-loop-again Inv-loop μ-loop
 loop-again c =
     let al = c .before .before .before .before in (
@@ -76,7 +62,6 @@ loop-again c =
           (λ (s : q < al .loop .u). al .loop .inv .1 q s e) (eq-or-lt-of-le {n = q} {m = al .loop .u} (omega arith)),
     )
 
--- src/expand.rt:35:1
 returns-2 : tie.Need-returns-2 Inv-loop μ-loop
 returns-2 c = let e = c .before .before .before .before .pre .3 in absurd (c .before .loop .inv .1 (e .0) (omega (arith, e .1 .below)) (e .1))
 

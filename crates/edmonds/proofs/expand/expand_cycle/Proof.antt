@@ -1,8 +1,7 @@
-use mathlib.Core.Path.{refl}
+-- `edmonds::expand::expand_cycle` meets its contract. The loop has expanded the vertices below u. Assumes nothing.
 use mathlib.Core.Logic.{⊎-elim}
-use Prim.Native.Nat.{_+_, _-_, _≤_}
+use Prim.Native.Nat.{_-_, _≤_}
 use native.Mathlib.Omega.{arith}
-use lib.ListN.{length}
 use borrow.Author.Tests.{le-leb, lt-leb, eq-eqb, ne-eqb}
 use Rattle.contraction.specs.Groups.{expanded}
 use Rattle.edmonds.specs.Cells.{at as place}
@@ -10,8 +9,6 @@ use Rattle.edmonds.specs.Cycle.{on-cycle}
 use Rattle.edmonds.proofs.FillLaws.{Filled, fill-none, fill-store, fill-pass}
 use Rattle.edmonds.proofs.expand.expand_cycle.Statement.{statement}
 use Rattle.edmonds.proofs.expand.expand_cycle.Tie as tie
-use Rattle.edmonds.proofs.expand.expand_cycle.Reads as reads
-use Rattle.edmonds.proofs.expand.expand_cycle.Lts as lts
 
 abbrev Inv-loop : tie.InvT-loop
 Inv-loop parents₀ label stamp tails heads n at first e entered u₀ parents u =
@@ -20,56 +17,45 @@ Inv-loop parents₀ label stamp tails heads n at first e entered u₀ parents u 
 abbrev μ-loop : tie.MeasureT-loop
 μ-loop parents₀ label stamp tails heads n at first e entered u₀ parents u = n - u
 
--- src/expand.rt:60:14
 cast-at : tie.Need-cast-at Inv-loop μ-loop
 cast-at c = omega arith
 
--- src/expand.rt:61:17
 element-copy-out-first : tie.Need-element-copy-out-first Inv-loop μ-loop
 element-copy-out-first c = omega arith
 
--- src/expand.rt:62:13
 cast-e : tie.Need-cast-e Inv-loop μ-loop
 cast-e c = omega arith
 
--- src/expand.rt:63:19
 element-copy-out-entered : tie.Need-element-copy-out-entered Inv-loop μ-loop
 element-copy-out-entered c = omega arith
 
--- src/expand.rt:63:19
 cast-entered : tie.Need-cast-entered Inv-loop μ-loop
 cast-entered c =
     let st = c .before .before .before .before in
     let b = st .pre .4 (st .args .entry .0) (st .pre .3) in
     omega arith
 
--- src/expand.rt:65:5
 loop-holds : tie.Need-loop-holds Inv-loop μ-loop
 loop-holds c = (omega arith, fill-none _ _ (c .before .before .before .before .pre .0))
 
--- src/expand.rt:66:17
 element-copy-out-g : tie.Need-element-copy-out-g Inv-loop μ-loop
 element-copy-out-g c = omega arith
 
--- src/expand.rt:66:17
 cast-g : tie.Need-cast-g Inv-loop μ-loop
 cast-g c =
     let al = c .before .before in
     let b = al .before .before .before .before .before .pre .4 (al .loop .u) (c .before .loop-test .taken) in
     omega arith
 
--- src/expand.rt:67:21
 element-copy-out-if1 : tie.Need-element-copy-out-if1 Inv-loop μ-loop
 element-copy-out-if1 c =
     let al = c .before .before in
     let b = al .before .before .before .before .before .pre .4 (al .loop .u) (c .before .loop-test .taken) in
     omega arith
 
--- src/expand.rt:69:28
 cast-here : tie.Need-cast-here Inv-loop μ-loop
 cast-here c = omega arith
 
--- src/expand.rt:70:20
 element-copy-out-if3 : tie.Need-element-copy-out-if3 Inv-loop μ-loop
 element-copy-out-if3 c =
     let il = c .before .before .before .before in
@@ -77,7 +63,6 @@ element-copy-out-if3 c =
     let b = al .before .before .before .before .before .pre .4 (al .loop .u) (il .loop-test .taken) in
     omega arith
 
--- src/expand.rt:71:34
 element-copy-out-parents : tie.Need-element-copy-out-parents Inv-loop μ-loop
 element-copy-out-parents c =
     let il = c .before .before .before .before .before .before in
@@ -85,19 +70,15 @@ element-copy-out-parents c =
     let b = al .before .before .before .before .before .pre .4 (al .loop .u) (il .loop-test .taken) in
     omega arith
 
--- src/expand.rt:71:21
 element-write-parents : tie.Need-element-write-parents Inv-loop μ-loop
 element-write-parents c = omega arith
 
--- src/expand.rt:75:9
 add-u : tie.Need-add-u Inv-loop μ-loop
 add-u c = omega arith
 
--- src/expand.rt:65:5
 loop-less : tie.Need-loop-less Inv-loop μ-loop
 loop-less c = omega arith
 
--- src/expand.rt:65:5
 loop-again : tie.Need-loop-again Inv-loop μ-loop
 loop-again c =
     let al = c .before .before .before .before in (
@@ -110,7 +91,6 @@ loop-again c =
           (c .if1 .came),
     )
 
--- src/expand.rt:56:1
 returns : tie.Need-returns Inv-loop μ-loop
 returns c = record { size = c .before .loop .inv .1 .size; is = λ p l. c .before .loop .inv .1 .done p (omega arith) }
 

@@ -1,6 +1,7 @@
+-- `edmonds::expand::own_parents` meets its contract. The loop has filled the parents below v. Assumes nothing.
 use mathlib.Core.Path.{refl}
 use mathlib.Core.Logic.{⊎-elim}
-use Prim.Native.Nat.{ℕ, _+_, _-_, _≤_}
+use Prim.Native.Nat.{ℕ, _-_, _≤_}
 use native.Mathlib.Omega.{arith}
 use lib.ListN.{getD-replicate}
 use borrow.Author.Tests.{eq-eqb, ne-eqb}
@@ -9,8 +10,6 @@ use Rattle.edmonds.specs.Cells.{at}
 use Rattle.edmonds.proofs.FillLaws.{Filled, fill-none, fill-store, fill-pass}
 use Rattle.edmonds.proofs.expand.own_parents.Statement.{statement}
 use Rattle.edmonds.proofs.expand.own_parents.Tie as tie
-use Rattle.edmonds.proofs.expand.own_parents.Reads as reads
-use Rattle.edmonds.proofs.expand.own_parents.Lts as lts
 
 abbrev Inv-loop : tie.InvT-loop
 Inv-loop label tails heads n r top out₀ v₀ out v = (v ≤ n) × Filled out₀ out (own-arcs r (at label) (at tails) (at heads)) v
@@ -18,48 +17,39 @@ Inv-loop label tails heads n r top out₀ v₀ out v = (v ≤ n) × Filled out�
 abbrev μ-loop : tie.MeasureT-loop
 μ-loop label tails heads n r top out₀ v₀ out v = n - v
 
--- src/expand.rt:17:13
 cast-r : tie.Need-cast-r Inv-loop μ-loop
 cast-r c = omega arith
 
--- src/expand.rt:18:15
 element-copy-out-top : tie.Need-element-copy-out-top Inv-loop μ-loop
 element-copy-out-top c = omega arith
 
--- src/expand.rt:18:15
 cast-top : tie.Need-cast-top Inv-loop μ-loop
 cast-top c =
     let st = c .before .before in
     let b = st .pre .2 (st .args .root .0) (st .pre .1) in
     omega arith
 
--- src/expand.rt:21:5
 loop-holds : tie.Need-loop-holds Inv-loop μ-loop
 loop-holds c = (omega arith, fill-none _ _ refl)
 
--- src/expand.rt:22:17
 element-copy-out-g : tie.Need-element-copy-out-g Inv-loop μ-loop
 element-copy-out-g c = omega arith
 
--- src/expand.rt:22:17
 cast-g : tie.Need-cast-g Inv-loop μ-loop
 cast-g c =
     let al = c .before .before in
     let b = al .before .before .before .pre .2 (al .loop .v) (c .before .loop-test .taken) in
     omega arith
 
--- src/expand.rt:24:24
 cast-here : tie.Need-cast-here Inv-loop μ-loop
 cast-here c = omega arith
 
--- src/expand.rt:25:16
 element-copy-out-if2 : tie.Need-element-copy-out-if2 Inv-loop μ-loop
 element-copy-out-if2 c =
     let al = c .before .before .before in
     let b = al .before .before .before .pre .2 (al .loop .v) (c .before .before .loop-test .taken) in
     omega arith
 
--- src/expand.rt:26:26
 element-copy-out-out : tie.Need-element-copy-out-out Inv-loop μ-loop
 element-copy-out-out c =
     let il = c .before .before .before .before in
@@ -67,19 +57,15 @@ element-copy-out-out c =
     let b = al .before .before .before .pre .2 (al .loop .v) (il .loop-test .taken) in
     omega arith
 
--- src/expand.rt:26:17
 array-write-out : tie.Need-array-write-out Inv-loop μ-loop
 array-write-out c = omega arith
 
--- src/expand.rt:29:9
 add-v : tie.Need-add-v Inv-loop μ-loop
 add-v c = omega arith
 
--- src/expand.rt:21:5
 loop-less : tie.Need-loop-less Inv-loop μ-loop
 loop-less c = omega arith
 
--- src/expand.rt:21:5
 loop-again : tie.Need-loop-again Inv-loop μ-loop
 loop-again c =
     let al = c .before .before .before in
@@ -90,7 +76,6 @@ loop-again c =
           (λ w. rw (w .1) (fill-pass _ _ (al .loop .out) (al .loop .v) (al .loop .inv .1) (rw (eq-eqb _ _ (w .0 .left)) none-yet)))) (c .if1 .came),
     )
 
--- src/expand.rt:13:1
 returns : tie.Need-returns Inv-loop μ-loop
 returns c = record { size = c .before .loop .inv .1 .size; is = λ p l. c .before .loop .inv .1 .done p (omega arith) }
 

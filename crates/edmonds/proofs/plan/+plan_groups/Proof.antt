@@ -101,8 +101,8 @@ returns-2 t c =
     let ch = cg .charge-group .ensures in
     stopped r mt ct ch (not-true (cg .charge-group .result .found) (c .if2 .taken))
 
-cast-i : (t : ℕ) → lts.Need-cast-i (callees t) (at-measure t) plan.Post
-cast-i t c =
+cast-place : (t : ℕ) → lts.Need-cast-place (callees t) (at-measure t) plan.Post
+cast-place t c =
     let e2 = c in
     let cg = e2 .before .before in
     let cl = cg .before .before .before .before in
@@ -308,7 +308,7 @@ pub +plan-groups-spec : {M : Type 1} → statement M
     (contracted-labels-requires t)
     (charge-group-requires t)
     (returns-2 t)
-    (cast-i t)
+    (cast-place t)
     (cast-tails2 t)
     (array-write-tails2 t)
     (cast-heads2 t)
