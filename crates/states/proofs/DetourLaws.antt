@@ -8,18 +8,18 @@ use native.Mathlib.Omega.{arith}
 use lib.ListN.{length, getD, set, take}
 use borrow.Author.Tests.{eq-eqb, ne-eqb}
 use Rattle.base.proofs.ListLaws.{default}
-use Rattle.contraction.proofs.Unmarked.{arc-remaining}
 use Rattle.instance.specs.Limits.{no-arc}
 use Rattle.instance.specs.Instance.{Instance, cell, weight}
 use Rattle.instance.specs.Arborescence.{remaining, parent, uses}
 use Rattle.instance.specs.Matrix.{unmarked}
+use Rattle.contraction.proofs.Unmarked.{arc-remaining}
+use Rattle.states.specs.Walks.{Rooted, Below, Avoids, Way, start, onward}
+use Rattle.states.specs.Tree.{Matrix-tree}
+use Rattle.states.specs.Exchange.{Detour, Below-says, Below-table, Least-outside, Increase, Increases, Path-least, Detours}
 use Rattle.states.proofs.Filling.{filled-none, filled-more}
 use Rattle.states.proofs.WalkLaws.{below-avoids, way-below, root-avoids}
 use Rattle.states.proofs.ExchangeLaws.{exchange, exchange-total, exchange-uses, exchange-two, exchange-two-total, exchange-two-uses}
 use Rattle.states.proofs.TreeLaws.{tree-rooted}
-use Rattle.states.specs.Walks.{Rooted, Below, Avoids, Way, start, onward}
-use Rattle.states.specs.Tree.{Matrix-tree}
-use Rattle.states.specs.Exchange.{Detour, Below-says, Below-table, Least-outside, Increase, Increases, Path-least, Detours}
 
 module _ (m below : List ℕ) (k : ℕ) where
   pub outside-none : Least-outside 0 m below k no-arc

@@ -25,9 +25,9 @@ use Rattle.theory.proofs.SameArcs.{Same-arcs, same-back, same-arborescence, sam
 use Rattle.theory.proofs.Restriction.{unmarked-remaining, restricted-remaining, restricted-same-weight, restricted-total}
 use Rattle.theory.proofs.Forced.{forced-arborescence}
 use Rattle.edmonds.specs.Planned.{Planned-matrix}
-use Rattle.states.proofs.Filling.{ltb-more}
 use Rattle.states.specs.Tree.{Matrix-ok}
 use Rattle.states.specs.Judge.{taken-out, Forced-matrix, Forced-plan}
+use Rattle.states.proofs.Filling.{ltb-more}
 
 stays-in : (a b : Bool) → not a || b ≡ true → a && not b ≡ false
 stays-in true true e = refl

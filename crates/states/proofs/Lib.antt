@@ -13,3 +13,4 @@ pub mod ForcedLaws
 pub mod JudgeLaws
 pub mod SoundLaws
 pub mod ShowLaws
+pub mod PlanLaws

@@ -14,8 +14,8 @@ use Rattle.base.proofs.Tests.{and-false-right}
 use Rattle.instance.specs.Limits.{no-arc, banned}
 use Rattle.instance.specs.Instance.{Instance, can-be-arc, is-arc, weight, mark}
 use Rattle.instance.specs.Arborescence.{is-pinned, other-pinned, remaining}
-use Rattle.states.proofs.Filling.{filled-none, filled-more}
 use Rattle.states.specs.Pins.{Pins, Pin-table, lets}
+use Rattle.states.proofs.Filling.{filled-none, filled-more}
 
 lets-none : (t : ℕ) → lets 32 t ≡ true
 unfolding lets

@@ -17,9 +17,9 @@ use Rattle.base.proofs.BoundedLaws.{any-found, any-intro}
 use Rattle.instance.specs.Limits.{no-arc, cells}
 use Rattle.instance.specs.Instance.{cell, can-be-arc}
 use Rattle.instance.specs.Arborescence.{parent, uses}
+use Rattle.theory.proofs.ArborescenceLaws.{ends}
 use Rattle.contraction.specs.Counting.{count-below}
 use Rattle.contraction.proofs.CountingLaws.{count-more, count-one, sum-one}
-use Rattle.theory.proofs.ArborescenceLaws.{ends}
 use Rattle.states.specs.Table.{is-used, in-tree, Entered, Counts, state-by}
 use Rattle.states.proofs.Filling.{ltb-more, filled-none, filled-more}
 

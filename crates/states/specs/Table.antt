@@ -9,8 +9,8 @@ use Rattle.base.specs.Bounded.{any-below}
 use Rattle.instance.specs.Limits.{no-arc, cells}
 use Rattle.instance.specs.Instance.{Instance, cell, can-be-arc}
 use Rattle.instance.specs.Arborescence.{uses}
-use Rattle.contraction.specs.Counting.{count-below}
 use Rattle.theory.specs.Usable.{usable}
+use Rattle.contraction.specs.Counting.{count-below}
 
 abbrev pub is-used : (used : List ℕ) → (tail head : ℕ) → Bool
 is-used us t h = eqb (getD us (cell t h) 0) 1

@@ -1,9 +1,10 @@
-use Rattle.states.proofs.TreeLaws.{parent-read, rooted-tail, step-falls}
-use native.Mathlib.Omega.{arith}
+-- The walk goes on as long as neither the head nor the root is met; a parent is less deep. Assumes nothing.
 use mathlib.Core.Path.{_≡_, refl}
 use Prim.Native.Nat.{ℕ, _<_}
+use native.Mathlib.Omega.{arith}
 use lib.ListN.{take}
 use Rattle.states.specs.Walks.{Below, Avoids}
+use Rattle.states.proofs.TreeLaws.{parent-read, rooted-tail, step-falls}
 use Rattle.states.proofs.WalkLaws.{depth, root-avoids, below-here, below-up, avoids-up}
 use Rattle.states.proofs.exchange.below.Statement.{statement}
 use Rattle.states.proofs.exchange.below.Tie as tie

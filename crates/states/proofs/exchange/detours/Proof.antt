@@ -1,7 +1,8 @@
-use native.Mathlib.Omega.{arith}
+-- One arc is exchanged for a tail that is not below the head, two for the others. Assumes nothing.
 use mathlib.Core.Path.{_≡_, refl}
 use mathlib.Core.Logic.{⊎-elim}
 use Prim.Native.Nat.{_-_, _≤_}
+use native.Mathlib.Omega.{arith}
 use lib.ListN.{length, length-set, take}
 use Rattle.instance.specs.Matrix.{unmarked}
 use Rattle.states.specs.Exchange.{Detours}

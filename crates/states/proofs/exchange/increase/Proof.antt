@@ -1,11 +1,12 @@
+-- The least weight from outside, less the weight of the own arc and no less than 0. Assumes nothing.
 use mathlib.Core.Path.{ap}
 use Prim.Native.Nat.{ℕ, _-_, _<_}
-use Rattle.instance.specs.Instance.{cell}
 use native.Mathlib.Omega.{arith}
 use lib.ListN.{getD}
+use borrow.Author.Needs.{needs}
+use Rattle.instance.specs.Instance.{cell}
 use Rattle.states.proofs.TreeLaws.{parent-read, tail-below}
 use Rattle.states.proofs.DetourLaws.{increase-none, increase-some}
-use borrow.Author.Needs.{needs}
 use Rattle.states.proofs.exchange.increase.Statement.{statement}
 use Rattle.states.proofs.exchange.increase.Tie as tie
 

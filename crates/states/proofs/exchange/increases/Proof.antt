@@ -1,6 +1,7 @@
-use native.Mathlib.Omega.{arith}
+-- The table is right for the vertices that were passed. Assumes nothing.
 use mathlib.Core.Path.{_≡_, refl}
 use Prim.Native.Nat.{_-_, _≤_}
+use native.Mathlib.Omega.{arith}
 use lib.ListN.{length, length-set, take}
 use Rattle.states.specs.Exchange.{Increases}
 use Rattle.states.proofs.DetourLaws.{increases-none, increases-more}

@@ -1,7 +1,8 @@
-use native.Mathlib.Omega.{arith}
+-- The least weight is that of a tail that was passed, or no arc. Assumes nothing.
 use mathlib.Core.Path.{_≡_, refl}
 use mathlib.Core.Logic.{⊎-elim}
 use Prim.Native.Nat.{_-_, _≤_}
+use native.Mathlib.Omega.{arith}
 use Rattle.states.specs.Exchange.{Least-outside}
 use Rattle.states.proofs.DetourLaws.{outside-none, outside-pass, outside-take}
 use Rattle.states.proofs.exchange.least_outside.Statement.{statement}

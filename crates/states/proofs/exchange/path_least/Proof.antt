@@ -1,11 +1,12 @@
-use Rattle.states.proofs.TreeLaws.{parent-read, rooted-tail, step-falls}
-use native.Mathlib.Omega.{arith}
+-- The walk stays below the head, so it does not come to the root; a parent is less deep. Assumes nothing.
 use mathlib.Core.Path.{refl}
 use mathlib.Core.Logic.{⊎-elim, _≢_}
 use Prim.Native.Nat.{_<_}
+use native.Mathlib.Omega.{arith}
 use lib.ListN.{take}
 use Rattle.states.specs.Walks.{Below, Way, start, onward}
 use Rattle.states.specs.Exchange.{Path-least}
+use Rattle.states.proofs.TreeLaws.{parent-read, rooted-tail, step-falls}
 use Rattle.states.proofs.WalkLaws.{depth, root-avoids, below-on, below-avoids}
 use Rattle.states.proofs.DetourLaws.{path-none, path-take}
 use Rattle.states.proofs.exchange.path_least.Statement.{statement}

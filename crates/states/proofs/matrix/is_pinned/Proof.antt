@@ -1,13 +1,14 @@
-use Rattle.instance.specs.Instance.{mark, can-be-arc, is-arc}
-use Prim.Native.Nat.{_+_, _*_, _<_}
-use Rattle.states.proofs.CellLaws.{cell-within, weight-read, absent-unpinned, present-pinned}
-use Rattle.states.specs.Fields.{fields}
-use native.Mathlib.Omega.{arith}
+-- Each way out answers with the tests that led there; the cell is in range where an arc can be. Assumes nothing.
 use mathlib.Core.Path.{_≡_, sym, _∙_}
 use mathlib.Core.Bool.{true}
+use Prim.Native.Nat.{_+_, _*_, _<_}
+use native.Mathlib.Omega.{arith}
 use borrow.Author.Tests.{not-true, not-false}
-use Rattle.instance.specs.Arborescence.{is-pinned as pinned-arc}
 use borrow.Author.Needs.{needs}
+use Rattle.instance.specs.Instance.{mark, can-be-arc, is-arc}
+use Rattle.instance.specs.Arborescence.{is-pinned as pinned-arc}
+use Rattle.states.specs.Fields.{fields}
+use Rattle.states.proofs.CellLaws.{cell-within, weight-read, absent-unpinned, present-pinned}
 use Rattle.states.proofs.matrix.is_pinned.Statement.{statement}
 use Rattle.states.proofs.matrix.is_pinned.Tie as tie
 

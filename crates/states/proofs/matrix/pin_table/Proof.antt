@@ -1,6 +1,7 @@
-use native.Mathlib.Omega.{arith}
+-- The pins into each head that was passed stand in the table. Assumes nothing.
 use mathlib.Core.Path.{_≡_, refl}
 use Prim.Native.Nat.{_-_, _≤_}
+use native.Mathlib.Omega.{arith}
 use lib.ListN.{length, length-set}
 use Rattle.states.specs.Fields.{fields}
 use Rattle.states.specs.Pins.{Pin-table}

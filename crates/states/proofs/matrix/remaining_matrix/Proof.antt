@@ -1,7 +1,8 @@
-use Prim.Native.Nat.{_%_, _-_, _≤_}
-use lib.ListN.{getD, replicate, length, take, length-set}
-use native.Mathlib.Omega.{arith}
+-- The cells that were passed are those of the matrix. Assumes nothing.
 use mathlib.Core.Path.{_≡_, refl, sym, _∙_}
+use Prim.Native.Nat.{_%_, _-_, _≤_}
+use native.Mathlib.Omega.{arith}
+use lib.ListN.{getD, replicate, length, take, length-set}
 use Rattle.base.specs.Lists.{tabulate}
 use Rattle.base.proofs.ListLaws.{tabulate-none, tabulate-store, tabulate-whole}
 use Rattle.states.specs.Fields.{fields}

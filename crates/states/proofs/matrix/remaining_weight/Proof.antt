@@ -1,6 +1,7 @@
+-- Each way out answers with the tests that led there. Assumes nothing.
 use borrow.Author.Tests.{not-true, not-false, eq-eqb, ne-eqb}
-use Rattle.states.specs.Pins.{lets}
 use borrow.Author.Needs.{needs}
+use Rattle.states.specs.Pins.{lets}
 use Rattle.states.proofs.matrix.remaining_weight.Statement.{statement}
 use Rattle.states.proofs.matrix.remaining_weight.Tie as tie
 

@@ -1,6 +1,7 @@
-use native.Mathlib.Omega.{arith}
+-- The counts are right for the heads that were passed. Assumes nothing.
 use mathlib.Core.Path.{_≡_, refl}
 use Prim.Native.Nat.{_-_, _≤_}
+use native.Mathlib.Omega.{arith}
 use lib.ListN.{length, length-set}
 use Rattle.states.specs.Table.{Counts}
 use Rattle.states.proofs.TableLaws.{counts-none, counts-more}

@@ -1,3 +1,4 @@
+-- Each way out answers with the tests that led there. Assumes nothing.
 use borrow.Author.Tests.{not-true, not-false, eq-eqb, ne-eqb}
 use borrow.Author.Needs.{needs}
 use Rattle.states.proofs.show.state_of.Statement.{statement}

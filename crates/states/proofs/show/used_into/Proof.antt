@@ -1,8 +1,9 @@
-use Prim.Native.Nat.{ℕ, _-_, _≤_}
+-- The count is that of the tails that were passed. Assumes nothing.
 use mathlib.Core.Bool.{cond}
-use native.Mathlib.Omega.{arith}
 use mathlib.Core.Path.{_≡_, refl}
 use mathlib.Core.Logic.{⊎-elim}
+use Prim.Native.Nat.{ℕ, _-_, _≤_}
+use native.Mathlib.Omega.{arith}
 use borrow.Author.Tests.{eq-eqb, ne-eqb}
 use Rattle.base.specs.Bounded.{sum-below}
 use Rattle.contraction.specs.Counting.{count-below}

@@ -1,10 +1,11 @@
-use Rattle.states.proofs.TreeLaws.{parent-read, rooted-tail}
-use native.Mathlib.Omega.{arith}
+-- The arcs into the vertices that were passed are entered. Assumes nothing.
 use mathlib.Core.Path.{_≡_}
 use mathlib.Core.Logic.{⊎-elim}
 use Prim.Native.Nat.{_-_, _≤_, _<_}
+use native.Mathlib.Omega.{arith}
 use lib.ListN.{getD, take}
 use Rattle.states.specs.Table.{Entered}
+use Rattle.states.proofs.TreeLaws.{parent-read, rooted-tail}
 use Rattle.states.proofs.TableLaws.{enter-none, enter-root, enter-more}
 use Rattle.states.proofs.tree.enter_tree.Statement.{statement}
 use Rattle.states.proofs.tree.enter_tree.Tie as tie

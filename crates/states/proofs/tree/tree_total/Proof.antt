@@ -1,7 +1,8 @@
-use native.Mathlib.Omega.{arith}
+-- The sum is that of the vertices that were passed, each at most 1,048,575. Assumes nothing.
 use mathlib.Core.Path.{_≡_, refl, sym, _∙_}
 use mathlib.Core.Logic.{⊎-elim}
 use Prim.Native.Nat.{_+_, _*_, _-_, _≤_, _<_}
+use native.Mathlib.Omega.{arith}
 use lib.ListN.{getD}
 use Rattle.base.specs.Bounded.{sum-below}
 use Rattle.states.proofs.TreeLaws.{tail-below, cost, cost-root, cost-read, cell-bounded, sum-more, total-costs}

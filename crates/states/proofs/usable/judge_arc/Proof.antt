@@ -1,16 +1,17 @@
-use native.Mathlib.Omega.{arith}
+-- Each way out says why the arc is usable or not. Assumes nothing.
 use mathlib.Core.Path.{_≡_, sym, _∙_}
 use mathlib.Core.Bool.{true}
 use mathlib.Core.List.{List}
 use Prim.Native.Nat.{ℕ, _≤_}
+use native.Mathlib.Omega.{arith}
 use lib.ListN.{getD}
 use borrow.Author.Tests.{eq-eqb}
+use borrow.Author.Needs.{needs}
 use Rattle.instance.specs.Instance.{cell, weight}
 use Rattle.instance.specs.Arborescence.{remaining}
 use Rattle.instance.specs.Matrix.{unmarked}
 use Rattle.states.proofs.JudgeLaws.{weight-on, weight-most, present, reduced-most, usable-offer, unusable-loop, unusable-absent, unusable-reduced}
 use Rattle.states.proofs.SoundLaws.{judged-already, judged-unusable, judged-usable}
-use borrow.Author.Needs.{needs}
 use Rattle.states.proofs.usable.judge_arc.Statement.{statement}
 use Rattle.states.proofs.usable.judge_arc.Tie as tie
 

@@ -1,9 +1,11 @@
-use native.Mathlib.Omega.{arith}
+-- No tree, or one that is too dear: not usable. One that fits: all its arcs are usable. Assumes nothing.
 use mathlib.Core.Path.{_≡_}
 use mathlib.Core.Bool.{true}
 use Prim.Native.Nat.{_≤_}
+use native.Mathlib.Omega.{arith}
 use lib.ListN.{take}
 use borrow.Author.Tests.{not-true, not-false, eqb-false}
+use borrow.Author.Needs.{needs}
 use Rattle.instance.specs.Arborescence.{total}
 use Rattle.instance.specs.Matrix.{unmarked}
 use Rattle.states.specs.Tree.{Matrix-tree}
@@ -11,7 +13,6 @@ use Rattle.states.proofs.CellLaws.{unmarked-ends}
 use Rattle.states.proofs.TreeLaws.{tree-rooted}
 use Rattle.states.proofs.JudgeLaws.{usable-tree, unusable-shut, unusable-dear}
 use Rattle.states.proofs.SoundLaws.{judged-unusable, judged-entered}
-use borrow.Author.Needs.{needs}
 use Rattle.states.proofs.usable.judge_by_planning.Statement.{statement}
 use Rattle.states.proofs.usable.judge_by_planning.Tie as tie
 

@@ -1,14 +1,15 @@
-use Rattle.instance.specs.Instance.{cell}
-use Rattle.states.proofs.TreeLaws.{tail-below, own-weight, own-most}
-use Rattle.states.proofs.JudgeLaws.{unusable-root, detour-offer}
-use Rattle.states.proofs.SoundLaws.{head-none, head-unusable, head-more}
-use native.Mathlib.Omega.{arith}
+-- The arcs from the tails that were passed are judged. Assumes nothing.
 use mathlib.Core.Path.{_≡_}
 use mathlib.Core.List.{[]}
 use Prim.Native.Nat.{_-_, _≤_, _<_}
+use native.Mathlib.Omega.{arith}
 use lib.ListN.{getD}
+use Rattle.instance.specs.Instance.{cell}
 use Rattle.states.specs.Fields.{fields}
 use Rattle.states.specs.Judge.{Judged-head}
+use Rattle.states.proofs.TreeLaws.{tail-below, own-weight, own-most}
+use Rattle.states.proofs.JudgeLaws.{unusable-root, detour-offer}
+use Rattle.states.proofs.SoundLaws.{head-none, head-unusable, head-more}
 use Rattle.states.proofs.usable.judge_head.Statement.{statement}
 use Rattle.states.proofs.usable.judge_head.Tie as tie
 

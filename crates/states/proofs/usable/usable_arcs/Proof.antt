@@ -1,8 +1,9 @@
-use lib.ListN.{replicate, take}
-use native.Mathlib.Omega.{arith}
+-- The tree is entered, and the arcs into the heads that were passed are judged. Assumes nothing.
 use mathlib.Core.Path.{_≡_, refl}
 use mathlib.Core.List.{[]}
 use Prim.Native.Nat.{_-_, _≤_}
+use native.Mathlib.Omega.{arith}
+use lib.ListN.{replicate, take}
 use Rattle.states.specs.Fields.{fields}
 use Rattle.states.specs.Judge.{Judged-all}
 use Rattle.states.proofs.TreeLaws.{tree-rooted}
