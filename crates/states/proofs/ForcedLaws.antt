@@ -109,10 +109,10 @@ module _ (n root : ℕ) (m w : List ℕ) (t₀ h₀ : ℕ) (ok : Matrix-ok n roo
       let g = f .at (cell t h) (omega arith) in
       default w (cell t h) no-arc 0 (omega arith) ∙ (rw (d, e, lt-ltb t n l, default m (cell t h) 0 no-arc (omega arith)) at g)
 
-  kept : (a b : Bool) (x : ℕ) → not (eqb (cond (a && not b) no-arc x) no-arc) ≡ not (eqb x no-arc) && (not a || b)
-  kept true true x = sym (and-true (not (eqb x no-arc)))
-  kept true false x = sym (and-false-right (not (eqb x no-arc)) false refl)
-  kept false b x = sym (and-true (not (eqb x no-arc)))
+  still-there : (a b : Bool) (x : ℕ) → not (eqb (cond (a && not b) no-arc x) no-arc) ≡ not (eqb x no-arc) && (not a || b)
+  still-there true true x = sym (and-true (not (eqb x no-arc)))
+  still-there true false x = sym (and-false-right (not (eqb x no-arc)) false refl)
+  still-there false b x = sym (and-true (not (eqb x no-arc)))
 
   remains : (t h : ℕ) → remaining left t h ≡ remaining (restricted whole (forced t₀ h₀)) t h
   unfolding unmarked is-arc forced
@@ -121,7 +121,7 @@ module _ (n root : ℕ) (m w : List ℕ) (t₀ h₀ : ℕ) (ok : Matrix-ok n roo
       ∙ ⊎-elim
       (λ (c : can-be-arc n root t h ≡ true).
       let e = ends n root t h c in
-      rw (c, weight-forced t h (e .tail-below) (e .head-below)) (kept (eqb h h₀) (eqb t t₀) (weight whole t h)) ∙ back c)
+      rw (c, weight-forced t h (e .tail-below) (e .head-below)) (still-there (eqb h h₀) (eqb t t₀) (weight whole t h)) ∙ back c)
       (λ (c : can-be-arc n root t h ≡ false). rw c (none c))
       (test (can-be-arc n root t h))
     where

@@ -14,7 +14,7 @@ use Rattle.instance.specs.Instance.{Instance, weight-at, mark-at, can-be-arc, i
 use Rattle.instance.specs.Arborescence.{remaining}
 use Rattle.instance.specs.Matrix.{matrix, matrix-where}
 use Rattle.theory.proofs.ArborescenceLaws.{ends}
-use Rattle.states.specs.Pins.{Pins, lets}
+use Rattle.states.specs.Pins.{Pins, allows}
 use Rattle.states.proofs.CellLaws.{cell-of}
 use Rattle.states.proofs.PinLaws.{pins-weight}
 
@@ -29,7 +29,7 @@ matrix-cells s = refl
 -- a cell judged by its mark and the pins into its head
 module _ (s : Instance) (i p : ℕ) where
   abbrev judged : ℕ
-  judged = cond (can-be-arc (s .n) (s .root) (i / 32) (i % 32) && (not (eqb (mark-at s i) banned) && lets p (i / 32))) (getD (s .weights) i 0) no-arc
+  judged = cond (can-be-arc (s .n) (s .root) (i / 32) (i % 32) && (not (eqb (mark-at s i) banned) && allows p (i / 32))) (getD (s .weights) i 0) no-arc
 
   empty : can-be-arc (s .n) (s .root) (i / 32) (i % 32) ≡ false → judged ≡ matrix-cell s i
   unfolding remaining is-arc

@@ -1,4 +1,4 @@
--- What is kept while the arcs of a matrix are judged one after the other: a table that says 1 of usable arcs alone, and of every
+-- What is maintained while the arcs of a matrix are judged one after the other: a table that says 1 of usable arcs alone, and of every
 -- usable arc that has been judged. Assumes nothing: these are definitions.
 use mathlib.Core.Path.{_≡_}
 use mathlib.Core.Bool.{Bool, true, false, _&&_, not, cond}
@@ -46,8 +46,8 @@ pub record Fitting-plan (n root : ℕ) (m reduced parents : List ℕ) (v b : ℕ
   pub within : v ≤ b
   pub most : b ≤ max-budget
 
--- an arborescence that uses the arc, at its weight, d and the rest; "no arc" as d says that none is known
-pub record Offer (s : Instance) (t h rest d : ℕ) : Type 0 where
+-- An upper bound on the least total with the arc: its weight, d and the rest. "No arc" as d says that none is known.
+pub record Upper-bound (s : Instance) (t h rest d : ℕ) : Type 0 where
   pub tree : remaining s t h ≡ true → d < no-arc
       → (qs : List ℕ) × (is-arborescence s qs ≡ true) × (uses qs t h ≡ true) × (total s qs ≤ rest + weight s t h + d)
 
@@ -56,16 +56,20 @@ pub record Sound (s : Instance) (used : List ℕ) : Type 0 where
   pub size : length used ≡ cells
   pub right : (t h : ℕ) → t < max-vertices → h < max-vertices → is-used used t h ≡ true → usable s t h ≡ true
 
+-- a table loses nothing
+abbrev pub Grows : (before after : List ℕ) → Type 0
+Grows us vs = (t h : ℕ) → t < max-vertices → h < max-vertices → is-used us t h ≡ true → is-used vs t h ≡ true
+
 -- one arc is judged: the table stays sound, loses nothing, and has the arc if it is usable
 pub record Judged (s : Instance) (t h : ℕ) (before after : List ℕ) : Type 0 where
   pub sound : Sound s after
-  pub kept : (u v : ℕ) → u < max-vertices → v < max-vertices → is-used before u v ≡ true → is-used after u v ≡ true
+  pub grown : Grows before after
   pub done : usable s t h ≡ true → is-used after t h ≡ true
 
 -- the arcs into a head are judged, of tails below a bound
 pub record Judged-head (s : Instance) (bound h : ℕ) (before after : List ℕ) : Type 0 where
   pub sound : Sound s after
-  pub kept : (u v : ℕ) → u < max-vertices → v < max-vertices → is-used before u v ≡ true → is-used after u v ≡ true
+  pub grown : Grows before after
   pub done : (t : ℕ) → t < bound → usable s t h ≡ true → is-used after t h ≡ true
 
 -- all arcs into the heads below a bound are judged

@@ -12,13 +12,13 @@ use Rattle.instance.specs.Instance.{Instance}
 use Rattle.instance.specs.Arborescence.{is-pinned}
 
 -- the pins let an arc from this tail remain
-unfoldable pub lets : (pin tail : ℕ) → Bool
-lets p t = eqb p 32 || eqb p t
+unfoldable pub allows : (pin tail : ℕ) → Bool
+allows p t = eqb p 32 || eqb p t
 
 -- of the tails below a bound
 pub record Pins (s : Instance) (head bound pin : ℕ) : Type 0 where
-  pub where-from : (pin < bound) ⊎ (32 ≤ pin)
-  pub say : (t : ℕ) → t < 32 → any-below bound (λ g. not (eqb g t) && is-pinned s g head) ≡ not (lets pin t)
+  pub range : (pin < bound) ⊎ (32 ≤ pin)
+  pub others : (t : ℕ) → t < 32 → any-below bound (λ g. not (eqb g t) && is-pinned s g head) ≡ not (allows pin t)
 
 pub record Pin-table (s : Instance) (bound : ℕ) (table : List ℕ) : Type 0 where
   pub at : (h : ℕ) → h < bound → Pins s h (s .n) (getD table h 0)

@@ -27,7 +27,7 @@ fn force_arc(w: &mut [u32; 1024], n: u32, tail: u32, head: u32)
     }
 }
 
-// A cheapest arborescence that uses the arc; the cuts are not kept.
+// A cheapest arborescence that uses the arc. Nobody needs its cuts.
 pub fn plan_with(m: &[u32; 1024], n: u32, root: u32, tail: u32, head: u32) -> Planned
     requires { ⌜ Matrix-ok n root (now m) × (remaining (unmarked n root (now m)) tail head ≡ true) ⌝ }
     ensures { λ r. ⌜ Forced-plan n root (now (m .entry)) tail head (r .found) (r .parents) ⌝ }

@@ -12,7 +12,7 @@ ghost use Rattle.instance.specs.Matrix.{unmarked};
 ghost use Rattle.states.specs.Fields.{fields};
 ghost use Rattle.states.specs.Tree.{Matrix-ok};
 ghost use Rattle.states.specs.Table.{Usable-table};
-ghost use Rattle.states.specs.Judge.{Reduced, Fitting-plan, Offer, Sound, Judged, Judged-head};
+ghost use Rattle.states.specs.Judge.{Reduced, Fitting-plan, Upper-bound, Sound, Judged, Judged-head};
 use super::exchange::detours;
 use super::forced::plan_with;
 use super::tree::enter_tree;
@@ -59,7 +59,7 @@ fn judge_arc(
     head: u32,
     used: &mut [u8; 1024],
 )
-    requires { ⌜ Matrix-ok n root (now m) × Reduced n root (now m) (now reduced) total × (rest ≤ total) × (total ≤ max-budget) × (tail < n) × (head < n) × (head ≢ root) × Offer (unmarked n root (now m)) tail head rest detour × Sound (fields n root budget (now m) []) (now used) ⌝ }
+    requires { ⌜ Matrix-ok n root (now m) × Reduced n root (now m) (now reduced) total × (rest ≤ total) × (total ≤ max-budget) × (tail < n) × (head < n) × (head ≢ root) × Upper-bound (unmarked n root (now m)) tail head rest detour × Sound (fields n root budget (now m) []) (now used) ⌝ }
     ensures { λ _. ⌜ Judged (fields n root budget (now (m .entry)) []) tail head (now (used .entry)) (now (used .exit)) ⌝ }
 {
     let i = (32 * tail + head) as usize;

@@ -1,4 +1,4 @@
--- The pin stands for the pinned tails that were passed. Assumes nothing.
+-- The pin sums up the pinned tails that were passed. Assumes nothing.
 use mathlib.Core.Path.{_≡_, sym, _∙_}
 use mathlib.Core.Logic.{⊎-elim}
 use Prim.Native.Nat.{_<_, _-_, _≤_}

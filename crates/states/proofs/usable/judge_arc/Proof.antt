@@ -10,7 +10,7 @@ use borrow.Author.Needs.{needs}
 use Rattle.instance.specs.Instance.{cell, weight}
 use Rattle.instance.specs.Arborescence.{remaining}
 use Rattle.instance.specs.Matrix.{unmarked}
-use Rattle.states.proofs.JudgeLaws.{weight-on, weight-most, present, reduced-most, usable-offer, unusable-loop, unusable-absent, unusable-reduced}
+use Rattle.states.proofs.JudgeLaws.{weight-on, weight-most, present, reduced-most, usable-bound, unusable-loop, unusable-absent, unusable-reduced}
 use Rattle.states.proofs.SoundLaws.{judged-already, judged-unusable, judged-usable}
 use Rattle.states.proofs.usable.judge_arc.Statement.{statement}
 use Rattle.states.proofs.usable.judge_arc.Tie as tie
@@ -140,7 +140,7 @@ returns-5 c =
     let same = k .same in
     let within = c .if6 .taken in
     judged-usable _ (a .used .now) (b .pre .8) (a .tail) (a .head) (omega arith) (omega arith)
-    (usable-offer (a .n) (a .root) (a .budget) (a .m .now) (a .tail) (a .head) (a .rest) (a .detour) (b .pre .7) (k .arc) (c .before .if5 .taken) (omega arith))
+    (usable-bound (a .n) (a .root) (a .budget) (a .m .now) (a .tail) (a .head) (a .rest) (a .detour) (b .pre .7) (k .arc) (c .before .if5 .taken) (omega arith))
 
 judge-by-planning-requires : tie.Need-judge-by-planning-requires
 judge-by-planning-requires c κs =

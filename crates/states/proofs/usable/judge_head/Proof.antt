@@ -8,7 +8,7 @@ use Rattle.instance.specs.Instance.{cell}
 use Rattle.states.specs.Fields.{fields}
 use Rattle.states.specs.Judge.{Judged-head}
 use Rattle.states.proofs.TreeLaws.{tail-below, own-weight, own-most}
-use Rattle.states.proofs.JudgeLaws.{unusable-root, detour-offer}
+use Rattle.states.proofs.JudgeLaws.{unusable-root, detour-bound}
 use Rattle.states.proofs.SoundLaws.{head-none, head-unusable, head-more}
 use Rattle.states.proofs.usable.judge_head.Statement.{statement}
 use Rattle.states.proofs.usable.judge_head.Tie as tie
@@ -105,7 +105,7 @@ judge-arc-requires c κs =
       omega arith,
       b .pre .1,
       d .before .if1 .left,
-      detour-offer _ _ (l .t) (a .head) _ _ (d .detours .ensures .at (l .t) (omega arith)) (omega arith),
+      detour-bound _ _ (l .t) (a .head) _ _ (d .detours .ensures .at (l .t) (omega arith)) (omega arith),
       l .inv .1 .sound,
     )
 
