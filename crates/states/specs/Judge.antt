@@ -3,6 +3,7 @@
 use mathlib.Core.Path.{_≡_}
 use mathlib.Core.Bool.{Bool, true, false, _&&_, not, cond}
 use mathlib.Core.List.{List}
+use mathlib.Core.Logic.{_≢_}
 use Prim.Native.Nat.{ℕ, _+_, _/_, _%_, _≤_, _<_}
 use lib.Dec.{ltb, eqb}
 use lib.ListN.{length, getD, take}
@@ -12,7 +13,7 @@ use Rattle.instance.specs.Arborescence.{remaining, is-arborescence, total, uses
 use Rattle.instance.specs.Cuts.{Cut, values, Feasible, reduced-cost}
 use Rattle.instance.specs.Matrix.{unmarked}
 use Rattle.theory.specs.Usable.{usable}
-use Rattle.states.specs.Tree.{Matrix-tree}
+use Rattle.states.specs.Tree.{Matrix-ok, Matrix-tree}
 use Rattle.states.specs.Table.{is-used}
 
 -- ONE ARC FORCED: the cells of the other arcs into its head, of tails below a bound
@@ -50,6 +51,17 @@ pub record Fitting-plan (n root : ℕ) (m reduced parents : List ℕ) (v b : ℕ
 pub record Upper-bound (s : Instance) (t h rest d : ℕ) : Type 0 where
   pub tree : remaining s t h ≡ true → d < no-arc
       → (qs : List ℕ) × (is-arborescence s qs ≡ true) × (uses qs t h ≡ true) × (total s qs ≤ rest + weight s t h + d)
+
+-- an arc to be judged: of a cheapest arborescence of total v
+pub record Candidate (n root : ℕ) (m reduced : List ℕ) (v rest d t h : ℕ) : Type 0 where
+  pub matrix-ok : Matrix-ok n root m
+  pub costs : Reduced n root m reduced v
+  pub rest-most : rest ≤ v
+  pub most : v ≤ max-budget
+  pub tail-below : t < n
+  pub head-below : h < n
+  pub not-root : h ≢ root
+  pub bound : Upper-bound (unmarked n root m) t h rest d
 
 -- JUDGING
 pub record Sound (s : Instance) (used : List ℕ) : Type 0 where

@@ -31,14 +31,14 @@ returns : tie.Need-returns
 returns c =
     let b = c .before .before in
     let a = b .args in
-    judged-already _ (a .used .now) (b .pre .8) (a .tail) (a .head) (eq-eqb _ _ (c .if1 .taken))
+    judged-already _ (a .used .now) (b .pre .1) (a .tail) (a .head) (eq-eqb _ _ (c .if1 .taken))
 
 returns-2 : tie.Need-returns-2
 returns-2 c =
     let b = c .before .before .before in
     let a = b .args in
-    judged-unusable _ (a .used .now) (b .pre .8) (a .tail) (a .head)
-    (unusable-loop (a .n) (a .root) (a .budget) (a .m .now) (a .tail) (a .head) (b .pre .5) (b .pre .6) (c .if2 .taken))
+    judged-unusable _ (a .used .now) (b .pre .1) (a .tail) (a .head)
+    (unusable-loop (a .n) (a .root) (a .budget) (a .m .now) (a .tail) (a .head) (b .pre .0 .head-below) (b .pre .0 .not-root) (c .if2 .taken))
 
 mul-weight : tie.Need-mul-weight
 mul-weight c = search needs
@@ -50,8 +50,9 @@ returns-3 : tie.Need-returns-3
 returns-3 c =
     let b = c .before .before .before .before .before in
     let a = b .args in
-    judged-unusable _ (a .used .now) (b .pre .8) (a .tail) (a .head)
-    (unusable-absent (a .n) (a .root) (a .budget) (a .m .now) (a .tail) (a .head) (b .pre .5) (b .pre .6) (sym (weight-on (a .n) (a .root) (a .m .now) (b .pre .0) (a .tail) (a .head) (b .pre .4) (b .pre .5)) ∙ c .if3 .taken))
+    let p = b .pre .0 in
+    judged-unusable _ (a .used .now) (b .pre .1) (a .tail) (a .head)
+    (unusable-absent (a .n) (a .root) (a .budget) (a .m .now) (a .tail) (a .head) (p .head-below) (p .not-root) (sym (weight-on (a .n) (a .root) (a .m .now) (p .matrix-ok) (a .tail) (a .head) (p .tail-below) (p .head-below)) ∙ c .if3 .taken))
 
 mul-least : tie.Need-mul-least
 mul-least c = search needs
@@ -75,13 +76,14 @@ known : (c : tie.Else3)
 known c =
     let b = c .before .before .before .before .before in
     let a = b .args in
-    let arc = present (a .n) (a .root) (a .m .now) (b .pre .0) (a .tail) (a .head) (b .pre .4) (b .pre .5) (c .before .before .if2 .left) (b .pre .6) (c .if3 .left) in
-    let most = weight-most (a .n) (a .root) (a .m .now) (b .pre .0) (a .tail) (a .head) (b .pre .4) (b .pre .5) in
-    let lower = reduced-most (a .n) (a .root) (a .total) (a .m .now) (a .reduced .now) (a .tail) (a .head) (b .pre .1) arc in
+    let p = b .pre .0 in
+    let arc = present (a .n) (a .root) (a .m .now) (p .matrix-ok) (a .tail) (a .head) (p .tail-below) (p .head-below) (c .before .before .if2 .left) (p .not-root) (c .if3 .left) in
+    let most = weight-most (a .n) (a .root) (a .m .now) (p .matrix-ok) (a .tail) (a .head) (p .tail-below) (p .head-below) in
+    let lower = reduced-most (a .n) (a .root) (a .total) (a .m .now) (a .reduced .now) (a .tail) (a .head) (p .costs) arc in
     record {
-      small = b .pre .0 .small;
+      small = p .matrix-ok .small;
       arc = arc;
-      same = weight-on (a .n) (a .root) (a .m .now) (b .pre .0) (a .tail) (a .head) (b .pre .4) (b .pre .5);
+      same = weight-on (a .n) (a .root) (a .m .now) (p .matrix-ok) (a .tail) (a .head) (p .tail-below) (p .head-below);
       most = most;
       lower = omega arith;
     }
@@ -89,42 +91,27 @@ known c =
 add-least : tie.Need-add-least
 add-least c =
     let k = known (c .before) in
-    let b = c .before .before .before .before .before .before in
-    let most = b .pre .3 in
+    let most = c .before .before .before .before .before .before .pre .0 .most in
     let lower = k .lower in
-    let weight = k .most in
     omega arith
 
 returns-4 : tie.Need-returns-4
 returns-4 c =
     let b = c .before .before .before .before .before .before .before in
     let a = b .args in
-    judged-unusable _ (a .used .now) (b .pre .8) (a .tail) (a .head)
-    (unusable-reduced (a .n) (a .root) (a .budget) (a .m .now) (a .tail) (a .head) (a .reduced .now) (a .total) (b .pre .1) (known (c .before .before) .arc) (c .if4 .taken))
+    judged-unusable _ (a .used .now) (b .pre .1) (a .tail) (a .head)
+    (unusable-reduced (a .n) (a .root) (a .budget) (a .m .now) (a .tail) (a .head) (a .reduced .now) (a .total) (b .pre .0 .costs) (known (c .before .before) .arc) (c .if4 .taken))
 
-add-if6 : tie.Need-add-if6
-add-if6 c =
-    let k = known (c .before .before .before) in
-    let b = c .before .before .before .before .before .before .before .before in
-    let rest = b .pre .2 in
-    let total = b .pre .3 in
+exchange-fits-requires : tie.Need-exchange-fits-requires
+exchange-fits-requires c κs =
+    let k = known (c .before .before) in
+    let p = c .before .before .before .before .before .before .before .pre .0 in
+    let rest = p .rest-most in
+    let total = p .most in
     let weight = k .most in
     let same = k .same in
-    let detour = c .if5 .taken in
     let lower = k .lower in
-    omega arith
-
-add-if6-2 : tie.Need-add-if6-2
-add-if6-2 c =
-    let k = known (c .before .before .before) in
-    let b = c .before .before .before .before .before .before .before .before in
-    let rest = b .pre .2 in
-    let total = b .pre .3 in
-    let weight = k .most in
-    let same = k .same in
-    let detour = c .if5 .taken in
-    let lower = k .lower in
-    omega arith
+    (omega arith, omega arith)
 
 element-write-used : tie.Need-element-write-used
 element-write-used c = search needs
@@ -133,19 +120,21 @@ returns-5 : tie.Need-returns-5
 returns-5 c =
     let b = c .before .before .before .before .before .before .before .before .before in
     let a = b .args in
+    let p = b .pre .0 in
     let k = known (c .before .before .before .before) in
     let l = k .small in
-    let tail = b .pre .4 in
-    let in-head = b .pre .5 in
+    let tail = p .tail-below in
+    let in-head = p .head-below in
     let same = k .same in
-    let within = c .if6 .taken in
-    judged-usable _ (a .used .now) (b .pre .8) (a .tail) (a .head) (omega arith) (omega arith)
-    (usable-bound (a .n) (a .root) (a .budget) (a .m .now) (a .tail) (a .head) (a .rest) (a .detour) (b .pre .7) (k .arc) (c .before .if5 .taken) (omega arith))
+    let fits = c .before .exchange-fits .ensures (c .if5 .taken) in
+    let within = fits .1 in
+    judged-usable _ (a .used .now) (b .pre .1) (a .tail) (a .head) (omega arith) (omega arith)
+    (usable-bound (a .n) (a .root) (a .budget) (a .m .now) (a .tail) (a .head) (a .rest) (a .detour) (p .bound) (k .arc) (fits .0) (omega arith))
 
 judge-by-planning-requires : tie.Need-judge-by-planning-requires
 judge-by-planning-requires c κs =
-    let b = c .before .before .before .before .before .before .before .before .before in
-    (b .pre .0, known (c .before .before .before .before) .arc, b .pre .8)
+    let b = c .before .before .before .before .before .before .before .before .before .before in
+    (b .pre .0 .matrix-ok, known (c .before .before .before .before .before) .arc, b .pre .1)
 
 returns-6 : tie.Need-returns-6
 returns-6 c = search needs
@@ -167,8 +156,7 @@ judge-arc-spec =
     element-copy-out-least
     add-least
     returns-4
-    add-if6
-    add-if6-2
+    exchange-fits-requires
     element-write-used
     returns-5
     judge-by-planning-requires

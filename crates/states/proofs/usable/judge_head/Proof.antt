@@ -98,14 +98,16 @@ judge-arc-requires c κs =
     let v = plan .is-total in
     let within = plan .within in
     let most = plan .most in (
-      k .matrix-ok,
-      plan .costs,
-      omega arith,
-      omega arith,
-      omega arith,
-      b .pre .1,
-      d .before .if1 .left,
-      detour-bound _ _ (l .t) (a .head) _ _ (d .detours .ensures .at (l .t) (omega arith)) (omega arith),
+      record {
+        matrix-ok = k .matrix-ok;
+        costs = plan .costs;
+        rest-most = omega arith;
+        most = omega arith;
+        tail-below = omega arith;
+        head-below = b .pre .1;
+        not-root = d .before .if1 .left;
+        bound = detour-bound _ _ (l .t) (a .head) _ _ (d .detours .ensures .at (l .t) (omega arith)) (omega arith);
+      },
       l .inv .1 .sound,
     )
 
