@@ -1,14 +1,14 @@
 -- What a program reads at a cell, and what it is in an instance. Assumes nothing.
-use mathlib.Core.Path.{_≡_, refl, sym, ap, _∙_}
-use mathlib.Core.Bool.{Bool, true, false, _&&_, not, cond}
+use mathlib.Core.Path.{_≡_, refl}
+use mathlib.Core.Bool.{true, false}
 use mathlib.Core.List.{List}
-use Prim.Native.Nat.{ℕ, zero, suc, _+_, _*_, _/_, _%_, _≤_, _<_}
+use Prim.Native.Nat.{ℕ, zero, suc, _*_, _/_, _%_, _≤_, _<_}
 use native.Mathlib.Omega.{arith}
 use native.Mathlib.Nat.{mul-le-mul, div-lt-iff-lt-mul, mod-lt, zero-mul}
 use lib.Dec.{eqb}
 use lib.ListN.{length, getD}
 use borrow.Author.Tests.{eq-eqb, ne-eqb}
-use Rattle.base.proofs.Tests.{and-false-left, and-false-right}
+use Rattle.base.proofs.Tests.{and-false-right}
 use Rattle.base.proofs.ListLaws.{default}
 use Rattle.instance.specs.Limits.{no-arc, pinned, cells}
 use Rattle.instance.specs.Instance.{Instance, cell, can-be-arc, is-arc, weight, mark}

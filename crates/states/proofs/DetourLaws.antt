@@ -1,6 +1,6 @@
 -- The least weights that the search for an exchange keeps, and the exchange that they stand for. Assumes nothing.
-use mathlib.Core.Path.{_≡_, refl, sym, ap, _∙_}
-use mathlib.Core.Bool.{Bool, true, false, not}
+use mathlib.Core.Path.{_≡_}
+use mathlib.Core.Bool.{true}
 use mathlib.Core.List.{List}
 use mathlib.Core.Logic.{_≢_}
 use Prim.Native.Nat.{ℕ, _+_, _-_, _≤_, _<_}
@@ -8,18 +8,18 @@ use native.Mathlib.Omega.{arith}
 use lib.ListN.{length, getD, set, take}
 use borrow.Author.Tests.{eq-eqb, ne-eqb}
 use Rattle.base.proofs.ListLaws.{default}
-use Rattle.contraction.proofs.Unmarked.{arc-remaining}
 use Rattle.instance.specs.Limits.{no-arc}
 use Rattle.instance.specs.Instance.{Instance, cell, weight}
-use Rattle.instance.specs.Arborescence.{remaining, parent, is-arborescence, total, uses}
+use Rattle.instance.specs.Arborescence.{remaining, parent, uses}
 use Rattle.instance.specs.Matrix.{unmarked}
+use Rattle.contraction.proofs.Unmarked.{arc-remaining}
+use Rattle.states.specs.Walks.{Rooted, Below, Avoids, Way, start, onward}
+use Rattle.states.specs.Tree.{Matrix-tree}
+use Rattle.states.specs.Exchange.{Detour, Below-flag, Below-table, Least-outside, Increase, Increases, Path-least, Detours}
 use Rattle.states.proofs.Filling.{filled-none, filled-more}
 use Rattle.states.proofs.WalkLaws.{below-avoids, way-below, root-avoids}
 use Rattle.states.proofs.ExchangeLaws.{exchange, exchange-total, exchange-uses, exchange-two, exchange-two-total, exchange-two-uses}
 use Rattle.states.proofs.TreeLaws.{tree-rooted}
-use Rattle.states.specs.Walks.{Rooted, Below, Avoids, Way, start, onward}
-use Rattle.states.specs.Tree.{Matrix-ok, Matrix-tree}
-use Rattle.states.specs.Exchange.{Exchange, Detour, Below-says, Below-table, Least-outside, Increase, Increases, Path-least, Detours}
 
 module _ (m below : List ℕ) (k : ℕ) where
   pub outside-none : Least-outside 0 m below k no-arc
@@ -49,10 +49,10 @@ module _ (m below : List ℕ) (k : ℕ) where
 
 module _ (ps : List ℕ) (h : ℕ) where
   pub below-none : (table : List ℕ) → Below-table ps h 0 table
-  below-none table = record { at = filled-none (Below-says ps h) table }
+  below-none table = record { at = filled-none (Below-flag ps h) table }
 
-  pub below-more : (table : List ℕ) (v b : ℕ) → v < length table → Below-table ps h v table → Below-says ps h v b → Below-table ps h (v + 1) (set table v b)
-  below-more table v b l i q = record { at = filled-more (Below-says ps h) table v b l (i .at) q }
+  pub below-more : (table : List ℕ) (v b : ℕ) → v < length table → Below-table ps h v table → Below-flag ps h v b → Below-table ps h (v + 1) (set table v b)
+  below-more table v b l i q = record { at = filled-more (Below-flag ps h) table v b l (i .at) q }
 
 module _ (ps table : List ℕ) (h t : ℕ) where
   pub path-none : Path-least ps table h t no-arc
@@ -93,7 +93,7 @@ module _ (n root : ℕ) (m ps : List ℕ) (k : Matrix-tree n root m ps) (h t : �
       }
 
   module _ (inside : h < n) (no-root : h ≢ root) (t-inside : t < n) (below : List ℕ) (b : Below-table tree h n below) (under : Below tree h t) where
-    -- the arc that the increase at a vertex on the way stands for
+    -- the arc behind the increase at a vertex on the way
     record Step (v d : ℕ) : Type 0 where
       tail : ℕ
       out : Avoids tree h tail

@@ -1,20 +1,19 @@
 -- Exchanging arcs of an arborescence. A vertex h can take any parent t that is not below it; and where t is below it, after some
 -- vertex on the way from t to h has taken a parent that is not below h. Assumes nothing.
-use mathlib.Core.Path.{_≡_, refl, sym, ap, _∙_, subst}
-use mathlib.Core.Bool.{Bool, true, false, _&&_, cond}
+use mathlib.Core.Path.{_≡_, refl, sym, ap, _∙_}
+use mathlib.Core.Bool.{true, false, cond}
 use mathlib.Core.List.{List}
 use mathlib.Core.Logic.{⊎-elim, _≢_}
 use Prim.Native.Nat.{ℕ, zero, suc, _+_, _≤_, _<_}
 use native.Mathlib.Omega.{arith}
 use native.Mathlib.Decide.{ℕ-discrete}
 use lib.Dec.{eqb}
-use lib.ListN.{length, getD, set, length-set}
-use borrow.Author.Tests.{eqb-true, eqb-false, eq-eqb, ne-eqb}
+use lib.ListN.{length, set, length-set}
+use borrow.Author.Tests.{eqb-true, eq-eqb}
 use Rattle.base.specs.Bounded.{sum-below}
 use Rattle.base.proofs.Tests.{test, not-both}
-use Rattle.instance.specs.Limits.{no-parent}
 use Rattle.instance.specs.Instance.{Instance, weight}
-use Rattle.instance.specs.Arborescence.{remaining, parent, reaches, is-arborescence, total, uses}
+use Rattle.instance.specs.Arborescence.{remaining, parent, reaches, is-arborescence, total}
 use Rattle.theory.proofs.ArborescenceLaws.{remaining-ends, parents-size, root-parent, joined, make-arborescence}
 use Rattle.contraction.proofs.Steps.{enough}
 use Rattle.states.specs.Walks.{Rooted, Below, Avoids, Way, start, onward}

@@ -4,14 +4,14 @@ use mathlib.Core.Path.{_≡_, refl, sym, ap, _∙_}
 use mathlib.Core.Bool.{Bool, true, false, _&&_, _||_, not, cond, and-true, true≢false}
 use mathlib.Core.List.{List}
 use mathlib.Core.Logic.{_↔_, _≢_, ⊎-elim}
-use Prim.Native.Nat.{ℕ, _+_, _*_, _/_, _%_, _≤_, _<_}
+use Prim.Native.Nat.{ℕ, _+_, _/_, _%_, _≤_, _<_}
 use native.Mathlib.Omega.{arith}
 use native.Mathlib.Decide.{ℕ-discrete}
 use lib.Dec.{ltb, eqb}
 use lib.ListN.{length, getD, set, take, length-set}
 use lib.Seq.{getD-set-same, getD-set-other}
-use borrow.Author.Tests.{ltb-true, ltb-false, lt-ltb, le-ltb, eq-eqb, ne-eqb, not-true}
-use Rattle.base.proofs.Tests.{test, is-false, and-left, and-right, and-false-left, and-false-right}
+use borrow.Author.Tests.{lt-ltb, le-ltb, eq-eqb, ne-eqb}
+use Rattle.base.proofs.Tests.{test, is-false, and-left, and-right, and-false-right}
 use Rattle.base.proofs.ListLaws.{default}
 use Rattle.instance.specs.Limits.{no-arc, cells}
 use Rattle.instance.specs.Instance.{Instance, cell, can-be-arc, is-arc, weight}
@@ -25,9 +25,9 @@ use Rattle.theory.proofs.SameArcs.{Same-arcs, same-back, same-arborescence, sam
 use Rattle.theory.proofs.Restriction.{unmarked-remaining, restricted-remaining, restricted-same-weight, restricted-total}
 use Rattle.theory.proofs.Forced.{forced-arborescence}
 use Rattle.edmonds.specs.Planned.{Planned-matrix}
-use Rattle.states.proofs.Filling.{ltb-more}
-use Rattle.states.specs.Tree.{Matrix-ok, Matrix-tree}
+use Rattle.states.specs.Tree.{Matrix-ok}
 use Rattle.states.specs.Judge.{taken-out, Forced-matrix, Forced-plan}
+use Rattle.states.proofs.Filling.{ltb-more}
 
 stays-in : (a b : Bool) → not a || b ≡ true → a && not b ≡ false
 stays-in true true e = refl
@@ -109,10 +109,10 @@ module _ (n root : ℕ) (m w : List ℕ) (t₀ h₀ : ℕ) (ok : Matrix-ok n roo
       let g = f .at (cell t h) (omega arith) in
       default w (cell t h) no-arc 0 (omega arith) ∙ (rw (d, e, lt-ltb t n l, default m (cell t h) 0 no-arc (omega arith)) at g)
 
-  kept : (a b : Bool) (x : ℕ) → not (eqb (cond (a && not b) no-arc x) no-arc) ≡ not (eqb x no-arc) && (not a || b)
-  kept true true x = sym (and-true (not (eqb x no-arc)))
-  kept true false x = sym (and-false-right (not (eqb x no-arc)) false refl)
-  kept false b x = sym (and-true (not (eqb x no-arc)))
+  still-there : (a b : Bool) (x : ℕ) → not (eqb (cond (a && not b) no-arc x) no-arc) ≡ not (eqb x no-arc) && (not a || b)
+  still-there true true x = sym (and-true (not (eqb x no-arc)))
+  still-there true false x = sym (and-false-right (not (eqb x no-arc)) false refl)
+  still-there false b x = sym (and-true (not (eqb x no-arc)))
 
   remains : (t h : ℕ) → remaining left t h ≡ remaining (restricted whole (forced t₀ h₀)) t h
   unfolding unmarked is-arc forced
@@ -121,7 +121,7 @@ module _ (n root : ℕ) (m w : List ℕ) (t₀ h₀ : ℕ) (ok : Matrix-ok n roo
       ∙ ⊎-elim
       (λ (c : can-be-arc n root t h ≡ true).
       let e = ends n root t h c in
-      rw (c, weight-forced t h (e .tail-below) (e .head-below)) (kept (eqb h h₀) (eqb t t₀) (weight whole t h)) ∙ back c)
+      rw (c, weight-forced t h (e .tail-below) (e .head-below)) (still-there (eqb h h₀) (eqb t t₀) (weight whole t h)) ∙ back c)
       (λ (c : can-be-arc n root t h ≡ false). rw c (none c))
       (test (can-be-arc n root t h))
     where

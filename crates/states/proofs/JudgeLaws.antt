@@ -1,5 +1,5 @@
 -- Why an arc of a matrix is usable or not. Assumes nothing.
-use mathlib.Core.Path.{_≡_, refl, _∙_}
+use mathlib.Core.Path.{_≡_, _∙_}
 use mathlib.Core.Bool.{Bool, true, false}
 use mathlib.Core.List.{List, []}
 use mathlib.Core.Logic.{_≢_}
@@ -25,7 +25,7 @@ use Rattle.contraction.proofs.Unmarked.{arc-remaining}
 use Rattle.states.specs.Fields.{fields}
 use Rattle.states.specs.Tree.{Matrix-ok}
 use Rattle.states.specs.Exchange.{Detour}
-use Rattle.states.specs.Judge.{Forced-plan, Reduced, Offer}
+use Rattle.states.specs.Judge.{Forced-plan, Reduced, Upper-bound}
 use Rattle.states.proofs.CellLaws.{weight-read}
 use Rattle.states.proofs.LevelLaws.{level-same, level-remaining, level-arborescence, level-total}
 
@@ -51,8 +51,8 @@ unfolding reduced-cost
 reduced-most n root v m reduced t h k r = let e = k .costs t h r in omega arith
 
 -- what an exchange of arcs offers, where rest is the total without the arc into the head
-pub detour-offer : (s : Instance) (ps : List ℕ) (t h rest d : ℕ) → Detour s ps h t d → rest + weight s (parent ps h) h ≡ total s ps → Offer s t h rest d
-detour-offer s ps t h rest d k e =
+pub detour-bound : (s : Instance) (ps : List ℕ) (t h rest d : ℕ) → Detour s ps h t d → rest + weight s (parent ps h) h ≡ total s ps → Upper-bound s t h rest d
+detour-bound s ps t h rest d k e =
     record { tree = λ r l. let x = k .exchange r l in let c = x .cost in (x .made, x .found, x .used, omega arith) }
 
 module _ (n root b : ℕ) (m : List ℕ) where
@@ -72,8 +72,8 @@ module _ (n root b : ℕ) (m : List ℕ) where
     usable-tree ps a l u = usable-some s t h .1 (ps, fits-tree ps a l, u)
 
     -- by an exchange of arcs
-    pub usable-offer : (rest d : ℕ) → Offer on t h rest d → remaining on t h ≡ true → d < no-arc → rest + weight on t h + d ≤ b → usable s t h ≡ true
-    usable-offer rest d k r l most =
+    pub usable-bound : (rest d : ℕ) → Upper-bound on t h rest d → remaining on t h ≡ true → d < no-arc → rest + weight on t h + d ≤ b → usable s t h ≡ true
+    usable-bound rest d k r l most =
         let x = k .tree r l in
         let c = x .3 in
         usable-tree (x .0) (x .1) (omega arith) (x .2)

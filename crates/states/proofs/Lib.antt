@@ -1,4 +1,4 @@
--- Laws. Assumes nothing.
+-- Laws of matrices, trees, exchanges and tables, and what makes an arc usable. Assumes nothing.
 pub mod Filling
 pub mod CellLaws
 pub mod PinLaws
@@ -13,3 +13,4 @@ pub mod ForcedLaws
 pub mod JudgeLaws
 pub mod SoundLaws
 pub mod ShowLaws
+pub mod PlanLaws

@@ -1,22 +1,20 @@
 -- The cells of the matrix of an instance. Assumes nothing.
-use mathlib.Core.Path.{_≡_, refl, sym, ap, _∙_, subst}
-use mathlib.Core.Bool.{Bool, true, false, _&&_, not, cond}
-use mathlib.Core.List.{List}
+use mathlib.Core.Path.{_≡_, refl, sym}
+use mathlib.Core.Bool.{true, false, _&&_, not, cond}
 use mathlib.Core.Logic.{⊎-elim}
-use Prim.Native.Nat.{ℕ, _+_, _*_, _/_, _%_, _≤_, _<_}
+use Prim.Native.Nat.{ℕ, _/_, _%_, _<_}
 use native.Mathlib.Omega.{arith}
-use lib.Dec.{ltb, eqb}
+use lib.Dec.{eqb}
 use lib.ListN.{length, getD}
-use borrow.Author.Tests.{ltb-true}
 use Rattle.base.specs.Lists.{tabulate}
-use Rattle.base.proofs.Tests.{test, not-both, and-false-left, and-not}
+use Rattle.base.proofs.Tests.{test}
 use Rattle.base.proofs.ListLaws.{default}
 use Rattle.instance.specs.Limits.{no-arc, banned, cells}
 use Rattle.instance.specs.Instance.{Instance, weight-at, mark-at, can-be-arc, is-arc, weight, mark}
 use Rattle.instance.specs.Arborescence.{remaining}
 use Rattle.instance.specs.Matrix.{matrix, matrix-where}
-use Rattle.theory.proofs.ArborescenceLaws.{ends, remaining-ends}
-use Rattle.states.specs.Pins.{Pins, lets}
+use Rattle.theory.proofs.ArborescenceLaws.{ends}
+use Rattle.states.specs.Pins.{Pins, allows}
 use Rattle.states.proofs.CellLaws.{cell-of}
 use Rattle.states.proofs.PinLaws.{pins-weight}
 
@@ -31,7 +29,7 @@ matrix-cells s = refl
 -- a cell judged by its mark and the pins into its head
 module _ (s : Instance) (i p : ℕ) where
   abbrev judged : ℕ
-  judged = cond (can-be-arc (s .n) (s .root) (i / 32) (i % 32) && (not (eqb (mark-at s i) banned) && lets p (i / 32))) (getD (s .weights) i 0) no-arc
+  judged = cond (can-be-arc (s .n) (s .root) (i / 32) (i % 32) && (not (eqb (mark-at s i) banned) && allows p (i / 32))) (getD (s .weights) i 0) no-arc
 
   empty : can-be-arc (s .n) (s .root) (i / 32) (i % 32) ≡ false → judged ≡ matrix-cell s i
   unfolding remaining is-arc

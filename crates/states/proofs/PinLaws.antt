@@ -1,78 +1,77 @@
--- Laws of pins: one tail more, and what they say of the weight of a cell in the matrix. Assumes nothing.
-use mathlib.Core.Path.{_≡_, refl, sym, ap, _∙_}
+-- Laws of pins: one tail more, and what they make of the weight of a cell in the matrix. Assumes nothing.
+use mathlib.Core.Path.{_≡_, refl, sym, _∙_}
 use mathlib.Core.Bool.{Bool, true, false, _&&_, _||_, not, cond}
 use mathlib.Core.List.{List}
 use mathlib.Core.Logic.{_⊎_, inl, inr, ⊎-elim}
-use Prim.Native.Nat.{ℕ, zero, suc, _+_, _*_, _-_, _/_, _%_, _≤_, _<_}
+use Prim.Native.Nat.{ℕ, _+_, _-_, _≤_, _<_}
 use native.Mathlib.Omega.{arith}
 use native.Mathlib.Numerals.{add-one}
-use lib.Dec.{ltb, eqb}
-use lib.ListN.{length, getD, set}
-use borrow.Author.Tests.{eq-eqb, ne-eqb, eqb-true, eqb-false}
+use lib.Dec.{eqb}
+use lib.ListN.{length, set}
+use borrow.Author.Tests.{ne-eqb, eqb-true}
 use Rattle.base.specs.Bounded.{any-below}
-use Rattle.base.proofs.Tests.{test, and-false-right, or-right, or-left}
-use Rattle.base.proofs.ListLaws.{default}
+use Rattle.base.proofs.Tests.{and-false-right}
 use Rattle.instance.specs.Limits.{no-arc, banned}
-use Rattle.instance.specs.Instance.{Instance, can-be-arc, is-arc, weight, mark, weight-at, mark-at}
+use Rattle.instance.specs.Instance.{Instance, can-be-arc, is-arc, weight, mark}
 use Rattle.instance.specs.Arborescence.{is-pinned, other-pinned, remaining}
+use Rattle.states.specs.Pins.{Pins, Pin-table, allows}
 use Rattle.states.proofs.Filling.{filled-none, filled-more}
-use Rattle.states.specs.Pins.{Pins, Pin-table, lets}
 
-lets-none : (t : ℕ) → lets 32 t ≡ true
-unfolding lets
-lets-none t = refl
+allows-none : (t : ℕ) → allows 32 t ≡ true
+unfolding allows
+allows-none t = refl
 
--- a pin lets the arcs of another tail out, and so do several
-lets-out : (p t : ℕ) → (p ≡ 32 → ⊥) → (p ≡ t → ⊥) → lets p t ≡ false
-unfolding lets
-lets-out p t a b = rw (ne-eqb p 32 a, ne-eqb p t b)
+-- a pin allows the arcs of another tail out, and so do several
+allows-none-of : (p t : ℕ) → (p ≡ 32 → ⊥) → (p ≡ t → ⊥) → allows p t ≡ false
+unfolding allows
+allows-none-of p t a b = rw (ne-eqb p 32 a, ne-eqb p t b)
 
-lets-tail : (p t : ℕ) → (p ≡ 32 → ⊥) → lets p t ≡ eqb p t
-unfolding lets
-lets-tail p t a = rw (ne-eqb p 32 a)
+allows-tail : (p t : ℕ) → (p ≡ 32 → ⊥) → allows p t ≡ eqb p t
+unfolding allows
+allows-tail p t a = rw (ne-eqb p 32 a)
 
 -- ONE TAIL MORE
 module _ (s : Instance) (h : ℕ) where
-  abbrev others : (t g : ℕ) → Bool
-  others t g = not (eqb g t) && is-pinned s g h
+  abbrev rival : (t g : ℕ) → Bool
+  rival t g = not (eqb g t) && is-pinned s g h
 
   pub pins-none : Pins s h 0 32
   unfolding any-below
-  pins-none = record { where-from = inr (omega arith); say = λ t l. rw (lets-none t) refl }
+  pins-none = record { range = inr (omega arith); others = λ t l. rw (allows-none t) refl }
 
   pub pins-pass : (g p : ℕ) → is-pinned s g h ≡ false → Pins s h g p → Pins s h (g + 1) p
   unfolding any-below
   pins-pass g p e k =
       rw add-one
       (record {
-        where-from = ⊎-elim (λ (l : p < g). inl (omega arith)) (λ (l : 32 ≤ p). inr l) (k .where-from);
-        say = λ t l. rw (e, and-false-right (not (eqb g t)) false refl) (k .say t l);
+        range = ⊎-elim (λ (l : p < g). inl (omega arith)) (λ (l : 32 ≤ p). inr l) (k .range);
+        others = λ t l. rw (e, and-false-right (not (eqb g t)) false refl) (k .others t l);
       })
 
   pub pins-first : (g p : ℕ) → is-pinned s g h ≡ true → g < 32 → p ≡ 32 → Pins s h g p → Pins s h (g + 1) g
   unfolding any-below
-  pins-first g p e b q k = rw add-one (record { where-from = inl (omega arith); say = λ t l. at t (k .say t l) })
+  pins-first g p e b q k = rw add-one (record { range = inl (omega arith); others = λ t l. at t (k .others t l) })
     where
       only : (x : Bool) → (not x && true) || not true ≡ not x
       only true = refl
       only false = refl
 
-      at : (t : ℕ) → any-below g (others t) ≡ not (lets p t) → others t g || any-below g (others t) ≡ not (lets g t)
-      at t r = rw (e, r, q, lets-none t, lets-tail g t (λ z. omega arith)) (only (eqb g t))
+      at : (t : ℕ) → any-below g (rival t) ≡ not (allows p t) → rival t g || any-below g (rival t) ≡ not (allows g t)
+      at t r = rw (e, r, q, allows-none t, allows-tail g t (λ z. omega arith)) (only (eqb g t))
 
   pub pins-again : (g p : ℕ) → is-pinned s g h ≡ true → g < 32 → (p ≡ 32 → ⊥) → Pins s h g p → Pins s h (g + 1) 33
   unfolding any-below
-  pins-again g p e b q k = rw add-one (record { where-from = inr (omega arith); say = λ t l. at t l (k .say t l) })
+  pins-again g p e b q k = rw add-one (record { range = inr (omega arith); others = λ t l. at t l (k .others t l) })
     where
       apart : p ≡ g → ⊥
-      apart z = ⊎-elim (λ (l : p < g). omega arith) (λ (l : 32 ≤ p). omega arith) (k .where-from)
+      apart z = ⊎-elim (λ (l : p < g). omega arith) (λ (l : 32 ≤ p). omega arith) (k .range)
 
-      cases : (t : ℕ) (x : Bool) → eqb g t ≡ x → any-below g (others t) ≡ not (lets p t) → (not x && true) || any-below g (others t) ≡ true
-      cases t true z r = r ∙ rw (← eqb-true g t z, lets-out p g q apart)
+      cases : (t : ℕ) (x : Bool) → eqb g t ≡ x → any-below g (rival t) ≡ not (allows p t) → (not x && true) || any-below g (rival t) ≡ true
+      cases t true z r = r ∙ rw (← eqb-true g t z, allows-none-of p g q apart)
       cases t false z r = refl
 
-      at : (t : ℕ) → t < 32 → any-below g (others t) ≡ not (lets p t) → others t g || any-below g (others t) ≡ not (lets 33 t)
-      at t l r = rw (e, lets-out 33 t (λ z. omega arith) (λ z. omega arith)) (cases t (eqb g t) refl r)
+      at : (t : ℕ) → t < 32 → any-below g (rival t) ≡ not (allows p t) → rival t g || any-below g (rival t) ≡ not (allows 33 t)
+      at t l r = rw (e, allows-none-of 33 t (λ z. omega arith) (λ z. omega arith)) (cases t (eqb g t) refl r)
 
 -- THE WEIGHT OF A CELL
 -- a cell without an arc holds "no arc" whatever is said of it
@@ -90,10 +89,10 @@ judged true x y w = at (eqb w no-arc) refl x y
 
 pub pins-weight : (s : Instance) (t h p : ℕ) → t < 32 → Pins s h (s .n) p
     → cond (remaining s t h && true) (weight s t h) no-arc
-    ≡ cond (can-be-arc (s .n) (s .root) t h && (not (eqb (mark s t h) banned) && lets p t)) (weight s t h) no-arc
+    ≡ cond (can-be-arc (s .n) (s .root) t h && (not (eqb (mark s t h) banned) && allows p t)) (weight s t h) no-arc
 unfolding remaining is-arc other-pinned
 pins-weight s t h p l k =
-    rw (k .say t l) (judged (can-be-arc (s .n) (s .root) t h) (not (eqb (mark s t h) banned)) (lets p t) (weight s t h))
+    rw (k .others t l) (judged (can-be-arc (s .n) (s .root) t h) (not (eqb (mark s t h) banned)) (allows p t) (weight s t h))
 
 -- THE TABLE
 module _ (s : Instance) where

@@ -1,20 +1,20 @@
 -- The states that are written are the states of the marked instance, where the table says which arcs are usable in its matrix. A table
 -- with nothing in it says so where no arborescence fits. Assumes nothing.
 use mathlib.Core.Path.{_≡_, refl, sym, ap, _∙_}
-use mathlib.Core.Bool.{Bool, true, false, _&&_, _||_, not, cond}
+use mathlib.Core.Bool.{Bool, true, false, _&&_, not}
 use mathlib.Core.List.{List, []}
-use Prim.Native.Nat.{ℕ, zero, suc, _+_, _*_, _/_, _%_, _≤_, _<_}
+use Prim.Native.Nat.{ℕ, zero, suc, _*_, _/_, _%_, _≤_, _<_}
 use native.Mathlib.Omega.{arith}
 use lib.Dec.{eqb}
-use lib.ListN.{length, getD, replicate, getD-replicate}
+use lib.ListN.{length, replicate, getD-replicate}
 use Rattle.base.specs.Bounded.{any-below}
 use Rattle.base.specs.Lists.{tabulate}
 use Rattle.base.proofs.ListLaws.{tabulate-is, length-tabulate, getD-tabulate}
-use Rattle.instance.specs.Limits.{no-arc, cells}
-use Rattle.instance.specs.Instance.{Instance, cell, is-arc, can-be-arc, weight}
+use Rattle.instance.specs.Limits.{cells}
+use Rattle.instance.specs.Instance.{Instance, cell, is-arc}
 use Rattle.instance.specs.Cuts.{Cut, values, Feasible, No-entry}
 use Rattle.instance.specs.Matrix.{unmarked, matrix}
-use Rattle.instance.specs.States.{fits, state-over, state, states, fitting}
+use Rattle.instance.specs.States.{fits, state, states}
 use Rattle.theory.specs.Usable.{usable}
 use Rattle.theory.proofs.StateLaws.{fits-arborescence, fits-total}
 use Rattle.theory.proofs.Duality.{weak-duality, no-entry}

@@ -1,17 +1,17 @@
 -- What judging an arc makes of the table: it stays sound and loses nothing. Assumes nothing.
-use mathlib.Core.Path.{_≡_, refl, sym, ap, _∙_}
-use mathlib.Core.Bool.{Bool, true, false, _&&_, not, cond}
+use mathlib.Core.Path.{_≡_, _∙_}
+use mathlib.Core.Bool.{true, false, _&&_, not, cond}
 use mathlib.Core.List.{List}
 use mathlib.Core.Logic.{_≢_, ⊎-elim}
-use Prim.Native.Nat.{ℕ, _+_, _*_, _/_, _%_, _≤_, _<_}
+use Prim.Native.Nat.{ℕ, _+_, _/_, _%_, _≤_, _<_}
 use native.Mathlib.Omega.{arith}
 use native.Mathlib.Decide.{ℕ-discrete}
 use lib.Dec.{ltb, eqb}
-use lib.ListN.{length, getD, set, replicate, length-set, length-replicate, getD-replicate}
+use lib.ListN.{getD, set, replicate, length-set, length-replicate, getD-replicate}
 use lib.Seq.{getD-set-same, getD-set-other}
-use borrow.Author.Tests.{eqb-true, eq-eqb, ne-eqb, lt-ltb}
+use borrow.Author.Tests.{ne-eqb, lt-ltb}
 use Rattle.base.proofs.Tests.{test, not-both, same-test, and-right}
-use Rattle.instance.specs.Limits.{max-vertices, cells}
+use Rattle.instance.specs.Limits.{cells}
 use Rattle.instance.specs.Instance.{Instance, cell}
 use Rattle.instance.specs.Arborescence.{uses}
 use Rattle.theory.specs.Usable.{usable}
@@ -29,17 +29,17 @@ module _ (s : Instance) where
   -- NOTHING TO STORE
   module _ (used : List ℕ) (k : Sound s used) (t h : ℕ) where
     pub judged-already : is-used used t h ≡ true → Judged s t h used used
-    judged-already e = record { sound = k; kept = λ u v l m x. x; done = λ _. e }
+    judged-already e = record { sound = k; grown = λ u v l m x. x; done = λ _. e }
 
     pub judged-unusable : usable s t h ≡ false → Judged s t h used used
-    judged-unusable e = record { sound = k; kept = λ u v l m x. x; done = λ x. absurd (not-both (usable s t h) x e) }
+    judged-unusable e = record { sound = k; grown = λ u v l m x. x; done = λ x. absurd (not-both (usable s t h) x e) }
 
     -- ONE ARC STORED
     pub judged-usable : t < 32 → h < 32 → usable s t h ≡ true → Judged s t h used (set used (cell t h) 1)
     judged-usable l m e =
         record {
           sound = record { size = simp length-set (k .size); right = λ u v a b x. right u v a b x (ℕ-discrete (cell u v) (cell t h)) };
-          kept = λ u v a b x. keep u v x (ℕ-discrete (cell u v) (cell t h));
+          grown = λ u v a b x. keep u v x (ℕ-discrete (cell u v) (cell t h));
           done = λ _. here;
         }
       where
@@ -89,24 +89,24 @@ module _ (s : Instance) where
 
       pub judged-entered : (t h : ℕ) → t < 32 → h < 32 → h < n → h ≢ root → uses ps t h ≡ true → Judged s t h before after
       judged-entered t h l m a z u =
-          record { sound = sound-entered; kept = keep; done = λ _. rw (cell-entered t h l m, tree-in t h a z u) }
+          record { sound = sound-entered; grown = keep; done = λ _. rw (cell-entered t h l m, tree-in t h a z u) }
 
   -- ONE AFTER THE OTHER
   module _ (h : ℕ) where
     pub head-none : (used : List ℕ) → Sound s used → Judged-head s 0 h used used
-    head-none used k = record { sound = k; kept = λ u v l m x. x; done = λ t l. absurd (omega arith) }
+    head-none used k = record { sound = k; grown = λ u v l m x. x; done = λ t l. absurd (omega arith) }
 
     pub head-unusable : (bound : ℕ) (used : List ℕ) → Sound s used → ((t : ℕ) → t < bound → usable s t h ≡ false) → Judged-head s bound h used used
-    head-unusable bound used k e = record { sound = k; kept = λ u v l m x. x; done = λ t l x. absurd (not-both (usable s t h) x (e t l)) }
+    head-unusable bound used k e = record { sound = k; grown = λ u v l m x. x; done = λ t l x. absurd (not-both (usable s t h) x (e t l)) }
 
     pub head-more : (t : ℕ) (before mid after : List ℕ) → t < 32 → h < 32 → s .n ≤ 32 → t < s .n → Judged-head s t h before mid → Judged s t h mid after
         → Judged-head s (t + 1) h before after
     head-more t before mid after l m small b j k =
-        record { sound = k .sound; kept = λ u v a c x. k .kept u v a c (j .kept u v a c x); done = λ g c x. at g c x (ℕ-discrete g t) }
+        record { sound = k .sound; grown = λ u v a c x. k .grown u v a c (j .grown u v a c x); done = λ g c x. at g c x (ℕ-discrete g t) }
       where
         at : (g : ℕ) → g < t + 1 → usable s g h ≡ true → Dec (g ≡ t) → is-used after g h ≡ true
         at g c x (yes z) = rw z (k .done (rw z at x))
-        at g c x (no z) = k .kept g h (omega arith) m (j .done g (omega arith) x)
+        at g c x (no z) = k .grown g h (omega arith) m (j .done g (omega arith) x)
 
   pub all-none : (used : List ℕ) → Sound s used → Judged-all s 0 used
   all-none used k = record { sound = k; done = λ t h l m. absurd (omega arith) }
@@ -116,7 +116,7 @@ module _ (s : Instance) where
     where
       at : (t g : ℕ) → t < s .n → g < h + 1 → usable s t g ≡ true → Dec (g ≡ h) → is-used after t g ≡ true
       at t g l c x (yes z) = rw z (k .done t l (rw z at x))
-      at t g l c x (no z) = k .kept t g (omega arith) (omega arith) (j .done t g l (omega arith) x)
+      at t g l c x (no z) = k .grown t g (omega arith) (omega arith) (j .done t g l (omega arith) x)
 
   -- ALL JUDGED
   pub all-judged : (used : List ℕ) → s .n ≤ 32 → Judged-all s (s .n) used → Usable-table s used

@@ -3,23 +3,23 @@ use mathlib.Core.Path.{_≡_, refl, sym, ap, _∙_}
 use mathlib.Core.Bool.{Bool, true, false, _&&_, not, cond}
 use mathlib.Core.List.{List}
 use mathlib.Core.Logic.{⊎-elim, _≢_}
-use Prim.Native.Nat.{ℕ, zero, suc, _+_, _*_, _/_, _%_, _≤_, _<_}
+use Prim.Native.Nat.{ℕ, _+_, _/_, _%_, _≤_, _<_}
 use native.Mathlib.Omega.{arith}
 use native.Mathlib.Decide.{ℕ-discrete}
 use native.Mathlib.Numerals.{add-one}
 use lib.Dec.{ltb, eqb}
 use lib.ListN.{length, getD, set, length-set}
 use lib.Seq.{getD-set-same, getD-set-other}
-use borrow.Author.Tests.{lt-ltb, le-ltb, eqb-true, eqb-false, eq-eqb, ne-eqb, not-true}
+use borrow.Author.Tests.{lt-ltb, le-ltb, eqb-true, eq-eqb, ne-eqb, not-true}
 use Rattle.base.specs.Bounded.{any-below, sum-below}
 use Rattle.base.proofs.Tests.{test, not-both, and-left, and-right, and-both, and-false-right}
 use Rattle.base.proofs.BoundedLaws.{any-found, any-intro}
 use Rattle.instance.specs.Limits.{no-arc, cells}
 use Rattle.instance.specs.Instance.{cell, can-be-arc}
 use Rattle.instance.specs.Arborescence.{parent, uses}
+use Rattle.theory.proofs.ArborescenceLaws.{ends}
 use Rattle.contraction.specs.Counting.{count-below}
 use Rattle.contraction.proofs.CountingLaws.{count-more, count-one, sum-one}
-use Rattle.theory.proofs.ArborescenceLaws.{ends}
 use Rattle.states.specs.Table.{is-used, in-tree, Entered, Counts, state-by}
 use Rattle.states.proofs.Filling.{ltb-more, filled-none, filled-more}
 

@@ -1,9 +1,9 @@
 -- What a program reads of an arborescence on a matrix. Assumes nothing.
-use mathlib.Core.Path.{_≡_, refl, sym, ap, _∙_}
-use mathlib.Core.Bool.{Bool, true, false, cond}
+use mathlib.Core.Path.{_≡_, refl, sym, _∙_}
+use mathlib.Core.Bool.{cond}
 use mathlib.Core.List.{List}
 use mathlib.Core.Logic.{_≢_}
-use Prim.Native.Nat.{ℕ, suc, _+_, _*_, _≤_, _<_}
+use Prim.Native.Nat.{ℕ, _+_, _≤_, _<_}
 use native.Mathlib.Omega.{arith}
 use native.Mathlib.Numerals.{add-one}
 use lib.Dec.{eqb}
@@ -13,11 +13,11 @@ use borrow.Author.Tests.{eq-eqb, ne-eqb}
 use Rattle.base.specs.Bounded.{sum-below}
 use Rattle.base.proofs.BoundedLaws.{sum-room, sum-zero}
 use Rattle.base.proofs.ListLaws.{default}
-use Rattle.instance.specs.Limits.{no-arc, no-parent, cells}
-use Rattle.instance.specs.Instance.{Instance, cell, weight}
-use Rattle.instance.specs.Arborescence.{parent, is-arborescence, total}
+use Rattle.instance.specs.Limits.{no-arc, no-parent}
+use Rattle.instance.specs.Instance.{cell, weight}
+use Rattle.instance.specs.Arborescence.{parent, total}
 use Rattle.instance.specs.Matrix.{unmarked}
-use Rattle.states.specs.Tree.{Matrix-ok, Matrix-tree}
+use Rattle.states.specs.Tree.{Matrix-tree}
 use Rattle.states.specs.Walks.{Rooted}
 use Rattle.states.proofs.WalkLaws.{depth, depth-falls}
 use Rattle.states.proofs.ExchangeLaws.{rooted}

@@ -1,17 +1,17 @@
 -- Laws of walks in a list of parents, and in one that differs from it at one vertex. Assumes nothing.
-use mathlib.Core.Path.{_≡_, refl, sym, ap, _∙_}
-use mathlib.Core.Bool.{Bool, true, false, _||_, cond}
+use mathlib.Core.Path.{_≡_, refl, sym, _∙_}
+use mathlib.Core.Bool.{true, false, _||_, cond}
 use mathlib.Core.List.{List}
 use mathlib.Core.Logic.{⊎-elim, _≢_}
 use Prim.Native.Nat.{ℕ, zero, suc, _+_, _≤_, _<_}
 use native.Mathlib.Omega.{arith}
 use native.Mathlib.Decide.{ℕ-discrete}
 use lib.Dec.{eqb}
-use lib.ListN.{length, getD, set, List·getD-eq-default}
+use lib.ListN.{length, set, List·getD-eq-default}
 use lib.Seq.{getD-set-same, getD-set-other}
 use borrow.Author.Tests.{eqb-true, eqb-false, eq-eqb, ne-eqb}
 use Rattle.base.specs.Bounded.{sum-below}
-use Rattle.base.proofs.Tests.{test, not-both, or-false-left, or-false-right, or-cases, or-left, or-right}
+use Rattle.base.proofs.Tests.{test, not-both, or-false-right, or-cases, or-left, or-right}
 use Rattle.instance.specs.Limits.{no-parent}
 use Rattle.instance.specs.Arborescence.{parent, reaches}
 use Rattle.states.specs.Walks.{Rooted, Below, Avoids, Way, start, onward}

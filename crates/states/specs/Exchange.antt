@@ -1,6 +1,6 @@
 -- What exchanging one or two arcs of an arborescence costs. Assumes nothing: these are definitions.
 use mathlib.Core.Path.{_≡_}
-use mathlib.Core.Bool.{Bool, true, false}
+use mathlib.Core.Bool.{true}
 use mathlib.Core.List.{List}
 use mathlib.Core.Logic.{_≢_}
 use Prim.Native.Nat.{ℕ, _+_, _≤_, _<_}
@@ -22,12 +22,12 @@ pub record Detour (s : Instance) (parents : List ℕ) (h t d : ℕ) : Type 0 whe
   pub exchange : remaining s t h ≡ true → d < no-arc → Exchange s parents t h d
 
 -- 1 where the vertex is below h
-pub record Below-says (parents : List ℕ) (h v answer : ℕ) : Type 0 where
+pub record Below-flag (parents : List ℕ) (h v answer : ℕ) : Type 0 where
   pub under : answer ≡ 1 → Below parents h v
   pub apart : answer ≢ 1 → Avoids parents h v
 
 pub record Below-table (parents : List ℕ) (h bound : ℕ) (below : List ℕ) : Type 0 where
-  pub at : (v : ℕ) → v < bound → Below-says parents h v (getD below v 0)
+  pub at : (v : ℕ) → v < bound → Below-flag parents h v (getD below v 0)
 
 -- the least weight into k from a tail that is not marked as below
 pub record Least-outside (bound : ℕ) (m below : List ℕ) (k least : ℕ) : Type 0 where

@@ -1,7 +1,7 @@
 -- The pins into a head, summed up in one number: 32 for none, the tail of the only one, 33 for several. Assumes nothing: these are
 -- definitions.
 use mathlib.Core.Path.{_≡_}
-use mathlib.Core.Bool.{Bool, true, false, _&&_, _||_, not}
+use mathlib.Core.Bool.{Bool, _&&_, _||_, not}
 use mathlib.Core.List.{List}
 use mathlib.Core.Logic.{_⊎_}
 use Prim.Native.Nat.{ℕ, _<_, _≤_}
@@ -12,13 +12,13 @@ use Rattle.instance.specs.Instance.{Instance}
 use Rattle.instance.specs.Arborescence.{is-pinned}
 
 -- the pins let an arc from this tail remain
-unfoldable pub lets : (pin tail : ℕ) → Bool
-lets p t = eqb p 32 || eqb p t
+unfoldable pub allows : (pin tail : ℕ) → Bool
+allows p t = eqb p 32 || eqb p t
 
 -- of the tails below a bound
 pub record Pins (s : Instance) (head bound pin : ℕ) : Type 0 where
-  pub where-from : (pin < bound) ⊎ (32 ≤ pin)
-  pub say : (t : ℕ) → t < 32 → any-below bound (λ g. not (eqb g t) && is-pinned s g head) ≡ not (lets pin t)
+  pub range : (pin < bound) ⊎ (32 ≤ pin)
+  pub others : (t : ℕ) → t < 32 → any-below bound (λ g. not (eqb g t) && is-pinned s g head) ≡ not (allows pin t)
 
 pub record Pin-table (s : Instance) (bound : ℕ) (table : List ℕ) : Type 0 where
   pub at : (h : ℕ) → h < bound → Pins s h (s .n) (getD table h 0)

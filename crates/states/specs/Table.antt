@@ -1,6 +1,6 @@
 -- Tables of arcs: 1 at the cell of an arc that is used, another number elsewhere. Assumes nothing: these are definitions.
 use mathlib.Core.Path.{_≡_}
-use mathlib.Core.Bool.{Bool, true, false, _&&_, not, cond}
+use mathlib.Core.Bool.{Bool, _&&_, not, cond}
 use mathlib.Core.List.{List}
 use Prim.Native.Nat.{ℕ, _/_, _%_, _<_}
 use lib.Dec.{ltb, eqb}
@@ -9,8 +9,8 @@ use Rattle.base.specs.Bounded.{any-below}
 use Rattle.instance.specs.Limits.{no-arc, cells}
 use Rattle.instance.specs.Instance.{Instance, cell, can-be-arc}
 use Rattle.instance.specs.Arborescence.{uses}
-use Rattle.contraction.specs.Counting.{count-below}
 use Rattle.theory.specs.Usable.{usable}
+use Rattle.contraction.specs.Counting.{count-below}
 
 abbrev pub is-used : (used : List ℕ) → (tail head : ℕ) → Bool
 is-used us t h = eqb (getD us (cell t h) 0) 1

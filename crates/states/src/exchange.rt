@@ -7,14 +7,14 @@ ghost use lib.ListN.{length, take};
 ghost use Rattle.instance.specs.Matrix.{unmarked};
 ghost use Rattle.states.specs.Tree.{Matrix-tree};
 ghost use Rattle.states.specs.Walks.{Rooted, Below};
-ghost use Rattle.states.specs.Exchange.{Below-says, Below-table, Least-outside, Increase, Increases, Path-least, Detour, Detours};
+ghost use Rattle.states.specs.Exchange.{Below-flag, Below-table, Least-outside, Increase, Increases, Path-least, Detour, Detours};
 
 const NO_ARC: u32 = 1048575;
 
 // 1 where the vertex is below the head in the tree, as the head is itself.
 fn below(parents: &[u8; 32], n: u32, root: u32, head: u32, vertex: u32) -> u8
     requires { ⌜ (n ≤ 32) × (length (now parents) ≡ 32) × Rooted n root (take n (now parents)) × (head < n) × (head ≢ root) × (vertex < n) ⌝ }
-    ensures { λ r. ⌜ Below-says (take n (now (parents .entry))) head vertex r ⌝ }
+    ensures { λ r. ⌜ Below-flag (take n (now (parents .entry))) head vertex r ⌝ }
 {
     let mut v = vertex;
     while v != root {

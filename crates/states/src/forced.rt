@@ -13,11 +13,11 @@ use instance::Vertex;
 
 const NO_ARC: u32 = 1048575;
 
-fn forced_matrix(m: &[u32; 1024], n: u32, tail: u32, head: u32) -> [u32; 1024]
-    requires { ⌜ (n ≤ 32) × (head < 32) × (length (now m) ≡ 1024) ⌝ }
-    ensures { λ r. ⌜ Forced-matrix n tail head (now (m .entry)) r ⌝ }
+// Takes the other arcs into the head out of the matrix.
+fn force_arc(w: &mut [u32; 1024], n: u32, tail: u32, head: u32)
+    requires { ⌜ (n ≤ 32) × (head < 32) × (length (now w) ≡ 1024) ⌝ }
+    ensures { λ _. ⌜ Forced-matrix n tail head (now (w .entry)) (now (w .exit)) ⌝ }
 {
-    let mut w = *m;
     let mut g: u32 = 0;
     while g < n {
         if g != tail {
@@ -25,15 +25,15 @@ fn forced_matrix(m: &[u32; 1024], n: u32, tail: u32, head: u32) -> [u32; 1024]
         }
         g += 1;
     }
-    w
 }
 
-// A cheapest arborescence that uses the arc; the cuts are not kept.
+// A cheapest arborescence that uses the arc. Nobody needs its cuts.
 pub fn plan_with(m: &[u32; 1024], n: u32, root: u32, tail: u32, head: u32) -> Planned
     requires { ⌜ Matrix-ok n root (now m) × (remaining (unmarked n root (now m)) tail head ≡ true) ⌝ }
     ensures { λ r. ⌜ Forced-plan n root (now (m .entry)) tail head (r .found) (r .parents) ⌝ }
 {
-    let mut w = forced_matrix(m, n, tail, head);
+    let mut w = *m;
+    force_arc(&mut w, n, tail, head);
     let mut cuts = [0u32; 122];
     edmonds::plan_matrix(&mut w, n as usize, Vertex(root), &mut cuts)
 }

@@ -9,7 +9,7 @@ ghost use Rattle.instance.specs.Instance.{can-be-arc};
 ghost use Rattle.instance.specs.Arborescence.{is-pinned as pinned-arc};
 ghost use Rattle.instance.specs.Matrix.{matrix};
 ghost use Rattle.states.specs.Fields.{fields};
-ghost use Rattle.states.specs.Pins.{Pins, Pin-table, lets};
+ghost use Rattle.states.specs.Pins.{Pins, Pin-table, allows};
 
 const NO_ARC: u32 = 1048575;
 
@@ -84,7 +84,7 @@ fn pin_table<'a>(weights: &'a [u32; 1024], marks: &'a [u8; 1024], n: u32, root: 
 
 // The weight of a cell whose arc remains, by its mark and the pins into its head.
 fn remaining_weight(weight: u32, mark: u8, pin: u32, n: u32, root: u32, tail: u32, head: u32) -> u32
-    ensures { λ r. ⌜ r ≡ cond (can-be-arc n root tail head && (not (eqb mark banned) && lets pin tail)) weight no-arc ⌝ }
+    ensures { λ r. ⌜ r ≡ cond (can-be-arc n root tail head && (not (eqb mark banned) && allows pin tail)) weight no-arc ⌝ }
 {
     if !instance::can_be_arc(n, root, tail, head) {
         return NO_ARC;

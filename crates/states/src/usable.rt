@@ -3,16 +3,14 @@
 ghost use mathlib.Core.Path.{_≡_};
 ghost use mathlib.Core.Bool.{true};
 ghost use mathlib.Core.List.{[]};
-ghost use mathlib.Core.Logic.{_≢_};
-ghost use Prim.Native.Nat.{_≤_, _<_};
-ghost use lib.ListN.{length};
-ghost use Rattle.instance.specs.Limits.{max-budget};
+ghost use Prim.Native.Nat.{_+_, _*_, _≤_, _<_};
+ghost use Rattle.instance.specs.Limits.{no-arc, max-budget};
 ghost use Rattle.instance.specs.Arborescence.{remaining};
 ghost use Rattle.instance.specs.Matrix.{unmarked};
 ghost use Rattle.states.specs.Fields.{fields};
 ghost use Rattle.states.specs.Tree.{Matrix-ok};
 ghost use Rattle.states.specs.Table.{Usable-table};
-ghost use Rattle.states.specs.Judge.{Reduced, Fitting-plan, Offer, Sound, Judged, Judged-head};
+ghost use Rattle.states.specs.Judge.{Fitting-plan, Candidate, Sound, Judged, Judged-head};
 use super::exchange::detours;
 use super::forced::plan_with;
 use super::tree::enter_tree;
@@ -45,7 +43,18 @@ fn judge_by_planning(
     enter_tree(&parents, n, root, used);
 }
 
-// One arc. A tree that uses it costs its weight, the detour and the rest, if there is a detour.
+// Whether a tree with the arc, its detour and the rest is within budget, if there is a detour.
+fn exchange_fits(rest: u32, weight: u32, detour: u32, budget: u32) -> bool
+    requires { ⌜ (rest ≤ 2 * max-budget) × (weight ≤ no-arc) ⌝ }
+    ensures { λ r. ⌜ (r ≡ true → (detour < no-arc) × (rest + weight + detour ≤ budget)) ⌝ }
+{
+    if NO_ARC <= detour {
+        return false;
+    }
+    rest + weight + detour <= budget
+}
+
+// One arc.
 fn judge_arc(
     m: &[u32; 1024],
     reduced: &[u32; 1024],
@@ -59,7 +68,7 @@ fn judge_arc(
     head: u32,
     used: &mut [u8; 1024],
 )
-    requires { ⌜ Matrix-ok n root (now m) × Reduced n root (now m) (now reduced) total × (rest ≤ total) × (total ≤ max-budget) × (tail < n) × (head < n) × (head ≢ root) × Offer (unmarked n root (now m)) tail head rest detour × Sound (fields n root budget (now m) []) (now used) ⌝ }
+    requires { ⌜ Candidate n root (now m) (now reduced) total rest detour tail head × Sound (fields n root budget (now m) []) (now used) ⌝ }
     ensures { λ _. ⌜ Judged (fields n root budget (now (m .entry)) []) tail head (now (used .entry)) (now (used .exit)) ⌝ }
 {
     let i = (32 * tail + head) as usize;
@@ -73,14 +82,13 @@ fn judge_arc(
     if weight == NO_ARC {
         return;
     }
-    if budget < total + reduced[i] {
+    let least = total + reduced[i];
+    if budget < least {
         return;
     }
-    if detour < NO_ARC {
-        if rest + weight + detour <= budget {
-            used[i] = 1;
-            return;
-        }
+    if exchange_fits(rest, weight, detour, budget) {
+        used[i] = 1;
+        return;
     }
     judge_by_planning(m, n, root, budget, tail, head, used);
 }

@@ -1,14 +1,13 @@
-use Rattle.states.proofs.TreeLaws.{parent-read, rooted-tail, step-falls}
+-- The walk goes on as long as neither the head nor the root is met; a parent is less deep. Assumes nothing.
+use mathlib.Core.Path.{_≡_, refl}
+use Prim.Native.Nat.{ℕ, _<_}
 use native.Mathlib.Omega.{arith}
-use mathlib.Core.Path.{_≡_, refl, sym, _∙_}
-use Prim.Native.Nat.{ℕ, _<_, _≤_}
-use lib.ListN.{getD, take}
+use lib.ListN.{take}
 use Rattle.states.specs.Walks.{Below, Avoids}
-use Rattle.states.proofs.WalkLaws.{depth, depth-falls, root-avoids, below-here, below-up, avoids-up}
+use Rattle.states.proofs.TreeLaws.{parent-read, rooted-tail, step-falls}
+use Rattle.states.proofs.WalkLaws.{depth, root-avoids, below-here, below-up, avoids-up}
 use Rattle.states.proofs.exchange.below.Statement.{statement}
 use Rattle.states.proofs.exchange.below.Tie as tie
-use Rattle.states.proofs.exchange.below.Reads as reads
-use Rattle.states.proofs.exchange.below.Lts as lts
 
 abbrev Inv-loop : tie.InvT-loop
 Inv-loop parents n root head vertex v₀ v =
@@ -17,37 +16,30 @@ Inv-loop parents n root head vertex v₀ v =
 abbrev μ-loop : tie.MeasureT-loop
 μ-loop parents n root head vertex v₀ v = depth n root (take n parents) v
 
--- src/exchange.rt:20:5
 loop-holds : tie.Need-loop-holds Inv-loop μ-loop
 loop-holds c = (c .pre .5, (λ b. b), (λ a. a))
 
--- src/exchange.rt:22:13
 returns : tie.Need-returns Inv-loop μ-loop
 returns c =
     let l = c .before .before .loop in
     record { under = λ _. l .inv .1 (below-here _ _ (l .v) (c .if1 .taken)); apart = λ e. absurd (e refl) }
 
--- src/exchange.rt:24:21
 cast-v : tie.Need-cast-v Inv-loop μ-loop
 cast-v c = omega arith
 
--- src/exchange.rt:24:13
 element-copy-out-v : tie.Need-element-copy-out-v Inv-loop μ-loop
 element-copy-out-v c = omega arith
 
--- src/exchange.rt:24:13
 cast-v-2 : tie.Need-cast-v-2 Inv-loop μ-loop
 cast-v-2 c =
     let b = c .before .before .before .before in
     omega (arith, rooted-tail (b .args .n) (b .args .root) (c .before .before .before .loop .v) (b .args .parents .now) (b .pre .0) (b .pre .1) (b .pre .2) (omega arith) (c .before .before .loop-test .taken))
 
--- src/exchange.rt:20:5
 loop-less : tie.Need-loop-less Inv-loop μ-loop
 loop-less c =
     let b = c .before .before .before .before in
     step-falls (b .args .n) (b .args .root) (c .before .before .before .loop .v) (b .args .parents .now) (b .pre .0) (b .pre .1) (b .pre .2) (omega arith) (c .before .before .loop-test .taken)
 
--- src/exchange.rt:20:5
 loop-again : tie.Need-loop-again Inv-loop μ-loop
 loop-again c =
     let b = c .before .before .before .before in
@@ -59,7 +51,6 @@ loop-again c =
       (λ x. l .inv .2 (avoids-up _ _ (l .v) (c .before .if1 .left) (rw (← p) x))),
     )
 
--- src/exchange.rt:15:1
 returns-2 : tie.Need-returns-2 Inv-loop μ-loop
 returns-2 c =
     let b = c .before .before in

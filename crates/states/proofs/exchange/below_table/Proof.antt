@@ -1,14 +1,12 @@
-use native.Mathlib.Omega.{arith}
+-- The table is right for the vertices that were passed. Assumes nothing.
 use mathlib.Core.Path.{_≡_, refl}
 use Prim.Native.Nat.{_-_, _≤_}
+use native.Mathlib.Omega.{arith}
 use lib.ListN.{length, length-set, take}
 use Rattle.states.specs.Exchange.{Below-table}
 use Rattle.states.proofs.DetourLaws.{below-none, below-more}
 use Rattle.states.proofs.exchange.below_table.Statement.{statement}
 use Rattle.states.proofs.exchange.below_table.Tie as tie
-use Rattle.states.proofs.exchange.below_table.Reads as reads
-use Rattle.states.proofs.exchange.below_table.Lts as lts
-use Rattle.states.proofs.exchange.below.Reads as below-reads
 
 abbrev Inv-loop : tie.InvT-loop
 Inv-loop parents n root head table₀ v₀ table v = (v ≤ n) × (length table ≡ 32) × Below-table (take n parents) head v table
@@ -16,37 +14,29 @@ Inv-loop parents n root head table₀ v₀ table v = (v ≤ n) × (length table 
 abbrev μ-loop : tie.MeasureT-loop
 μ-loop parents n root head table₀ v₀ table v = n - v
 
--- src/exchange.rt:35:5
 loop-holds : tie.Need-loop-holds Inv-loop μ-loop
 loop-holds c = (omega arith, refl, below-none _ _ _)
 
--- src/exchange.rt:36:29
 below-requires : tie.Need-below-requires Inv-loop μ-loop
 below-requires c κs = let p = c .before .before .pre in (p .0, p .1, p .2, p .3, p .4, omega arith)
 
--- src/exchange.rt:36:15
 cast-table : tie.Need-cast-table Inv-loop μ-loop
 cast-table c = omega arith
 
--- src/exchange.rt:36:9
 array-write-table : tie.Need-array-write-table Inv-loop μ-loop
 array-write-table c = omega arith
 
--- src/exchange.rt:37:9
 add-v : tie.Need-add-v Inv-loop μ-loop
 add-v c = omega arith
 
--- src/exchange.rt:35:5
 loop-less : tie.Need-loop-less Inv-loop μ-loop
 loop-less c = omega arith
 
--- src/exchange.rt:35:5
 loop-again : tie.Need-loop-again Inv-loop μ-loop
 loop-again c =
     let l = c .before .before .loop in
     (omega arith, simp length-set (l .inv .1), below-more _ _ (l .table) (l .v) (c .below .result) (omega arith) (l .inv .2) (c .below .ensures))
 
--- src/exchange.rt:29:1
 returns : tie.Need-returns Inv-loop μ-loop
 returns c = let e : c .before .loop .v ≡ c .before .before .args .n = omega arith in rw e at (c .before .loop .inv .2)
 

@@ -1,19 +1,15 @@
-use native.Mathlib.Omega.{arith}
+-- One arc is exchanged for a tail that is not below the head, two for the others. Assumes nothing.
 use mathlib.Core.Path.{_≡_, refl}
 use mathlib.Core.Logic.{⊎-elim}
-use Prim.Native.Nat.{_-_, _≤_, _<_}
-use lib.ListN.{length, length-set, take, getD}
+use Prim.Native.Nat.{_-_, _≤_}
+use native.Mathlib.Omega.{arith}
+use lib.ListN.{length, length-set, take}
 use Rattle.instance.specs.Matrix.{unmarked}
-use Rattle.states.specs.Exchange.{Detour, Detours}
+use Rattle.states.specs.Exchange.{Detours}
 use Rattle.states.proofs.TreeLaws.{tree-rooted}
 use Rattle.states.proofs.DetourLaws.{detour-one, detour-two, detours-none, detours-more}
 use Rattle.states.proofs.exchange.detours.Statement.{statement}
 use Rattle.states.proofs.exchange.detours.Tie as tie
-use Rattle.states.proofs.exchange.detours.Reads as reads
-use Rattle.states.proofs.exchange.detours.Lts as lts
-use Rattle.states.proofs.exchange.below_table.Reads as below-table-reads
-use Rattle.states.proofs.exchange.increases.Reads as increases-reads
-use Rattle.states.proofs.exchange.path_least.Reads as path-least-reads
 
 abbrev Inv-loop : tie.InvT-loop
 Inv-loop m parents n root head under added table₀ t₀ table t = (t ≤ n) × (length table ≡ 32) × Detours (unmarked n root m) (take n parents) head t table
@@ -21,29 +17,23 @@ Inv-loop m parents n root head under added table₀ t₀ table t = (t ≤ n) × 
 abbrev μ-loop : tie.MeasureT-loop
 μ-loop m parents n root head under added table₀ t₀ table t = n - t
 
--- src/exchange.rt:119:17
 below-table-requires : tie.Need-below-table-requires Inv-loop μ-loop
 below-table-requires c κs =
     let k = c .pre .0 in
     (k .matrix-ok .small, k .places, tree-rooted _ _ _ _ k, c .pre .1, c .pre .2)
 
--- src/exchange.rt:120:17
 increases-requires : tie.Need-increases-requires Inv-loop μ-loop
 increases-requires c κs = c .before .before .pre .0
 
--- src/exchange.rt:123:5
 loop-holds : tie.Need-loop-holds Inv-loop μ-loop
 loop-holds c = (omega arith, refl, detours-none _ _ _ _)
 
--- src/exchange.rt:125:18
 cast-if1 : tie.Need-cast-if1 Inv-loop μ-loop
 cast-if1 c = let small = c .before .before .before .before .before .pre .0 .matrix-ok .small in omega arith
 
--- src/exchange.rt:125:12
 array-read-if1 : tie.Need-array-read-if1 Inv-loop μ-loop
 array-read-if1 c = let small = c .before .before .before .before .before .pre .0 .matrix-ok .small in omega arith
 
--- src/exchange.rt:126:13
 path-least-requires : tie.Need-path-least-requires Inv-loop μ-loop
 path-least-requires c κs =
     let i = c .before .before in
@@ -59,27 +49,21 @@ path-least-requires c κs =
       b .below-table .ensures .at (l .t) (omega arith) .under (c .before .if1 .taken),
     )
 
--- src/exchange.rt:128:15
 cast-table : tie.Need-cast-table Inv-loop μ-loop
 cast-table c = let small = c .before .before .before .before .before .before .pre .0 .matrix-ok .small in omega arith
 
--- src/exchange.rt:128:9
 mul-table : tie.Need-mul-table Inv-loop μ-loop
 mul-table c = let small = c .before .before .before .before .before .before .pre .0 .matrix-ok .small in omega arith
 
--- src/exchange.rt:128:9
 array-write-table : tie.Need-array-write-table Inv-loop μ-loop
 array-write-table c = let small = c .before .before .before .before .before .before .pre .0 .matrix-ok .small in omega arith
 
--- src/exchange.rt:129:9
 add-t : tie.Need-add-t Inv-loop μ-loop
 add-t c = let small = c .before .before .before .before .before .before .pre .0 .matrix-ok .small in omega arith
 
--- src/exchange.rt:123:5
 loop-less : tie.Need-loop-less Inv-loop μ-loop
 loop-less c = let small = c .before .before .before .before .before .before .pre .0 .matrix-ok .small in omega arith
 
--- src/exchange.rt:123:5
 loop-again : tie.Need-loop-again Inv-loop μ-loop
 loop-again c =
     let i = c .before in
@@ -100,7 +84,6 @@ loop-again c =
           (c .if1 .came)),
     )
 
--- src/exchange.rt:115:1
 returns : tie.Need-returns Inv-loop μ-loop
 returns c =
     let b = c .before .before .before .before .before in

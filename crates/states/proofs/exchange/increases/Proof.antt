@@ -1,14 +1,12 @@
-use native.Mathlib.Omega.{arith}
+-- The table is right for the vertices that were passed. Assumes nothing.
 use mathlib.Core.Path.{_≡_, refl}
 use Prim.Native.Nat.{_-_, _≤_}
+use native.Mathlib.Omega.{arith}
 use lib.ListN.{length, length-set, take}
 use Rattle.states.specs.Exchange.{Increases}
 use Rattle.states.proofs.DetourLaws.{increases-none, increases-more}
 use Rattle.states.proofs.exchange.increases.Statement.{statement}
 use Rattle.states.proofs.exchange.increases.Tie as tie
-use Rattle.states.proofs.exchange.increases.Reads as reads
-use Rattle.states.proofs.exchange.increases.Lts as lts
-use Rattle.states.proofs.exchange.increase.Reads as increase-reads
 
 abbrev Inv-loop : tie.InvT-loop
 Inv-loop m parents below n root table₀ k₀ table k = (k ≤ n) × (length table ≡ 32) × Increases n m (take n parents) below k table
@@ -16,42 +14,33 @@ Inv-loop m parents below n root table₀ k₀ table k = (k ≤ n) × (length tab
 abbrev μ-loop : tie.MeasureT-loop
 μ-loop m parents below n root table₀ k₀ table k = n - k
 
--- src/exchange.rt:90:5
 loop-holds : tie.Need-loop-holds Inv-loop μ-loop
 loop-holds c = (omega arith, refl, increases-none _ _ 0 _ _ _)
 
--- src/exchange.rt:91:29
 increase-requires : tie.Need-increase-requires Inv-loop μ-loop
 increase-requires c κs = (c .before .before .pre, omega arith)
 
--- src/exchange.rt:91:15
 cast-table : tie.Need-cast-table Inv-loop μ-loop
 cast-table c = let small = c .before .before .before .pre .matrix-ok .small in omega arith
 
--- src/exchange.rt:91:9
 mul-table : tie.Need-mul-table Inv-loop μ-loop
 mul-table c = let small = c .before .before .before .pre .matrix-ok .small in omega arith
 
--- src/exchange.rt:91:9
 array-write-table : tie.Need-array-write-table Inv-loop μ-loop
 array-write-table c = let small = c .before .before .before .pre .matrix-ok .small in omega arith
 
--- src/exchange.rt:92:9
 add-k : tie.Need-add-k Inv-loop μ-loop
 add-k c = let small = c .before .before .before .pre .matrix-ok .small in omega arith
 
--- src/exchange.rt:90:5
 loop-less : tie.Need-loop-less Inv-loop μ-loop
 loop-less c = let small = c .before .before .before .pre .matrix-ok .small in omega arith
 
--- src/exchange.rt:90:5
 loop-again : tie.Need-loop-again Inv-loop μ-loop
 loop-again c =
     let l = c .before .before .loop in
     let small = c .before .before .before .pre .matrix-ok .small in
     (omega arith, simp length-set (l .inv .1), increases-more _ _ (l .k) _ _ (l .table) (c .increase .result) (omega arith) (l .inv .2) (c .increase .ensures))
 
--- src/exchange.rt:84:1
 returns : tie.Need-returns Inv-loop μ-loop
 returns c = let e : c .before .loop .k ≡ c .before .before .args .n = omega arith in rw e at (c .before .loop .inv .2)
 

@@ -1,13 +1,12 @@
-use native.Mathlib.Omega.{arith}
-use mathlib.Core.Path.{_≡_, refl, sym, _∙_}
+-- The least weight is that of a tail that was passed, or no arc. Assumes nothing.
+use mathlib.Core.Path.{_≡_, refl}
 use mathlib.Core.Logic.{⊎-elim}
 use Prim.Native.Nat.{_-_, _≤_}
+use native.Mathlib.Omega.{arith}
 use Rattle.states.specs.Exchange.{Least-outside}
 use Rattle.states.proofs.DetourLaws.{outside-none, outside-pass, outside-take}
 use Rattle.states.proofs.exchange.least_outside.Statement.{statement}
 use Rattle.states.proofs.exchange.least_outside.Tie as tie
-use Rattle.states.proofs.exchange.least_outside.Reads as reads
-use Rattle.states.proofs.exchange.least_outside.Lts as lts
 
 abbrev Inv-loop : tie.InvT-loop
 Inv-loop m below n vertex least₀ x₀ least x = (x ≤ n) × Least-outside x m below vertex least
@@ -15,47 +14,36 @@ Inv-loop m below n vertex least₀ x₀ least x = (x ≤ n) × Least-outside x m
 abbrev μ-loop : tie.MeasureT-loop
 μ-loop m below n vertex least₀ x₀ least x = n - x
 
--- src/exchange.rt:49:5
 loop-holds : tie.Need-loop-holds Inv-loop μ-loop
 loop-holds c = (omega arith, outside-none _ _ _)
 
--- src/exchange.rt:50:20
 mul-w : tie.Need-mul-w Inv-loop μ-loop
 mul-w c = omega arith
 
--- src/exchange.rt:50:20
 add-w : tie.Need-add-w Inv-loop μ-loop
 add-w c = omega arith
 
--- src/exchange.rt:50:19
 cast-w : tie.Need-cast-w Inv-loop μ-loop
 cast-w c = omega arith
 
--- src/exchange.rt:50:17
 mul-w-2 : tie.Need-mul-w-2 Inv-loop μ-loop
 mul-w-2 c = omega arith
 
--- src/exchange.rt:50:17
 element-copy-out-w : tie.Need-element-copy-out-w Inv-loop μ-loop
 element-copy-out-w c = omega arith
 
--- src/exchange.rt:51:18
 cast-if1 : tie.Need-cast-if1 Inv-loop μ-loop
 cast-if1 c = omega arith
 
--- src/exchange.rt:51:12
 element-copy-out-if1 : tie.Need-element-copy-out-if1 Inv-loop μ-loop
 element-copy-out-if1 c = omega arith
 
--- src/exchange.rt:56:9
 add-x : tie.Need-add-x Inv-loop μ-loop
 add-x c = omega arith
 
--- src/exchange.rt:49:5
 loop-less : tie.Need-loop-less Inv-loop μ-loop
 loop-less c = omega arith
 
--- src/exchange.rt:49:5
 loop-again : tie.Need-loop-again Inv-loop μ-loop
 loop-again c =
     let l = c .before .before .before .before .loop in (
@@ -64,7 +52,6 @@ loop-again c =
           (⊎-elim (λ w. rw (w .2) (outside-pass _ _ _ (l .x) _ (l .inv .1))) (λ w. rw (w .1) (outside-pass _ _ _ (l .x) _ (l .inv .1)))) (c .if1 .came),
     )
 
--- src/exchange.rt:43:1
 returns : tie.Need-returns Inv-loop μ-loop
 returns c = let e : c .before .loop .x ≡ c .before .before .args .n = omega arith in rw e at (c .before .loop .inv .1)
 

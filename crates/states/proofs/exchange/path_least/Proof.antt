@@ -1,17 +1,16 @@
-use Rattle.states.proofs.TreeLaws.{parent-read, rooted-tail, step-falls}
-use native.Mathlib.Omega.{arith}
-use mathlib.Core.Path.{_≡_, refl, sym, _∙_}
+-- The walk stays below the head, so it does not come to the root; a parent is less deep. Assumes nothing.
+use mathlib.Core.Path.{refl}
 use mathlib.Core.Logic.{⊎-elim, _≢_}
-use Prim.Native.Nat.{ℕ, _<_, _≤_}
-use lib.ListN.{getD, take}
+use Prim.Native.Nat.{_<_}
+use native.Mathlib.Omega.{arith}
+use lib.ListN.{take}
 use Rattle.states.specs.Walks.{Below, Way, start, onward}
 use Rattle.states.specs.Exchange.{Path-least}
-use Rattle.states.proofs.WalkLaws.{depth, depth-falls, root-avoids, below-on, below-avoids}
+use Rattle.states.proofs.TreeLaws.{parent-read, rooted-tail, step-falls}
+use Rattle.states.proofs.WalkLaws.{depth, root-avoids, below-on, below-avoids}
 use Rattle.states.proofs.DetourLaws.{path-none, path-take}
 use Rattle.states.proofs.exchange.path_least.Statement.{statement}
 use Rattle.states.proofs.exchange.path_least.Tie as tie
-use Rattle.states.proofs.exchange.path_least.Reads as reads
-use Rattle.states.proofs.exchange.path_least.Lts as lts
 
 abbrev Inv-loop : tie.InvT-loop
 Inv-loop parents table n root head tail least₀ v₀ least v =
@@ -20,27 +19,21 @@ Inv-loop parents table n root head tail least₀ v₀ least v =
 abbrev μ-loop : tie.MeasureT-loop
 μ-loop parents table n root head tail least₀ v₀ least v = depth n root (take n parents) v
 
--- src/exchange.rt:104:5
 loop-holds : tie.Need-loop-holds Inv-loop μ-loop
 loop-holds c = (c .pre .5, c .pre .6, start, path-none _ _ _ _)
 
--- src/exchange.rt:105:23
 cast-d : tie.Need-cast-d Inv-loop μ-loop
 cast-d c = omega arith
 
--- src/exchange.rt:105:17
 mul-d : tie.Need-mul-d Inv-loop μ-loop
 mul-d c = omega arith
 
--- src/exchange.rt:105:17
 element-copy-out-d : tie.Need-element-copy-out-d Inv-loop μ-loop
 element-copy-out-d c = omega arith
 
--- src/exchange.rt:109:21
 cast-v : tie.Need-cast-v Inv-loop μ-loop
 cast-v c = omega arith
 
--- src/exchange.rt:109:13
 element-copy-out-v : tie.Need-element-copy-out-v Inv-loop μ-loop
 element-copy-out-v c = omega arith
 
@@ -51,19 +44,16 @@ no-root c e =
     below-avoids _ _ (b .args .root) (rw e at (c .before .loop .inv .1))
     (root-avoids (b .args .n) (b .args .root) _ (b .pre .2) (b .pre .0) (b .args .head) (b .pre .3) (b .pre .4))
 
--- src/exchange.rt:109:13
 cast-v-2 : tie.Need-cast-v-2 Inv-loop μ-loop
 cast-v-2 c =
     let b = c .before .before .before .before .before in
     omega (arith, rooted-tail (b .args .n) (b .args .root) (c .before .before .before .before .loop .v) (b .args .parents .now) (b .pre .0) (b .pre .1) (b .pre .2) (omega arith) (no-root (c .before .before .before)))
 
--- src/exchange.rt:104:5
 loop-less : tie.Need-loop-less Inv-loop μ-loop
 loop-less c =
     let b = c .before .before .before .before .before in
     step-falls (b .args .n) (b .args .root) (c .before .before .before .before .loop .v) (b .args .parents .now) (b .pre .0) (b .pre .1) (b .pre .2) (omega arith) (no-root (c .before .before .before))
 
--- src/exchange.rt:104:5
 loop-again : tie.Need-loop-again Inv-loop μ-loop
 loop-again c =
     let b = c .before .before .before .before .before in
@@ -77,7 +67,6 @@ loop-again c =
       ⊎-elim (λ w. rw (w .1) (path-take _ _ _ _ (l .v) _ (l .inv .2) ne refl)) (λ w. rw (w .1) (l .inv .3)) (c .before .if1 .came),
     )
 
--- src/exchange.rt:98:1
 returns : tie.Need-returns Inv-loop μ-loop
 returns c = c .before .loop .inv .3
 

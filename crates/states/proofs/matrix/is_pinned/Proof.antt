@@ -1,26 +1,20 @@
-use Rattle.instance.specs.Instance.{mark}
+-- Each way out answers with the tests that led there; the cell is in range where an arc can be. Assumes nothing.
+use mathlib.Core.Path.{_≡_, sym, _∙_}
+use mathlib.Core.Bool.{true}
 use Prim.Native.Nat.{_+_, _*_, _<_}
-use Rattle.states.proofs.CellLaws.{cell-within, weight-read, absent-unpinned, present-pinned}
-use Rattle.states.specs.Fields.{fields}
 use native.Mathlib.Omega.{arith}
-use mathlib.Core.Path.{_≡_, refl, sym, ap, _∙_}
-use mathlib.Core.Bool.{true, false}
 use borrow.Author.Tests.{not-true, not-false}
-use Rattle.instance.specs.Instance.{can-be-arc, is-arc}
-use Rattle.instance.specs.Arborescence.{is-pinned as pinned-arc}
-use Rattle.theory.proofs.ArborescenceLaws.{Ends, ends}
 use borrow.Author.Needs.{needs}
+use Rattle.instance.specs.Instance.{mark, can-be-arc, is-arc}
+use Rattle.instance.specs.Arborescence.{is-pinned as pinned-arc}
+use Rattle.states.specs.Fields.{fields}
+use Rattle.states.proofs.CellLaws.{cell-within, weight-read, absent-unpinned, present-pinned}
 use Rattle.states.proofs.matrix.is_pinned.Statement.{statement}
 use Rattle.states.proofs.matrix.is_pinned.Tie as tie
-use Rattle.states.proofs.matrix.is_pinned.Reads as reads
-use Rattle.states.proofs.matrix.is_pinned.Lts as lts
-use Rattle.instance.proofs.can_be_arc.Reads as can-be-arc-reads
 
--- src/matrix.rt:26:9
 can-be-arc-requires : tie.Need-can-be-arc-requires
 can-be-arc-requires c κs = search needs
 
--- src/matrix.rt:27:9
 returns : tie.Need-returns
 unfolding pinned-arc is-arc
 returns c = simp (← c .before .can-be-arc .ensures, not-true (c .before .can-be-arc .result) (c .if1 .taken))
@@ -31,27 +25,21 @@ arc c = sym (c .before .can-be-arc .ensures) ∙ not-false (c .before .can-be-ar
 within : (c : tie.Else1) → 32 * c .before .before .args .tail + c .before .before .args .head < 1024
 within c = let a = c .before .before .args in cell-within (a .n) (a .root) (a .tail) (a .head) (arc c) (c .before .before .pre .0)
 
--- src/matrix.rt:29:14
 mul-i : tie.Need-mul-i
 mul-i c = omega (arith, within c)
 
--- src/matrix.rt:29:14
 add-i : tie.Need-add-i
 add-i c = omega (arith, within c)
 
--- src/matrix.rt:29:13
 cast-i : tie.Need-cast-i
 cast-i c = search needs
 
--- src/matrix.rt:30:8
 mul-if2 : tie.Need-mul-if2
 mul-if2 c = search needs
 
--- src/matrix.rt:30:8
 element-copy-out-if2 : tie.Need-element-copy-out-if2
 element-copy-out-if2 c = within c
 
--- src/matrix.rt:31:9
 returns-2 : tie.Need-returns-2
 unfolding mark
 returns-2 c =
@@ -60,11 +48,9 @@ returns-2 c =
     let s = fields (a .n) (a .root) 0 (a .weights .now) (a .marks .now) in
     sym (absent-unpinned s (a .tail) (a .head) (sym (weight-read s (a .tail) (a .head) (b .before .before .pre .1) (within b)) ∙ c .if2 .taken))
 
--- src/matrix.rt:33:5
 element-copy-out-result : tie.Need-element-copy-out-result
 element-copy-out-result c = within (c .before .before)
 
--- src/matrix.rt:22:1
 returns-3 : tie.Need-returns-3
 unfolding mark
 returns-3 c =

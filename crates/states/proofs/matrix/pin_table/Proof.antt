@@ -1,15 +1,13 @@
-use native.Mathlib.Omega.{arith}
+-- The pins into each head that was passed stand in the table. Assumes nothing.
 use mathlib.Core.Path.{_≡_, refl}
-use Prim.Native.Nat.{_-_, _≤_, _<_}
+use Prim.Native.Nat.{_-_, _≤_}
+use native.Mathlib.Omega.{arith}
 use lib.ListN.{length, length-set}
 use Rattle.states.specs.Fields.{fields}
 use Rattle.states.specs.Pins.{Pin-table}
 use Rattle.states.proofs.PinLaws.{table-none, table-more}
 use Rattle.states.proofs.matrix.pin_table.Statement.{statement}
 use Rattle.states.proofs.matrix.pin_table.Tie as tie
-use Rattle.states.proofs.matrix.pin_table.Reads as reads
-use Rattle.states.proofs.matrix.pin_table.Lts as lts
-use Rattle.states.proofs.matrix.pins_into.Reads as pins-into-reads
 
 abbrev Inv-loop : tie.InvT-loop
 Inv-loop weights marks n root table₀ head₀ table head =
@@ -18,41 +16,32 @@ Inv-loop weights marks n root table₀ head₀ table head =
 abbrev μ-loop : tie.MeasureT-loop
 μ-loop weights marks n root table₀ head₀ table head = n - head
 
--- src/matrix.rt:62:5
 loop-holds : tie.Need-loop-holds Inv-loop μ-loop
 loop-holds c = (omega arith, refl, table-none _ _)
 
--- src/matrix.rt:63:32
 pins-into-requires : tie.Need-pins-into-requires Inv-loop μ-loop
 pins-into-requires c κs = c .before .before .pre
 
--- src/matrix.rt:63:15
 cast-table : tie.Need-cast-table Inv-loop μ-loop
 cast-table c = omega arith
 
--- src/matrix.rt:63:9
 mul-table : tie.Need-mul-table Inv-loop μ-loop
 mul-table c = omega arith
 
--- src/matrix.rt:63:9
 array-write-table : tie.Need-array-write-table Inv-loop μ-loop
 array-write-table c = omega arith
 
--- src/matrix.rt:64:9
 add-head : tie.Need-add-head Inv-loop μ-loop
 add-head c = omega arith
 
--- src/matrix.rt:62:5
 loop-less : tie.Need-loop-less Inv-loop μ-loop
 loop-less c = omega arith
 
--- src/matrix.rt:62:5
 loop-again : tie.Need-loop-again Inv-loop μ-loop
 loop-again c =
     let l = c .before .before in
     (omega arith, simp length-set (l .loop .inv .1), table-more _ (l .loop .table) (l .loop .head) _ (omega arith) (l .loop .inv .2) (c .pins-into .ensures))
 
--- src/matrix.rt:56:1
 returns : tie.Need-returns Inv-loop μ-loop
 returns c = let e : c .before .loop .head ≡ c .before .before .args .n = omega arith in rw e at (c .before .loop .inv .2)
 

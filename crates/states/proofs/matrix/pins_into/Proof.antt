@@ -1,16 +1,13 @@
+-- The pin sums up the pinned tails that were passed. Assumes nothing.
 use mathlib.Core.Path.{_≡_, sym, _∙_}
 use mathlib.Core.Logic.{⊎-elim}
-use Prim.Native.Nat.{_<_}
+use Prim.Native.Nat.{_<_, _-_, _≤_}
 use native.Mathlib.Omega.{arith}
-use Prim.Native.Nat.{_-_, _≤_}
 use Rattle.states.specs.Fields.{fields}
 use Rattle.states.specs.Pins.{Pins}
 use Rattle.states.proofs.PinLaws.{pins-none, pins-pass, pins-first, pins-again}
 use Rattle.states.proofs.matrix.pins_into.Statement.{statement}
 use Rattle.states.proofs.matrix.pins_into.Tie as tie
-use Rattle.states.proofs.matrix.pins_into.Reads as reads
-use Rattle.states.proofs.matrix.pins_into.Lts as lts
-use Rattle.states.proofs.matrix.is_pinned.Reads as is-pinned-reads
 
 abbrev Inv-loop : tie.InvT-loop
 Inv-loop weights marks n root head pin₀ g₀ pin g = (g ≤ n) × Pins (fields n root 0 weights marks) head g pin
@@ -18,23 +15,18 @@ Inv-loop weights marks n root head pin₀ g₀ pin g = (g ≤ n) × Pins (fields
 abbrev μ-loop : tie.MeasureT-loop
 μ-loop weights marks n root head pin₀ g₀ pin g = n - g
 
--- src/matrix.rt:43:5
 loop-holds : tie.Need-loop-holds Inv-loop μ-loop
 loop-holds c = (omega arith, pins-none _ _)
 
--- src/matrix.rt:44:12
 is-pinned-requires : tie.Need-is-pinned-requires Inv-loop μ-loop
 is-pinned-requires c κs = c .before .before .pre
 
--- src/matrix.rt:51:9
 add-g : tie.Need-add-g Inv-loop μ-loop
 add-g c = omega arith
 
--- src/matrix.rt:43:5
 loop-less : tie.Need-loop-less Inv-loop μ-loop
 loop-less c = omega arith
 
--- src/matrix.rt:43:5
 loop-again : tie.Need-loop-again Inv-loop μ-loop
 loop-again c =
     let l = c .before .before .before in
@@ -48,7 +40,6 @@ loop-again c =
           (c .if1 .came),
     )
 
--- src/matrix.rt:37:1
 returns : tie.Need-returns Inv-loop μ-loop
 returns c = let e : c .before .loop .g ≡ c .before .before .args .n = omega arith in rw e at (c .before .loop .inv .1)
 

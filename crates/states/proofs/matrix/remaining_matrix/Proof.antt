@@ -1,20 +1,14 @@
-use Prim.Native.Nat.{_%_}
-use lib.ListN.{getD}
-use lib.ListN.{replicate}
-use native.Mathlib.Omega.{arith}
+-- The cells that were passed are those of the matrix. Assumes nothing.
 use mathlib.Core.Path.{_≡_, refl, sym, _∙_}
-use Prim.Native.Nat.{_-_, _≤_, _<_}
-use lib.ListN.{length, take, length-set}
+use Prim.Native.Nat.{_%_, _-_, _≤_}
+use native.Mathlib.Omega.{arith}
+use lib.ListN.{getD, replicate, length, take, length-set}
 use Rattle.base.specs.Lists.{tabulate}
 use Rattle.base.proofs.ListLaws.{tabulate-none, tabulate-store, tabulate-whole}
 use Rattle.states.specs.Fields.{fields}
 use Rattle.states.proofs.MatrixLaws.{matrix-cell, matrix-cells, cell-judged}
 use Rattle.states.proofs.matrix.remaining_matrix.Statement.{statement}
 use Rattle.states.proofs.matrix.remaining_matrix.Tie as tie
-use Rattle.states.proofs.matrix.remaining_matrix.Reads as reads
-use Rattle.states.proofs.matrix.remaining_matrix.Lts as lts
-use Rattle.states.proofs.matrix.pin_table.Reads as pin-table-reads
-use Rattle.states.proofs.matrix.remaining_weight.Reads as remaining-weight-reads
 
 abbrev Inv-loop : tie.InvT-loop
 Inv-loop weights marks n root pins w₀ i₀ w i =
@@ -23,63 +17,48 @@ Inv-loop weights marks n root pins w₀ i₀ w i =
 abbrev μ-loop : tie.MeasureT-loop
 μ-loop weights marks n root pins w₀ i₀ w i = 1024 - i
 
--- src/matrix.rt:93:16
 pin-table-requires : tie.Need-pin-table-requires Inv-loop μ-loop
 pin-table-requires c κs = c .pre
 
--- src/matrix.rt:96:5
 loop-holds : tie.Need-loop-holds Inv-loop μ-loop
 loop-holds c = (omega arith, refl, tabulate-none (replicate 1024 1048575) _)
 
--- src/matrix.rt:98:22
 mul-weight : tie.Need-mul-weight Inv-loop μ-loop
 mul-weight c = omega arith
 
--- src/matrix.rt:98:22
 element-copy-out-weight : tie.Need-element-copy-out-weight Inv-loop μ-loop
 element-copy-out-weight c = omega arith
 
--- src/matrix.rt:99:20
 element-copy-out-mark : tie.Need-element-copy-out-mark Inv-loop μ-loop
 element-copy-out-mark c = omega arith
 
--- src/matrix.rt:100:47
 mul-remaining-weight : tie.Need-mul-remaining-weight Inv-loop μ-loop
 mul-remaining-weight c = omega arith
 
--- src/matrix.rt:100:47
 array-read-remaining-weight : tie.Need-array-read-remaining-weight Inv-loop μ-loop
 array-read-remaining-weight c = omega arith
 
--- src/matrix.rt:100:68
 cast-remaining-weight : tie.Need-cast-remaining-weight Inv-loop μ-loop
 cast-remaining-weight c = omega arith
 
--- src/matrix.rt:100:85
 cast-remaining-weight-2 : tie.Need-cast-remaining-weight-2 Inv-loop μ-loop
 cast-remaining-weight-2 c = omega arith
 
--- src/matrix.rt:100:16
 remaining-weight-requires : tie.Need-remaining-weight-requires Inv-loop μ-loop
 remaining-weight-requires c κs = tt
 
--- src/matrix.rt:100:9
 mul-w : tie.Need-mul-w Inv-loop μ-loop
 mul-w c = omega arith
 
--- src/matrix.rt:100:9
 array-write-w : tie.Need-array-write-w Inv-loop μ-loop
 array-write-w c = omega arith
 
--- src/matrix.rt:101:9
 add-i : tie.Need-add-i Inv-loop μ-loop
 add-i c = omega arith
 
--- src/matrix.rt:96:5
 loop-less : tie.Need-loop-less Inv-loop μ-loop
 loop-less c = omega arith
 
--- src/matrix.rt:96:5
 loop-again : tie.Need-loop-again Inv-loop μ-loop
 loop-again c =
     let l = c .before .before .before .before in
@@ -93,7 +72,6 @@ loop-again c =
           (c .remaining-weight .ensures ∙ cell-judged s i p (omega arith) (l .before .before .pre .1) (λ b. l .before .pin-table .ensures .at (i % 32) b)),
     )
 
--- src/matrix.rt:89:1
 returns : tie.Need-returns Inv-loop μ-loop
 returns c =
     let l = c .before .loop in

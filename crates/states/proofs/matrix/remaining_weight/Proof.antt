@@ -1,37 +1,29 @@
+-- Each way out answers with the tests that led there. Assumes nothing.
 use borrow.Author.Tests.{not-true, not-false, eq-eqb, ne-eqb}
-use Rattle.states.specs.Pins.{lets}
 use borrow.Author.Needs.{needs}
+use Rattle.states.specs.Pins.{allows}
 use Rattle.states.proofs.matrix.remaining_weight.Statement.{statement}
 use Rattle.states.proofs.matrix.remaining_weight.Tie as tie
-use Rattle.states.proofs.matrix.remaining_weight.Reads as reads
-use Rattle.states.proofs.matrix.remaining_weight.Lts as lts
-use Rattle.instance.proofs.can_be_arc.Reads as can-be-arc-reads
 
--- src/matrix.rt:73:9
 can-be-arc-requires : tie.Need-can-be-arc-requires
 can-be-arc-requires c κs = search needs
 
--- src/matrix.rt:74:9
 returns : tie.Need-returns
 returns c = simp (← c .before .can-be-arc .ensures, not-true (c .before .can-be-arc .result) (c .if1 .taken))
 
--- src/matrix.rt:77:9
 returns-2 : tie.Need-returns-2
 returns-2 c = simp (← c .before .before .can-be-arc .ensures, not-false (c .before .before .can-be-arc .result) (c .before .if1 .left), eq-eqb _ _ (c .if2 .taken))
 
--- src/matrix.rt:80:9
 returns-3 : tie.Need-returns-3
-unfolding lets
+unfolding allows
 returns-3 c = simp (← c .before .before .before .can-be-arc .ensures, not-false (c .before .before .before .can-be-arc .result) (c .before .before .if1 .left), ne-eqb _ _ (c .before .if2 .left), eq-eqb _ _ (c .if3 .taken))
 
--- src/matrix.rt:83:9
 returns-4 : tie.Need-returns-4
-unfolding lets
+unfolding allows
 returns-4 c = simp (← c .before .before .before .before .can-be-arc .ensures, not-false (c .before .before .before .before .can-be-arc .result) (c .before .before .before .if1 .left), ne-eqb _ _ (c .before .before .if2 .left), ne-eqb _ _ (c .before .if3 .left), eq-eqb _ _ (c .if4 .taken))
 
--- src/matrix.rt:70:1
 returns-5 : tie.Need-returns-5
-unfolding lets
+unfolding allows
 returns-5 c = simp (← c .before .before .before .before .can-be-arc .ensures, not-false (c .before .before .before .before .can-be-arc .result) (c .before .before .before .if1 .left), ne-eqb _ _ (c .before .before .if2 .left), ne-eqb _ _ (c .before .if3 .left), ne-eqb _ _ (c .if4 .left))
 
 pub remaining-weight-spec : {M : Type 1} → statement M

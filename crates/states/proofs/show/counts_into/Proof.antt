@@ -1,14 +1,12 @@
-use native.Mathlib.Omega.{arith}
+-- The counts are right for the heads that were passed. Assumes nothing.
 use mathlib.Core.Path.{_≡_, refl}
-use Prim.Native.Nat.{_-_, _≤_, _<_}
+use Prim.Native.Nat.{_-_, _≤_}
+use native.Mathlib.Omega.{arith}
 use lib.ListN.{length, length-set}
 use Rattle.states.specs.Table.{Counts}
 use Rattle.states.proofs.TableLaws.{counts-none, counts-more}
 use Rattle.states.proofs.show.counts_into.Statement.{statement}
 use Rattle.states.proofs.show.counts_into.Tie as tie
-use Rattle.states.proofs.show.counts_into.Reads as reads
-use Rattle.states.proofs.show.counts_into.Lts as lts
-use Rattle.states.proofs.show.used_into.Reads as used-into-reads
 
 abbrev Inv-loop : tie.InvT-loop
 Inv-loop used n counts₀ head₀ counts head = (head ≤ n) × (length counts ≡ 32) × Counts n used head counts
@@ -16,41 +14,32 @@ Inv-loop used n counts₀ head₀ counts head = (head ≤ n) × (length counts �
 abbrev μ-loop : tie.MeasureT-loop
 μ-loop used n counts₀ head₀ counts head = n - head
 
--- src/show.rt:38:5
 loop-holds : tie.Need-loop-holds Inv-loop μ-loop
 loop-holds c = (omega arith, refl, counts-none _ _ _)
 
--- src/show.rt:39:33
 used-into-requires : tie.Need-used-into-requires Inv-loop μ-loop
 used-into-requires c κs = (c .before .before .pre, omega arith)
 
--- src/show.rt:39:16
 cast-counts : tie.Need-cast-counts Inv-loop μ-loop
 cast-counts c = omega arith
 
--- src/show.rt:39:9
 mul-counts : tie.Need-mul-counts Inv-loop μ-loop
 mul-counts c = omega arith
 
--- src/show.rt:39:9
 array-write-counts : tie.Need-array-write-counts Inv-loop μ-loop
 array-write-counts c = omega arith
 
--- src/show.rt:40:9
 add-head : tie.Need-add-head Inv-loop μ-loop
 add-head c = omega arith
 
--- src/show.rt:38:5
 loop-less : tie.Need-loop-less Inv-loop μ-loop
 loop-less c = omega arith
 
--- src/show.rt:38:5
 loop-again : tie.Need-loop-again Inv-loop μ-loop
 loop-again c =
     let l = c .before .before .loop in
     (omega arith, simp length-set (l .inv .1), counts-more _ _ (l .counts) (l .head) (c .used-into .result) (omega arith) (l .inv .2) (c .used-into .ensures))
 
--- src/show.rt:32:1
 returns : tie.Need-returns Inv-loop μ-loop
 returns c = let e : c .before .loop .head ≡ c .before .before .args .n = omega arith in rw e at (c .before .loop .inv .2)
 

@@ -1,9 +1,9 @@
-use Prim.Native.Nat.{ℕ}
+-- The count is that of the tails that were passed. Assumes nothing.
 use mathlib.Core.Bool.{cond}
-use native.Mathlib.Omega.{arith}
-use mathlib.Core.Path.{_≡_, refl, sym, _∙_}
+use mathlib.Core.Path.{_≡_, refl}
 use mathlib.Core.Logic.{⊎-elim}
-use Prim.Native.Nat.{_+_, _-_, _≤_, _<_}
+use Prim.Native.Nat.{ℕ, _-_, _≤_}
+use native.Mathlib.Omega.{arith}
 use borrow.Author.Tests.{eq-eqb, ne-eqb}
 use Rattle.base.specs.Bounded.{sum-below}
 use Rattle.contraction.specs.Counting.{count-below}
@@ -11,8 +11,6 @@ use Rattle.states.specs.Table.{is-used}
 use Rattle.states.proofs.TableLaws.{count-step}
 use Rattle.states.proofs.show.used_into.Statement.{statement}
 use Rattle.states.proofs.show.used_into.Tie as tie
-use Rattle.states.proofs.show.used_into.Reads as reads
-use Rattle.states.proofs.show.used_into.Lts as lts
 
 abbrev Inv-loop : tie.InvT-loop
 Inv-loop used n head count₀ g₀ count g = (g ≤ n) × (count ≤ g) × (count ≡ count-below g (λ t. is-used used t head))
@@ -20,40 +18,31 @@ Inv-loop used n head count₀ g₀ count g = (g ≤ n) × (count ≤ g) × (coun
 abbrev μ-loop : tie.MeasureT-loop
 μ-loop used n head count₀ g₀ count g = n - g
 
--- src/show.rt:23:5
 loop-holds : tie.Need-loop-holds Inv-loop μ-loop
 unfolding count-below sum-below
 loop-holds c = (omega arith, omega arith, refl)
 
--- src/show.rt:24:18
 mul-if1 : tie.Need-mul-if1 Inv-loop μ-loop
 mul-if1 c = omega arith
 
--- src/show.rt:24:18
 add-if1 : tie.Need-add-if1 Inv-loop μ-loop
 add-if1 c = omega arith
 
--- src/show.rt:24:17
 cast-if1 : tie.Need-cast-if1 Inv-loop μ-loop
 cast-if1 c = omega arith
 
--- src/show.rt:24:12
 element-copy-out-if1 : tie.Need-element-copy-out-if1 Inv-loop μ-loop
 element-copy-out-if1 c = omega arith
 
--- src/show.rt:25:13
 add-count : tie.Need-add-count Inv-loop μ-loop
 add-count c = omega arith
 
--- src/show.rt:27:9
 add-g : tie.Need-add-g Inv-loop μ-loop
 add-g c = omega arith
 
--- src/show.rt:23:5
 loop-less : tie.Need-loop-less Inv-loop μ-loop
 loop-less c = omega arith
 
--- src/show.rt:23:5
 loop-again : tie.Need-loop-again Inv-loop μ-loop
 loop-again c =
     let l = c .before .before .before .loop in
@@ -70,7 +59,6 @@ loop-again c =
     (omega arith, omega arith, omega arith))
     (c .if1 .came)
 
--- src/show.rt:17:1
 returns : tie.Need-returns Inv-loop μ-loop
 returns c = let e : c .before .loop .g ≡ c .before .before .args .n = omega arith in rw e at (c .before .loop .inv .2)
 

@@ -1,16 +1,14 @@
-use Rattle.states.proofs.TreeLaws.{parent-read, rooted-tail}
-use native.Mathlib.Omega.{arith}
-use mathlib.Core.Path.{_≡_, refl, sym, _∙_}
+-- The arcs into the vertices that were passed are entered. Assumes nothing.
+use mathlib.Core.Path.{_≡_}
 use mathlib.Core.Logic.{⊎-elim}
-use Prim.Native.Nat.{_+_, _-_, _≤_, _<_}
+use Prim.Native.Nat.{_-_, _≤_, _<_}
+use native.Mathlib.Omega.{arith}
 use lib.ListN.{getD, take}
-use borrow.Author.Tests.{eq-eqb, ne-eqb}
 use Rattle.states.specs.Table.{Entered}
+use Rattle.states.proofs.TreeLaws.{parent-read, rooted-tail}
 use Rattle.states.proofs.TableLaws.{enter-none, enter-root, enter-more}
 use Rattle.states.proofs.tree.enter_tree.Statement.{statement}
 use Rattle.states.proofs.tree.enter_tree.Tie as tie
-use Rattle.states.proofs.tree.enter_tree.Reads as reads
-use Rattle.states.proofs.tree.enter_tree.Lts as lts
 
 abbrev Inv-loop : tie.InvT-loop
 Inv-loop parents n root used₀ v₀ used v = (v ≤ n) × Entered v root (take n parents) used₀ used
@@ -18,15 +16,12 @@ Inv-loop parents n root used₀ v₀ used v = (v ≤ n) × Entered v root (take 
 abbrev μ-loop : tie.MeasureT-loop
 μ-loop parents n root used₀ v₀ used v = n - v
 
--- src/tree.rt:33:5
 loop-holds : tie.Need-loop-holds Inv-loop μ-loop
 loop-holds c = (omega arith, enter-none _ _ _)
 
--- src/tree.rt:35:32
 cast-tail : tie.Need-cast-tail Inv-loop μ-loop
 cast-tail c = omega arith
 
--- src/tree.rt:35:24
 element-copy-out-tail : tie.Need-element-copy-out-tail Inv-loop μ-loop
 element-copy-out-tail c = omega arith
 
@@ -36,35 +31,27 @@ tail c =
     let a = b .args in
     rooted-tail (a .n) (a .root) (c .before .before .before .loop .v) (a .parents .now) (b .pre .0) (b .pre .1) (b .pre .2) (omega arith) (c .before .if1 .taken)
 
--- src/tree.rt:35:24
 cast-tail-2 : tie.Need-cast-tail-2 Inv-loop μ-loop
 cast-tail-2 c = omega (arith, tail c)
 
--- src/tree.rt:36:19
 mul-used : tie.Need-mul-used Inv-loop μ-loop
 mul-used c = omega (arith, tail c)
 
--- src/tree.rt:36:19
 add-used : tie.Need-add-used Inv-loop μ-loop
 add-used c = omega (arith, tail c)
 
--- src/tree.rt:36:18
 cast-used : tie.Need-cast-used Inv-loop μ-loop
 cast-used c = omega (arith, tail c)
 
--- src/tree.rt:36:13
 element-write-used : tie.Need-element-write-used Inv-loop μ-loop
 element-write-used c = omega (arith, tail c)
 
--- src/tree.rt:38:9
 add-v : tie.Need-add-v Inv-loop μ-loop
 add-v c = omega arith
 
--- src/tree.rt:33:5
 loop-less : tie.Need-loop-less Inv-loop μ-loop
 loop-less c = omega arith
 
--- src/tree.rt:33:5
 loop-again : tie.Need-loop-again Inv-loop μ-loop
 loop-again c =
     let l = c .before .before .loop in
@@ -81,7 +68,6 @@ loop-again c =
           (λ w. rw (w .1) (enter-root _ _ _ (l .v) _ (w .0 .left) (l .inv .1))) (c .if1 .came),
     )
 
--- src/tree.rt:28:1
 returns : tie.Need-returns Inv-loop μ-loop
 returns c = let e : c .before .loop .v ≡ c .before .before .args .n = omega arith in rw e at (c .before .loop .inv .1)
 

@@ -1,16 +1,13 @@
-use native.Mathlib.Omega.{arith}
+-- The sum is that of the vertices that were passed, each at most 1,048,575. Assumes nothing.
 use mathlib.Core.Path.{_≡_, refl, sym, _∙_}
 use mathlib.Core.Logic.{⊎-elim}
 use Prim.Native.Nat.{_+_, _*_, _-_, _≤_, _<_}
-use lib.ListN.{getD, take}
-use borrow.Author.Tests.{eq-eqb, ne-eqb}
+use native.Mathlib.Omega.{arith}
+use lib.ListN.{getD}
 use Rattle.base.specs.Bounded.{sum-below}
-use Rattle.states.specs.Tree.{Matrix-tree}
 use Rattle.states.proofs.TreeLaws.{tail-below, cost, cost-root, cost-read, cell-bounded, sum-more, total-costs}
 use Rattle.states.proofs.tree.tree_total.Statement.{statement}
 use Rattle.states.proofs.tree.tree_total.Tie as tie
-use Rattle.states.proofs.tree.tree_total.Reads as reads
-use Rattle.states.proofs.tree.tree_total.Lts as lts
 
 abbrev Inv-loop : tie.InvT-loop
 Inv-loop m parents n root sum₀ v₀ sum v = (v ≤ n) × (sum ≤ 1048575 * v) × (sum ≡ sum-below v (cost n root m parents))
@@ -18,16 +15,13 @@ Inv-loop m parents n root sum₀ v₀ sum v = (v ≤ n) × (sum ≤ 1048575 * v)
 abbrev μ-loop : tie.MeasureT-loop
 μ-loop m parents n root sum₀ v₀ sum v = n - v
 
--- src/tree.rt:17:5
 loop-holds : tie.Need-loop-holds Inv-loop μ-loop
 unfolding sum-below
 loop-holds c = (omega arith, omega arith, refl)
 
--- src/tree.rt:19:32
 cast-tail : tie.Need-cast-tail Inv-loop μ-loop
 cast-tail c = omega arith
 
--- src/tree.rt:19:24
 element-copy-out-tail : tie.Need-element-copy-out-tail Inv-loop μ-loop
 element-copy-out-tail c = omega arith
 
@@ -46,43 +40,33 @@ small c =
     cell-bounded (b .args .n) (b .args .root) (b .args .m .now) (b .args .parents .now) (b .pre)
     (32 * getD (b .args .parents .now) (c .before .before .before .loop .v) 0 + c .before .before .before .loop .v) (omega arith)
 
--- src/tree.rt:19:24
 cast-tail-2 : tie.Need-cast-tail-2 Inv-loop μ-loop
 cast-tail-2 c = omega (arith, tail c)
 
--- src/tree.rt:20:23
 mul-sum : tie.Need-mul-sum Inv-loop μ-loop
 mul-sum c = omega (arith, tail c)
 
--- src/tree.rt:20:23
 add-sum : tie.Need-add-sum Inv-loop μ-loop
 add-sum c = omega (arith, tail c)
 
--- src/tree.rt:20:22
 cast-sum : tie.Need-cast-sum Inv-loop μ-loop
 cast-sum c = omega (arith, tail c)
 
--- src/tree.rt:20:20
 mul-sum-2 : tie.Need-mul-sum-2 Inv-loop μ-loop
 mul-sum-2 c = omega (arith, tail c)
 
--- src/tree.rt:20:20
 element-copy-out-sum : tie.Need-element-copy-out-sum Inv-loop μ-loop
 element-copy-out-sum c = omega (arith, tail c)
 
--- src/tree.rt:20:13
 add-sum-2 : tie.Need-add-sum-2 Inv-loop μ-loop
 add-sum-2 c = omega (arith, small (c .before))
 
--- src/tree.rt:22:9
 add-v : tie.Need-add-v Inv-loop μ-loop
 add-v c = omega arith
 
--- src/tree.rt:17:5
 loop-less : tie.Need-loop-less Inv-loop μ-loop
 loop-less c = omega arith
 
--- src/tree.rt:17:5
 loop-again : tie.Need-loop-again Inv-loop μ-loop
 loop-again c =
     let l = c .before .before .loop in
@@ -101,7 +85,6 @@ loop-again c =
     (omega arith, omega arith, omega arith))
     (c .if1 .came)
 
--- src/tree.rt:11:1
 returns : tie.Need-returns Inv-loop μ-loop
 returns c =
     let b = c .before .before in

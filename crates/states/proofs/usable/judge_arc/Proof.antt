@@ -1,165 +1,141 @@
-use native.Mathlib.Omega.{arith}
-use mathlib.Core.Path.{_≡_, refl, sym, _∙_}
+-- Each way out says why the arc is usable or not. Assumes nothing.
+use mathlib.Core.Path.{_≡_, sym, _∙_}
 use mathlib.Core.Bool.{true}
 use mathlib.Core.List.{List}
 use Prim.Native.Nat.{ℕ, _≤_}
+use native.Mathlib.Omega.{arith}
 use lib.ListN.{getD}
 use borrow.Author.Tests.{eq-eqb}
+use borrow.Author.Needs.{needs}
 use Rattle.instance.specs.Instance.{cell, weight}
 use Rattle.instance.specs.Arborescence.{remaining}
 use Rattle.instance.specs.Matrix.{unmarked}
-use Rattle.states.proofs.JudgeLaws.{weight-on, weight-most, present, reduced-most, usable-offer, unusable-loop, unusable-absent, unusable-reduced}
+use Rattle.states.proofs.JudgeLaws.{weight-on, weight-most, present, reduced-most, usable-bound, unusable-loop, unusable-absent, unusable-reduced}
 use Rattle.states.proofs.SoundLaws.{judged-already, judged-unusable, judged-usable}
-use borrow.Author.Needs.{needs}
 use Rattle.states.proofs.usable.judge_arc.Statement.{statement}
 use Rattle.states.proofs.usable.judge_arc.Tie as tie
-use Rattle.states.proofs.usable.judge_arc.Reads as reads
-use Rattle.states.proofs.usable.judge_arc.Lts as lts
-use Rattle.states.proofs.usable.judge_by_planning.Reads as judge-by-planning-reads
 
--- src/usable.rt:46:14
 mul-i : tie.Need-mul-i
 mul-i c = search needs
 
--- src/usable.rt:46:14
 add-i : tie.Need-add-i
 add-i c = search needs
 
--- src/usable.rt:46:13
 cast-i : tie.Need-cast-i
 cast-i c = search needs
 
--- src/usable.rt:47:8
 element-copy-out-if1 : tie.Need-element-copy-out-if1
 element-copy-out-if1 c = search needs
 
--- src/usable.rt:48:9
 returns : tie.Need-returns
 returns c =
     let b = c .before .before in
     let a = b .args in
-    judged-already _ (a .used .now) (b .pre .8) (a .tail) (a .head) (eq-eqb _ _ (c .if1 .taken))
+    judged-already _ (a .used .now) (b .pre .1) (a .tail) (a .head) (eq-eqb _ _ (c .if1 .taken))
 
--- src/usable.rt:51:9
 returns-2 : tie.Need-returns-2
 returns-2 c =
     let b = c .before .before .before in
     let a = b .args in
-    judged-unusable _ (a .used .now) (b .pre .8) (a .tail) (a .head)
-    (unusable-loop (a .n) (a .root) (a .budget) (a .m .now) (a .tail) (a .head) (b .pre .5) (b .pre .6) (c .if2 .taken))
+    judged-unusable _ (a .used .now) (b .pre .1) (a .tail) (a .head)
+    (unusable-loop (a .n) (a .root) (a .budget) (a .m .now) (a .tail) (a .head) (b .pre .0 .head-below) (b .pre .0 .not-root) (c .if2 .taken))
 
--- src/usable.rt:53:18
 mul-weight : tie.Need-mul-weight
 mul-weight c = search needs
 
--- src/usable.rt:53:18
 element-copy-out-weight : tie.Need-element-copy-out-weight
 element-copy-out-weight c = search needs
 
--- src/usable.rt:55:9
 returns-3 : tie.Need-returns-3
 returns-3 c =
     let b = c .before .before .before .before .before in
     let a = b .args in
-    judged-unusable _ (a .used .now) (b .pre .8) (a .tail) (a .head)
-    (unusable-absent (a .n) (a .root) (a .budget) (a .m .now) (a .tail) (a .head) (b .pre .5) (b .pre .6) (sym (weight-on (a .n) (a .root) (a .m .now) (b .pre .0) (a .tail) (a .head) (b .pre .4) (b .pre .5)) ∙ c .if3 .taken))
+    let p = b .pre .0 in
+    judged-unusable _ (a .used .now) (b .pre .1) (a .tail) (a .head)
+    (unusable-absent (a .n) (a .root) (a .budget) (a .m .now) (a .tail) (a .head) (p .head-below) (p .not-root) (sym (weight-on (a .n) (a .root) (a .m .now) (p .matrix-ok) (a .tail) (a .head) (p .tail-below) (p .head-below)) ∙ c .if3 .taken))
 
--- src/usable.rt:57:25
-mul-if4 : tie.Need-mul-if4
-mul-if4 c = search needs
+mul-least : tie.Need-mul-least
+mul-least c = search needs
 
--- src/usable.rt:57:25
-element-copy-out-if4 : tie.Need-element-copy-out-if4
-element-copy-out-if4 c = search needs
+element-copy-out-least : tie.Need-element-copy-out-least
+element-copy-out-least c = search needs
 
 -- once it is past the first three tests, the cell holds an arc
-record Known (n root : ℕ) (m : List ℕ) (t h : ℕ) : Type 0 where
+record Known (n root : ℕ) (m reduced : List ℕ) (t h : ℕ) : Type 0 where
   small : n ≤ 32
   arc : remaining (unmarked n root m) t h ≡ true
   same : getD m (cell t h) 0 ≡ weight (unmarked n root m) t h
   most : weight (unmarked n root m) t h ≤ 1048575
+  lower : getD reduced (cell t h) 0 ≤ 1048575
 
 known : (c : tie.Else3)
     → Known (c .before .before .before .before .before .args .n) (c .before .before .before .before .before .args .root)
-    (c .before .before .before .before .before .args .m .now) (c .before .before .before .before .before .args .tail)
+    (c .before .before .before .before .before .args .m .now) (c .before .before .before .before .before .args .reduced .now)
+    (c .before .before .before .before .before .args .tail)
     (c .before .before .before .before .before .args .head)
 known c =
     let b = c .before .before .before .before .before in
     let a = b .args in
+    let p = b .pre .0 in
+    let arc = present (a .n) (a .root) (a .m .now) (p .matrix-ok) (a .tail) (a .head) (p .tail-below) (p .head-below) (c .before .before .if2 .left) (p .not-root) (c .if3 .left) in
+    let most = weight-most (a .n) (a .root) (a .m .now) (p .matrix-ok) (a .tail) (a .head) (p .tail-below) (p .head-below) in
+    let lower = reduced-most (a .n) (a .root) (a .total) (a .m .now) (a .reduced .now) (a .tail) (a .head) (p .costs) arc in
     record {
-      small = b .pre .0 .small;
-      arc = present (a .n) (a .root) (a .m .now) (b .pre .0) (a .tail) (a .head) (b .pre .4) (b .pre .5) (c .before .before .if2 .left) (b .pre .6) (c .if3 .left);
-      same = weight-on (a .n) (a .root) (a .m .now) (b .pre .0) (a .tail) (a .head) (b .pre .4) (b .pre .5);
-      most = weight-most (a .n) (a .root) (a .m .now) (b .pre .0) (a .tail) (a .head) (b .pre .4) (b .pre .5);
+      small = p .matrix-ok .small;
+      arc = arc;
+      same = weight-on (a .n) (a .root) (a .m .now) (p .matrix-ok) (a .tail) (a .head) (p .tail-below) (p .head-below);
+      most = most;
+      lower = omega arith;
     }
 
--- src/usable.rt:57:17
-add-if4 : tie.Need-add-if4
-add-if4 c =
+add-least : tie.Need-add-least
+add-least c =
     let k = known (c .before) in
-    let b = c .before .before .before .before .before .before in
-    let most = b .pre .3 in
-    let lower = reduced-most _ _ _ _ _ _ _ (b .pre .1) (k .arc) in
-    let weight = k .most in
+    let most = c .before .before .before .before .before .before .pre .0 .most in
+    let lower = k .lower in
     omega arith
 
--- src/usable.rt:58:9
 returns-4 : tie.Need-returns-4
 returns-4 c =
     let b = c .before .before .before .before .before .before .before in
     let a = b .args in
-    judged-unusable _ (a .used .now) (b .pre .8) (a .tail) (a .head)
-    (unusable-reduced (a .n) (a .root) (a .budget) (a .m .now) (a .tail) (a .head) (a .reduced .now) (a .total) (b .pre .1) (known (c .before .before) .arc) (c .if4 .taken))
+    judged-unusable _ (a .used .now) (b .pre .1) (a .tail) (a .head)
+    (unusable-reduced (a .n) (a .root) (a .budget) (a .m .now) (a .tail) (a .head) (a .reduced .now) (a .total) (b .pre .0 .costs) (known (c .before .before) .arc) (c .if4 .taken))
 
--- src/usable.rt:61:12
-add-if6 : tie.Need-add-if6
-add-if6 c =
-    let k = known (c .before .before .before) in
-    let b = c .before .before .before .before .before .before .before .before in
-    let rest = b .pre .2 in
-    let total = b .pre .3 in
+exchange-fits-requires : tie.Need-exchange-fits-requires
+exchange-fits-requires c κs =
+    let k = known (c .before .before) in
+    let p = c .before .before .before .before .before .before .before .pre .0 in
+    let rest = p .rest-most in
+    let total = p .most in
     let weight = k .most in
     let same = k .same in
-    let detour = c .if5 .taken in
-    omega arith
+    let lower = k .lower in
+    (omega arith, omega arith)
 
--- src/usable.rt:61:12
-add-if6-2 : tie.Need-add-if6-2
-add-if6-2 c =
-    let k = known (c .before .before .before) in
-    let b = c .before .before .before .before .before .before .before .before in
-    let rest = b .pre .2 in
-    let total = b .pre .3 in
-    let weight = k .most in
-    let same = k .same in
-    let detour = c .if5 .taken in
-    omega arith
-
--- src/usable.rt:62:13
 element-write-used : tie.Need-element-write-used
 element-write-used c = search needs
 
--- src/usable.rt:63:13
 returns-5 : tie.Need-returns-5
 returns-5 c =
     let b = c .before .before .before .before .before .before .before .before .before in
     let a = b .args in
+    let p = b .pre .0 in
     let k = known (c .before .before .before .before) in
     let l = k .small in
-    let tail = b .pre .4 in
-    let in-head = b .pre .5 in
+    let tail = p .tail-below in
+    let in-head = p .head-below in
     let same = k .same in
-    let within = c .if6 .taken in
-    judged-usable _ (a .used .now) (b .pre .8) (a .tail) (a .head) (omega arith) (omega arith)
-    (usable-offer (a .n) (a .root) (a .budget) (a .m .now) (a .tail) (a .head) (a .rest) (a .detour) (b .pre .7) (k .arc) (c .before .if5 .taken) (omega arith))
+    let fits = c .before .exchange-fits .ensures (c .if5 .taken) in
+    let within = fits .1 in
+    judged-usable _ (a .used .now) (b .pre .1) (a .tail) (a .head) (omega arith) (omega arith)
+    (usable-bound (a .n) (a .root) (a .budget) (a .m .now) (a .tail) (a .head) (a .rest) (a .detour) (p .bound) (k .arc) (fits .0) (omega arith))
 
--- src/usable.rt:66:5
 judge-by-planning-requires : tie.Need-judge-by-planning-requires
 judge-by-planning-requires c κs =
-    let b = c .before .before .before .before .before .before .before .before .before in
-    (b .pre .0, known (c .before .before .before .before) .arc, b .pre .8)
+    let b = c .before .before .before .before .before .before .before .before .before .before in
+    (b .pre .0 .matrix-ok, known (c .before .before .before .before .before) .arc, b .pre .1)
 
--- src/usable.rt:42:1
 returns-6 : tie.Need-returns-6
 returns-6 c = search needs
 
@@ -176,12 +152,11 @@ judge-arc-spec =
     mul-weight
     element-copy-out-weight
     returns-3
-    mul-if4
-    element-copy-out-if4
-    add-if4
+    mul-least
+    element-copy-out-least
+    add-least
     returns-4
-    add-if6
-    add-if6-2
+    exchange-fits-requires
     element-write-used
     returns-5
     judge-by-planning-requires

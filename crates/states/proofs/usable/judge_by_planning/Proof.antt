@@ -1,9 +1,11 @@
-use native.Mathlib.Omega.{arith}
-use mathlib.Core.Path.{_≡_, refl, sym, _∙_}
+-- No tree, or one that is too dear: not usable. One that fits: all its arcs are usable. Assumes nothing.
+use mathlib.Core.Path.{_≡_}
 use mathlib.Core.Bool.{true}
 use Prim.Native.Nat.{_≤_}
+use native.Mathlib.Omega.{arith}
 use lib.ListN.{take}
 use borrow.Author.Tests.{not-true, not-false, eqb-false}
+use borrow.Author.Needs.{needs}
 use Rattle.instance.specs.Arborescence.{total}
 use Rattle.instance.specs.Matrix.{unmarked}
 use Rattle.states.specs.Tree.{Matrix-tree}
@@ -11,20 +13,12 @@ use Rattle.states.proofs.CellLaws.{unmarked-ends}
 use Rattle.states.proofs.TreeLaws.{tree-rooted}
 use Rattle.states.proofs.JudgeLaws.{usable-tree, unusable-shut, unusable-dear}
 use Rattle.states.proofs.SoundLaws.{judged-unusable, judged-entered}
-use borrow.Author.Needs.{needs}
 use Rattle.states.proofs.usable.judge_by_planning.Statement.{statement}
 use Rattle.states.proofs.usable.judge_by_planning.Tie as tie
-use Rattle.states.proofs.usable.judge_by_planning.Reads as reads
-use Rattle.states.proofs.usable.judge_by_planning.Lts as lts
-use Rattle.states.proofs.forced.plan_with.Reads as plan-with-reads
-use Rattle.states.proofs.tree.enter_tree.Reads as enter-tree-reads
-use Rattle.states.proofs.tree.tree_total.Reads as tree-total-reads
 
--- src/usable.rt:29:9
 plan-with-requires : tie.Need-plan-with-requires
 plan-with-requires c κs = search needs
 
--- src/usable.rt:32:9
 returns : tie.Need-returns
 returns c =
     let p = c .before .before .before in
@@ -41,11 +35,9 @@ tree : (c : tie.Else1)
     (c .before .before .before .plan-with .result .parents)
 tree c = c .before .before .before .plan-with .ensures .tree (found c)
 
--- src/usable.rt:34:9
 tree-total-requires : tie.Need-tree-total-requires
 tree-total-requires c κs = tree (c .before)
 
--- src/usable.rt:36:9
 returns-2 : tie.Need-returns-2
 returns-2 c =
     let e = c .before .before .before in
@@ -57,14 +49,12 @@ returns-2 c =
     (unusable-dear (a .n) (a .root) (a .budget) (a .m .now) (a .tail) (a .head) (p .plan-with .result .parents) (p .plan-with .result .found) (p .plan-with .ensures)
     (found e) (omega arith))
 
--- src/usable.rt:38:5
 enter-tree-requires : tie.Need-enter-tree-requires
 enter-tree-requires c κs =
     let e = c .before .before .before .before .before in
     let k = tree e in
     (k .matrix-ok .small, k .places, tree-rooted _ _ _ _ k, e .before .before .before .before .pre .2 .size)
 
--- src/usable.rt:25:1
 returns-3 : tie.Need-returns-3
 returns-3 c =
     let e = c .before .before .before .before .before .before in

@@ -1,20 +1,17 @@
-use Rattle.instance.specs.Instance.{cell}
-use Rattle.states.proofs.TreeLaws.{tail-below, own-weight, own-most}
-use Rattle.states.proofs.JudgeLaws.{unusable-root, detour-offer}
-use Rattle.states.proofs.SoundLaws.{head-none, head-unusable, head-more}
-use native.Mathlib.Omega.{arith}
-use mathlib.Core.Path.{_≡_, refl, sym, _∙_}
+-- The arcs from the tails that were passed are judged. Assumes nothing.
+use mathlib.Core.Path.{_≡_}
 use mathlib.Core.List.{[]}
-use Prim.Native.Nat.{ℕ, _-_, _≤_, _<_}
+use Prim.Native.Nat.{_-_, _≤_, _<_}
+use native.Mathlib.Omega.{arith}
 use lib.ListN.{getD}
+use Rattle.instance.specs.Instance.{cell}
 use Rattle.states.specs.Fields.{fields}
 use Rattle.states.specs.Judge.{Judged-head}
+use Rattle.states.proofs.TreeLaws.{tail-below, own-weight, own-most}
+use Rattle.states.proofs.JudgeLaws.{unusable-root, detour-bound}
+use Rattle.states.proofs.SoundLaws.{head-none, head-unusable, head-more}
 use Rattle.states.proofs.usable.judge_head.Statement.{statement}
 use Rattle.states.proofs.usable.judge_head.Tie as tie
-use Rattle.states.proofs.usable.judge_head.Reads as reads
-use Rattle.states.proofs.usable.judge_head.Lts as lts
-use Rattle.states.proofs.exchange.detours.Reads as detours-reads
-use Rattle.states.proofs.usable.judge_arc.Reads as judge-arc-reads
 
 abbrev Inv-loop : tie.InvT-loop
 Inv-loop m reduced parents n root total budget head used₀ detour tail rest t₀ used t =
@@ -23,7 +20,6 @@ Inv-loop m reduced parents n root total budget head used₀ detour tail rest t�
 abbrev μ-loop : tie.MeasureT-loop
 μ-loop m reduced parents n root total budget head used₀ detour tail rest t₀ used t = n - t
 
--- src/usable.rt:75:9
 returns : tie.Need-returns Inv-loop μ-loop
 returns c =
     let b = c .before in
@@ -32,11 +28,9 @@ returns c =
     head-unusable _ (a .head) (a .n) (a .used .now) (b .pre .2)
     (λ t l. unusable-root (a .n) (a .root) (a .budget) (a .m .now) t (a .head) (ok .root-below) (ok .small) l (c .if1 .taken))
 
--- src/usable.rt:77:18
 detours-requires : tie.Need-detours-requires Inv-loop μ-loop
 detours-requires c κs = (c .before .pre .0 .tree, c .before .pre .1, c .if1 .left)
 
--- src/usable.rt:78:16
 element-copy-out-tail : tie.Need-element-copy-out-tail Inv-loop μ-loop
 element-copy-out-tail c = let small = c .before .before .pre .0 .tree .matrix-ok .small in omega arith
 
@@ -57,51 +51,39 @@ own c =
     let most = own-most (a .n) (a .root) (a .m .now) (a .parents .now) (b .pre .0 .tree) (a .head) (b .pre .1) (c .before .before .if1 .left) in
     omega arith
 
--- src/usable.rt:78:16
 cast-tail : tie.Need-cast-tail Inv-loop μ-loop
 cast-tail c = omega (arith, tail c)
 
--- src/usable.rt:79:27
 mul-rest : tie.Need-mul-rest Inv-loop μ-loop
 mul-rest c = omega (arith, tail c)
 
--- src/usable.rt:79:27
 add-rest : tie.Need-add-rest Inv-loop μ-loop
 add-rest c = omega (arith, tail c)
 
--- src/usable.rt:79:26
 cast-rest : tie.Need-cast-rest Inv-loop μ-loop
 cast-rest c = omega (arith, tail c)
 
--- src/usable.rt:79:24
 mul-rest-2 : tie.Need-mul-rest-2 Inv-loop μ-loop
 mul-rest-2 c = omega (arith, tail c)
 
--- src/usable.rt:79:24
 element-copy-out-rest : tie.Need-element-copy-out-rest Inv-loop μ-loop
 element-copy-out-rest c = omega (arith, tail c)
 
--- src/usable.rt:79:16
 sub-rest : tie.Need-sub-rest Inv-loop μ-loop
 sub-rest c = own (c .before)
 
--- src/usable.rt:81:5
 loop-holds : tie.Need-loop-holds Inv-loop μ-loop
 loop-holds c = (omega arith, head-none _ _ _ (c .before .before .before .before .pre .2))
 
--- src/usable.rt:82:68
 cast-judge-arc : tie.Need-cast-judge-arc Inv-loop μ-loop
 cast-judge-arc c = let small = c .before .before .before .before .before .before .pre .0 .tree .matrix-ok .small in omega arith
 
--- src/usable.rt:82:61
 mul-judge-arc : tie.Need-mul-judge-arc Inv-loop μ-loop
 mul-judge-arc c = let small = c .before .before .before .before .before .before .pre .0 .tree .matrix-ok .small in omega arith
 
--- src/usable.rt:82:61
 array-read-judge-arc : tie.Need-array-read-judge-arc Inv-loop μ-loop
 array-read-judge-arc c = let small = c .before .before .before .before .before .before .pre .0 .tree .matrix-ok .small in omega arith
 
--- src/usable.rt:82:9
 judge-arc-requires : tie.Need-judge-arc-requires Inv-loop μ-loop
 judge-arc-requires c κs =
     let i = c .before in
@@ -116,26 +98,25 @@ judge-arc-requires c κs =
     let v = plan .is-total in
     let within = plan .within in
     let most = plan .most in (
-      k .matrix-ok,
-      plan .costs,
-      omega arith,
-      omega arith,
-      omega arith,
-      b .pre .1,
-      d .before .if1 .left,
-      detour-offer _ _ (l .t) (a .head) _ _ (d .detours .ensures .at (l .t) (omega arith)) (omega arith),
+      record {
+        matrix-ok = k .matrix-ok;
+        costs = plan .costs;
+        rest-most = omega arith;
+        most = omega arith;
+        tail-below = omega arith;
+        head-below = b .pre .1;
+        not-root = d .before .if1 .left;
+        bound = detour-bound _ _ (l .t) (a .head) _ _ (d .detours .ensures .at (l .t) (omega arith)) (omega arith);
+      },
       l .inv .1 .sound,
     )
 
--- src/usable.rt:83:9
 add-t : tie.Need-add-t Inv-loop μ-loop
 add-t c = let small = c .before .before .before .before .before .before .before .before .pre .0 .tree .matrix-ok .small in omega arith
 
--- src/usable.rt:81:5
 loop-less : tie.Need-loop-less Inv-loop μ-loop
 loop-less c = let small = c .before .before .before .before .before .before .before .before .pre .0 .tree .matrix-ok .small in omega arith
 
--- src/usable.rt:81:5
 loop-again : tie.Need-loop-again Inv-loop μ-loop
 loop-again c =
     let i = c .before .before in
@@ -145,7 +126,6 @@ loop-again c =
     let head = b .pre .1 in
     (omega arith, head-more _ (b .args .head) (l .t) (b .args .used .now) (l .used) _ (omega arith) (omega arith) small (omega arith) (l .inv .1) (c .judge-arc .ensures))
 
--- src/usable.rt:70:1
 returns-2 : tie.Need-returns-2 Inv-loop μ-loop
 returns-2 c =
     let b = c .before .before .before .before .before .before in

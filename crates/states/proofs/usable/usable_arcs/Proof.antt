@@ -1,9 +1,9 @@
-use lib.ListN.{replicate}
-use native.Mathlib.Omega.{arith}
-use mathlib.Core.Path.{_≡_, refl, sym, _∙_}
+-- The tree is entered, and the arcs into the heads that were passed are judged. Assumes nothing.
+use mathlib.Core.Path.{_≡_, refl}
 use mathlib.Core.List.{[]}
-use Prim.Native.Nat.{ℕ, _-_, _≤_, _<_}
-use lib.ListN.{take}
+use Prim.Native.Nat.{_-_, _≤_}
+use native.Mathlib.Omega.{arith}
+use lib.ListN.{replicate, take}
 use Rattle.states.specs.Fields.{fields}
 use Rattle.states.specs.Judge.{Judged-all}
 use Rattle.states.proofs.TreeLaws.{tree-rooted}
@@ -11,10 +11,6 @@ use Rattle.states.proofs.JudgeLaws.{usable-tree}
 use Rattle.states.proofs.SoundLaws.{sound-none, sound-entered, all-none, all-more, all-judged}
 use Rattle.states.proofs.usable.usable_arcs.Statement.{statement}
 use Rattle.states.proofs.usable.usable_arcs.Tie as tie
-use Rattle.states.proofs.usable.usable_arcs.Reads as reads
-use Rattle.states.proofs.usable.usable_arcs.Lts as lts
-use Rattle.states.proofs.tree.enter_tree.Reads as enter-tree-reads
-use Rattle.states.proofs.usable.judge_head.Reads as judge-head-reads
 
 abbrev Inv-loop : tie.InvT-loop
 Inv-loop m reduced parents n root total budget used₀ head₀ used head =
@@ -23,13 +19,11 @@ Inv-loop m reduced parents n root total budget used₀ head₀ used head =
 abbrev μ-loop : tie.MeasureT-loop
 μ-loop m reduced parents n root total budget used₀ head₀ used head = n - head
 
--- src/usable.rt:93:5
 enter-tree-requires : tie.Need-enter-tree-requires Inv-loop μ-loop
 enter-tree-requires c κs =
     let k = c .before .pre .tree in
     (k .matrix-ok .small, k .places, tree-rooted _ _ _ _ k, refl)
 
--- src/usable.rt:95:5
 loop-holds : tie.Need-loop-holds Inv-loop μ-loop
 loop-holds c =
     let b = c .before .before in
@@ -44,19 +38,15 @@ loop-holds c =
           (λ t h u. usable-tree (a .n) (a .root) (a .budget) (a .m .now) t h ps (k .found) (omega arith) u)),
     )
 
--- src/usable.rt:96:9
 judge-head-requires : tie.Need-judge-head-requires Inv-loop μ-loop
 judge-head-requires c κs = (c .before .before .before .before .before .pre, omega arith, c .before .before .loop .inv .1 .sound)
 
--- src/usable.rt:97:9
 add-head : tie.Need-add-head Inv-loop μ-loop
 add-head c = let small = c .before .before .before .before .before .before .pre .tree .matrix-ok .small in omega arith
 
--- src/usable.rt:95:5
 loop-less : tie.Need-loop-less Inv-loop μ-loop
 loop-less c = omega arith
 
--- src/usable.rt:95:5
 loop-again : tie.Need-loop-again Inv-loop μ-loop
 loop-again c =
     let b = c .before .before .before .before .before .before in
@@ -64,7 +54,6 @@ loop-again c =
     let small = b .pre .tree .matrix-ok .small in
     (omega arith, all-more _ (l .head) (l .used) _ (omega arith) small (l .inv .1) (c .judge-head .ensures))
 
--- src/usable.rt:88:1
 returns : tie.Need-returns Inv-loop μ-loop
 returns c =
     let b = c .before .before .before .before in
