@@ -1,1 +1,6 @@
 -- Laws of bits. Assumes nothing.
+pub mod AllOf
+pub mod NumberLaws
+pub mod ByteLaws
+pub mod FieldLaws
+pub mod WriterLaws

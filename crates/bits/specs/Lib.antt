@@ -1,2 +1,4 @@
--- Bits of numbers and of bytes. Assumes nothing.
+-- Bits of numbers and of bytes, and what a bit writer has put. Assumes nothing.
+
 pub mod Bits
+pub mod Writer

@@ -1,10 +1,9 @@
--- Document 01's card and lengths, and a card of 32 positions, computed. Assumes nothing.
+-- Document 01's card and lengths, computed. Assumes nothing.
 use mathlib.Core.Path.{_≡_, refl}
-use mathlib.Core.Bool.{Bool, true, false, _&&_, _||_, not, cond}
-use mathlib.Core.List.{List, [], _∷_, _++_, map}
-use Prim.Native.Nat.{ℕ, zero, suc, _+_, _*_, _/_, _%_}
-use lib.ListN.{length, replicate, set}
-use Rattle.base.specs.Lists.{all-of, tabulate, tabulate-from}
+use mathlib.Core.List.{List, [], _∷_, map}
+use Prim.Native.Nat.{ℕ}
+use lib.ListN.{replicate, set}
+use Rattle.base.specs.Lists.{all-of}
 use Rattle.bits.specs.Bits.{bits-of, bits-in, number-from, field, packed}
 use Rattle.instance.specs.Limits.{no-arc, free, cells}
 use Rattle.instance.specs.Instance.{Instance, cell, can-be-arc}
@@ -34,13 +33,3 @@ p9-read = refl
 pub p9-opens : card-refusal p9-card ≡ 0
 unfolding card-refusal cells-refusal cell-refusal instance-in cell-fields on-card can-be-arc bits-in bits-of field number-from bits-needed bytes-needed all-of
 p9-opens = refl
-
--- 32 vertices, root 31, every arc of weight 1,000,000 and free
-unfoldable pub large : Instance
-large = record { n = 32; root = 31; budget = 31000000; weights = replicate cells 1000000; marks = replicate cells free }
-
-pub large-opens : card-refusal (card-of large) ≡ 0
-unfolding
-    large card-of packed instance-bits cell-bits card-refusal cells-refusal cell-refusal instance-in cell-fields on-card can-be-arc bits-in bits-of
-    field number-from bits-needed bytes-needed all-of
-large-opens = refl

@@ -1,2 +1,6 @@
 -- The rig card. Assumes nothing.
 pub mod Card
+pub mod Offsets
+pub mod Reading
+pub mod Writing
+pub mod Same

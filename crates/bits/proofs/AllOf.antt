@@ -1,0 +1,34 @@
+-- A test of every element, of a list put together or cut. Assumes nothing.
+use mathlib.Core.Path.{_≡_, refl}
+use mathlib.Core.Bool.{Bool, true}
+use mathlib.Core.List.{List, [], _∷_, _++_}
+use Prim.Native.Nat.{ℕ, zero, suc}
+use lib.ListN.{getD, take, drop}
+use Rattle.base.specs.Lists.{all-of}
+use Rattle.base.proofs.Tests.{and-left, and-right, and-both}
+
+module _ {A : Type 0} (q : A → Bool) where
+  pub all-of-append : (xs ys : List A) → all-of q xs ≡ true → all-of q ys ≡ true → all-of q (xs ++ ys) ≡ true
+  unfolding all-of
+  all-of-append [] ys p r = r
+  all-of-append (x ∷ xs) ys p r =
+      and-both (q x) (all-of q (xs ++ ys)) (and-left (q x) (all-of q xs) p) (all-of-append xs ys (and-right (q x) (all-of q xs) p) r)
+
+  pub all-of-take : (k : ℕ) (xs : List A) → all-of q xs ≡ true → all-of q (take k xs) ≡ true
+  unfolding all-of
+  all-of-take zero xs p = refl
+  all-of-take (suc k) [] p = refl
+  all-of-take (suc k) (x ∷ xs) p =
+      and-both (q x) (all-of q (take k xs)) (and-left (q x) (all-of q xs) p) (all-of-take k xs (and-right (q x) (all-of q xs) p))
+
+  pub all-of-drop : (k : ℕ) (xs : List A) → all-of q xs ≡ true → all-of q (drop k xs) ≡ true
+  unfolding all-of
+  all-of-drop zero xs p = p
+  all-of-drop (suc k) [] p = refl
+  all-of-drop (suc k) (x ∷ xs) p = all-of-drop k xs (and-right (q x) (all-of q xs) p)
+
+  -- every element passes, by index
+  pub all-of-intro : (d : A) (xs : List A) → ((i : ℕ) → q (getD xs i d) ≡ true) → all-of q xs ≡ true
+  unfolding all-of
+  all-of-intro d [] h = refl
+  all-of-intro d (x ∷ xs) h = and-both (q x) (all-of q xs) (h 0) (all-of-intro d xs (λ i. h (suc i)))

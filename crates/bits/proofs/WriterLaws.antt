@@ -1,0 +1,112 @@
+-- Bits put by a writer: within one call, one call after another, and whole bytes from the start. Assumes nothing.
+use mathlib.Core.Path.{_≡_, refl, ap, _∙_, sym}
+use mathlib.Core.Bool.{true}
+use mathlib.Core.List.{List, [], _∷_, _++_, append-assoc, append-nil}
+use Prim.Native.Nat.{ℕ, _+_, _*_, _-_, _/_, _%_, _^_, _≤_, _<_}
+use native.Mathlib.Omega.{arith}
+use native.Mathlib.Numerals.{add-one}
+use lib.Dec.{ltb}
+use lib.ListN.{length, set, take, drop, length-set, length-append, take-append-drop}
+use lib.Seq.{take-suc-set, drop-set-lt, drop-drop, length-take-le}
+use Rattle.bits.specs.Bits.{bits-of, bits-in, packed, are-bytes}
+use Rattle.bits.specs.Writer.{bits-put, Ready, Put}
+use Rattle.bits.specs.declared.BitWriter.{BitWriter}
+use Rattle.bits.proofs.AllOf.{all-of-take}
+use Rattle.bits.proofs.NumberLaws.{length-bits-of, bits-of-none, bits-of-split, bits-of-cut, bits-of-join}
+use Rattle.bits.proofs.ByteLaws.{bits-in-append, bits-in-one, packed-bits-in}
+
+-- WITHIN ONE CALL
+-- The bits that wait and the new ones are one number, `bits`, of which `left` are not stored yet. The loop stores the upper eight.
+pub record Storing (before : List ℕ) (first some bits : ℕ) (out : List ℕ) (at left : ℕ) : Type 0 where
+  pub stored : bits-in (take at out) ++ bits-of left bits ≡ bits-in (take first before) ++ bits-of some bits
+  pub kept : drop at out ≡ drop at before
+  pub long : length out ≡ length before
+  pub fewer : left ≤ some
+  pub moved : 8 * at + left ≡ 8 * first + some
+
+dropped : (m n : ℕ) (xs ys : List ℕ) → m ≤ n → drop m xs ≡ drop m ys → drop n xs ≡ drop n ys
+dropped m n xs ys h e =
+    let s : m + (n - m) ≡ n = omega arith in
+    rw (← s) (sym (drop-drop (n - m) m xs) ∙ ap (λ (l : List ℕ). drop (n - m) l) e ∙ drop-drop (n - m) m ys)
+
+byte-then : (k v : ℕ) → 8 ≤ k → bits-of 8 (v / 2 ^ (k - 8) % 256) ++ bits-of (k - 8) v ≡ bits-of k v
+byte-then k v h =
+    let e : 8 + (k - 8) ≡ k = omega arith in
+    rw (bits-of-cut 0 8 (v / 2 ^ (k - 8))) (sym (bits-of-split 8 (k - 8) v) ∙ rw e)
+
+pub store-byte : {before : List ℕ} {first some bits : ℕ} (out : List ℕ) (at left : ℕ) → Storing before first some bits out at left →
+    at < length out → 8 ≤ left → Storing before first some bits (set out at (bits / 2 ^ (left - 8) % 256)) (at + 1) (left - 8)
+store-byte {before} {first} {some} {bits} out at left s h l =
+    let b = bits / 2 ^ (left - 8) % 256 in
+    record {
+      stored =
+          rw (add-one, take-suc-set out at b h, bits-in-append (take at out) (b ∷ []), bits-in-one b, append-assoc, byte-then left bits l) (s .stored);
+      kept = drop-set-lt (at + 1) out at b (omega arith) ∙ dropped at (at + 1) out before (omega arith) (s .kept);
+      long = length-set out at b ∙ s .long;
+      fewer = omega (arith, s .fewer);
+      moved = omega (arith, s .moved);
+    }
+
+-- what the loop leaves is what one call puts
+pub all-stored : (before : List ℕ) (w : BitWriter) (k v : ℕ) (out : List ℕ) (at left : ℕ) →
+    Storing before (w .at) (w .count + k) (w .partial * 2 ^ k + v % 2 ^ k) out at left → left < 8 →
+    Put before w (bits-of k v) out (record { at = at; partial = (w .partial * 2 ^ k + v % 2 ^ k) % 256; count = left })
+unfolding bits-put
+all-stored before w k v out at left s h =
+    let b = w .partial * 2 ^ k + v % 2 ^ k in
+    let e : 8 - left + left ≡ 8 = omega arith in
+    let c : bits-of left (b % 256) ≡ bits-of left b = rw e at (bits-of-cut (8 - left) left b) in
+    record {
+      all-put = rw c (s .stored ∙ rw (bits-of-join (w .count) k (w .partial) v) (sym (append-assoc (bits-in (take (w .at) before)) (bits-of (w .count) (w .partial)) (bits-of k v))));
+      kept = s .kept;
+      long = s .long;
+      few = h;
+      moved = rw (length-bits-of k v) (omega (arith, s .moved));
+    }
+
+-- ONE CALL AFTER ANOTHER
+pub put-none : (out : List ℕ) (w : BitWriter) → w .count < 8 → Put out w [] out w
+put-none out w h = record { all-put = sym (append-nil (bits-put out w)); kept = refl; long = refl; few = h; moved = omega arith }
+
+pub put-then : (xs ys zs : List ℕ) (p q r : BitWriter) (cs bs : List ℕ) → Put xs p cs ys q → Put ys q bs zs r → Put xs p (cs ++ bs) zs r
+put-then xs ys zs p q r cs bs u v = record {
+  all-put = v .all-put ∙ rw (u .all-put, append-assoc);
+  kept = v .kept ∙ dropped (q .at) (r .at) ys xs (omega (arith, v .moved, v .few, u .few)) (u .kept);
+  long = v .long ∙ u .long;
+  few = v .few;
+  moved = rw (length-append cs bs) (omega (arith, u .moved, v .moved));
+}
+
+-- room for what comes next
+pub ready-next : (xs ys : List ℕ) (p q : BitWriter) (bs : List ℕ) (k m : ℕ) → Put xs p bs ys q → length bs ≡ k → Ready xs p (k + m) → Ready ys q m
+ready-next xs ys p q bs k m u e r = record { few = u .few; room = omega (arith, u .moved, u .long, r .room) }
+
+-- room for fewer bits
+pub ready-fewer : (out : List ℕ) (w : BitWriter) (k m : ℕ) → m ≤ k → Ready out w k → Ready out w m
+ready-fewer out w k m h r = record { few = r .few; room = omega (arith, r .room) }
+
+-- room for a part of bits that all have room
+pub ready-part : (xs ys : List ℕ) (p q : BitWriter) (bs cs ds all : List ℕ) → Put xs p bs ys q → bs ++ (cs ++ ds) ≡ all → Ready xs p (length all) → Ready ys q (length cs)
+ready-part xs ys p q bs cs ds all u e r =
+    let l : length bs + (length cs + length ds) ≡ length all = simp length-append at (ap length e) in
+    record { few = u .few; room = omega (arith, u .moved, u .long, r .room) }
+
+-- WHOLE BYTES
+abbrev pub fresh : BitWriter
+fresh = record { at = 0; partial = 0; count = 0 }
+
+none-put : (xs : List ℕ) → bits-put xs fresh ≡ []
+unfolding bits-put bits-of bits-in
+none-put xs = refl
+
+-- whole bytes were put from the start: the buffer is those bytes, and what it was behind them
+pub bytes-put : (xs ys : List ℕ) (r : BitWriter) (bs : List ℕ) (k : ℕ) → Put xs fresh bs ys r → length bs ≡ 8 * k → k ≤ length xs → are-bytes ys ≡ true →
+    (r .at ≡ k) × (ys ≡ packed k bs ++ drop k xs)
+unfolding bits-put
+bytes-put xs ys r bs k u n l b =
+    let h : r .count ≡ 0 = omega (arith, u .moved, u .few) in
+    let a : r .at ≡ k = omega (arith, u .moved, u .few) in
+    let e : bits-in (take k ys) ≡ bs = rw (none-put xs, h, a, bits-of-none, append-nil) at (u .all-put) in
+    let t : length (take k ys) ≡ k = length-take-le k ys (omega (arith, u .long)) in
+    let w : packed k bs ≡ take k ys = rw (t, e) at (packed-bits-in (take k ys) (all-of-take (λ x. ltb x 256) k ys b)) in
+    (a, sym (take-append-drop k ys) ∙ rw (w, ← rw a at (u .kept)))

@@ -1,0 +1,2 @@
+-- A computed proof. Assumes nothing.
+pub mod LargeCard

@@ -1,0 +1,1 @@
+// A computed proof alone: there is no code here.
