@@ -1,1 +1,9 @@
--- Assumes nothing.
+-- Laws of the model and of lists of commands, and what they say of the program's own boards. Assumes nothing.
+pub mod AllOfLaws
+pub mod ArcLaws
+pub mod CommandLaws
+pub mod ValidLaws
+pub mod LogLaws
+pub mod BoardLaws
+pub mod CallLaws
+pub mod RunLaws

@@ -1,1 +1,46 @@
-// The board: commands and undo.
+// The board: an instance with the history of what was replaced on it, handed in and back by value. Commands set a mark or the
+// budget and record what they replaced, undo restores it; a board that is invalid is refused before anything else is judged.
+// Everything is held against the model of specs/Model.antt, by the definitions of specs/ModelOf.antt.
+pub mod valid; // valid.rt: whether a board is valid
+pub mod commands; // commands.rt: the commands and undo
+pub mod create; // create.rt: a new board, and the blank one
+
+use instance::Vertex;
+
+// What a command replaced: tail, head and mark of an arc, or the budget. Small, since a board holds 200 of them: tail and head are
+// below 32 where it is written. A group of marks (a further variant) comes in here and in `replaced-of` of the specs alone.
+pub enum Replaced {
+    Mark(u8, u8, u8),
+    Budget(u32),
+}
+
+pub struct UndoRecord {
+    pub replaced: Replaced,
+}
+
+// Weights and marks have a stride of 32. The first `count` records are the history, the latest last; the places after them are
+// never looked at, and neither is a cell where no arc can be.
+pub struct Board {
+    pub n: u32,
+    pub root: u32,
+    pub budget: u32,
+    pub weights: [u32; 1024],
+    pub marks: [u8; 1024],
+    pub records: [UndoRecord; 200],
+    pub count: usize,
+}
+
+// What a command gives: 0 or the number of the refusal, and the board that is left.
+pub struct Answered {
+    pub answer: u32,
+    pub board: Board,
+}
+
+// A command as a value, for lists of commands.
+pub enum Command {
+    Pin(Vertex, Vertex),
+    Ban(Vertex, Vertex),
+    Clear(Vertex, Vertex),
+    SetBudget(u32),
+    TakeBack,
+}

@@ -1,0 +1,45 @@
+-- `record_ok` is the definition, by what was replaced. Assumes nothing.
+use borrow.Author.Needs.{needs}
+use Rattle.board.specs.Model.{record-ok}
+use Rattle.board.proofs.valid.record_ok.Statement.{statement}
+use Rattle.board.proofs.valid.record_ok.Tie as tie
+
+enum-known-replaced : tie.Need-enum-known-replaced
+enum-known-replaced c = search needs
+
+cast-is-arc : tie.Need-cast-is-arc
+cast-is-arc c = search needs
+
+cast-is-arc-2 : tie.Need-cast-is-arc-2
+cast-is-arc-2 c = search needs
+
+is-arc-requires : tie.Need-is-arc-requires
+is-arc-requires c κs = search needs
+
+enum-known-replaced-2 : tie.Need-enum-known-replaced-2
+enum-known-replaced-2 c = search needs
+
+returns : tie.Need-returns
+unfolding record-ok
+returns c = rw (c .before .before .before .replaced .given .1) (simp (← c .before .is-arc .ensures, c .if1 .taken))
+
+returns-2 : tie.Need-returns-2
+unfolding record-ok
+returns-2 c = rw (c .before .before .before .replaced .given .1) (simp (← c .before .is-arc .ensures, c .if1 .left))
+
+returns-3 : tie.Need-returns-3
+unfolding record-ok
+returns-3 c = rw (c .before .replaced2 .given .1)
+
+pub record-ok-spec : {M : Type 1} → statement M
+record-ok-spec =
+    tie.close
+    (tie.spec
+    enum-known-replaced
+    cast-is-arc
+    cast-is-arc-2
+    is-arc-requires
+    enum-known-replaced-2
+    returns
+    returns-2
+    returns-3)

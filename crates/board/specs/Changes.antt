@@ -1,0 +1,55 @@
+-- What a command may alter: "No press or take-back alters the positions, the root, a price, or any mark that neither it nor the
+-- record taken back names." Assumes nothing: these are definitions.
+use mathlib.Core.Path.{_≡_}
+use mathlib.Core.Bool.{Bool, true, false}
+use mathlib.Core.List.{List, [], _∷_}
+use Prim.Native.Nat.{ℕ}
+use lib.Dec.{eqb}
+use lib.ListN.{length}
+use Rattle.instance.specs.Instance.{Instance, cell, mark-at}
+use Rattle.board.specs.Model.{Command, pin, ban, clear, set-budget, undo, Replaced, old-mark, old-budget, Model}
+
+unfoldable pub is-undo : Command → Bool
+is-undo (pin t h) = false
+is-undo (ban t h) = false
+is-undo (clear t h) = false
+is-undo (set-budget v) = false
+is-undo undo = true
+
+-- the cell i is the one whose mark a record restores
+unfoldable pub restores-cell : Replaced → (i : ℕ) → Bool
+restores-cell (old-mark t h m) i = eqb i (cell t h)
+restores-cell (old-budget v) i = false
+
+unfoldable pub restores-budget : Replaced → Bool
+restores-budget (old-mark t h m) = false
+restores-budget (old-budget v) = true
+
+-- the cell i is named by a command, or by the record that it takes back
+unfoldable pub names-cell : Command → (history : List Replaced) → (i : ℕ) → Bool
+names-cell (pin t h) rs i = eqb i (cell t h)
+names-cell (ban t h) rs i = eqb i (cell t h)
+names-cell (clear t h) rs i = eqb i (cell t h)
+names-cell (set-budget v) rs i = false
+names-cell undo [] i = false
+names-cell undo (r ∷ rs) i = restores-cell r i
+
+unfoldable pub names-budget : Command → (history : List Replaced) → Bool
+names-budget (pin t h) rs = false
+names-budget (ban t h) rs = false
+names-budget (clear t h) rs = false
+names-budget (set-budget v) rs = true
+names-budget undo [] = false
+names-budget undo (r ∷ rs) = restores-budget r
+
+-- two instances that differ at most in the marks of the cells that pass the test, and in the budget if that is named
+pub record Differs-only (named : ℕ → Bool) (budget-named : Bool) (s t : Instance) : Type 0 where
+  pub n : t .n ≡ s .n
+  pub root : t .root ≡ s .root
+  pub weights : t .weights ≡ s .weights
+  pub marks-length : length (t .marks) ≡ length (s .marks)
+  pub marks : (i : ℕ) → named i ≡ false → mark-at t i ≡ mark-at s i
+  pub budget : budget-named ≡ false → t .budget ≡ s .budget
+
+abbrev pub Changes-only-named : Command → (before after : Model) → Type 0
+Changes-only-named c b a = Differs-only (names-cell c (b .history)) (names-budget c (b .history)) (b .instance) (a .instance)

@@ -1,0 +1,192 @@
+// Pin, ban, clear, set budget and undo. `execute` judges the board first (15) and then hands over to the command, which judges its
+// own arguments; the five public calls are `execute` at a fixed command.
+ghost use mathlib.Core.Path.{_≡_};
+ghost use mathlib.Core.Bool.{true};
+ghost use Prim.Native.Nat.{_≤_, _<_};
+ghost use lib.ListN.{length};
+ghost use Rattle.instance.specs.Matrix.{unmarked};
+ghost use Rattle.board.specs.Model as model;
+ghost use Rattle.board.specs.Model.{marked, budgeted, undone, restored as restored', record-ok, answered, valid};
+ghost use Rattle.board.specs.ModelOf.{model-of, instance-of, history-of, replaced-of, command-of, mark-refusal, Answers, Records, Restores};
+use crate::Answered;
+use crate::Board;
+use crate::Command;
+use crate::Replaced;
+use crate::UndoRecord;
+use crate::valid::BANNED;
+use crate::valid::FREE;
+use crate::valid::MAX_BUDGET;
+use crate::valid::MAX_RECORDS;
+use crate::valid::is_arc;
+use crate::valid::is_valid;
+use instance::Vertex;
+
+const PINNED: u8 = 1;
+
+// The number that refuses a mark on a valid board, or 0.
+fn mark_refusal(weights: &[u32; 1024], n: u32, root: u32, count: usize, tail: u32, head: u32) -> u32
+    requires { ⌜ (n ≤ 32) × (length (now weights) ≡ 1024) ⌝ }
+    ensures { λ r. ⌜ r ≡ mark-refusal (unmarked n root (now (weights .entry))) count tail head ⌝ }
+{
+    let arc = is_arc(weights, n, root, tail, head);
+    if n <= tail {
+        return 9;
+    }
+    if n <= head {
+        return 9;
+    }
+    if !arc {
+        return 10;
+    }
+    if MAX_RECORDS <= count {
+        return 12;
+    }
+    0
+}
+
+// Adds a record to the history.
+fn recorded(b: Board, replaced: Replaced) -> Board
+    requires { ⌜ b .count < 200 ⌝ }
+    ensures { λ r. ⌜ Records (replaced-of replaced) b r ⌝ }
+{
+    let at = b.count;
+    let mut next = b;
+    next.records[at] = UndoRecord { replaced: replaced };
+    next.count = at + 1;
+    next
+}
+
+fn set_mark(b: Board, mark: u8, tail: u32, head: u32) -> Answered
+    requires { ⌜ b .n ≤ 32 ⌝ }
+    ensures { λ r. ⌜ Answers (marked mark tail head (model-of b)) b r ⌝ }
+{
+    let n = b.n;
+    let root = b.root;
+    let count = b.count;
+    let refusal = mark_refusal(&b.weights, n, root, count, tail, head);
+    if refusal != 0 {
+        return Answered {
+            answer: refusal,
+            board: b,
+        };
+    }
+    let i = (32 * tail + head) as usize;
+    let old = b.marks[i];
+    let mut next = recorded(b, Replaced::Mark(tail as u8, head as u8, old));
+    next.marks[i] = mark;
+    Answered {
+        answer: 0,
+        board: next,
+    }
+}
+
+fn change_budget(b: Board, budget: u32) -> Answered
+    ensures { λ r. ⌜ Answers (budgeted budget (model-of b)) b r ⌝ }
+{
+    let at = b.count;
+    let old = b.budget;
+    if MAX_BUDGET < budget {
+        return Answered {
+            answer: 11,
+            board: b,
+        };
+    }
+    if MAX_RECORDS <= at {
+        return Answered {
+            answer: 12,
+            board: b,
+        };
+    }
+    let mut next = recorded(b, Replaced::Budget(old));
+    next.budget = budget;
+    Answered {
+        answer: 0,
+        board: next,
+    }
+}
+
+fn restored(b: Board, replaced: Replaced) -> Board
+    requires { ⌜ (b .n ≤ 32) × (record-ok (instance-of b) (replaced-of replaced) ≡ true) ⌝ }
+    ensures { λ r. ⌜ Restores (replaced-of replaced) b r ⌝ }
+{
+    let mut next = b;
+    match replaced {
+        Replaced::Mark(tail, head, old) => {
+            let i = 32 * (tail as usize) + (head as usize);
+            next.marks[i] = old;
+        }
+        Replaced::Budget(budget) => {
+            next.budget = budget;
+        }
+    }
+    next
+}
+
+fn undo_latest(b: Board) -> Answered
+    requires { ⌜ valid (model-of b) ≡ true ⌝ }
+    ensures { λ r. ⌜ Answers (undone (history-of (b .count) (b .records)) (model-of b)) b r ⌝ }
+{
+    let at = b.count;
+    if at == 0 {
+        return Answered {
+            answer: 13,
+            board: b,
+        };
+    }
+    let e = b.records[at - 1];
+    let replaced = e.replaced;
+    let mut next = restored(b, replaced);
+    next.count = at - 1;
+    Answered {
+        answer: 0,
+        board: next,
+    }
+}
+
+pub fn execute(b: Board, command: Command) -> Answered
+    ensures { λ r. ⌜ Answers (answered (command-of command) (model-of b)) b r ⌝ }
+{
+    if !is_valid(b) {
+        return Answered {
+            answer: 15,
+            board: b,
+        };
+    }
+    match command {
+        Command::Pin(tail, head) => set_mark(b, PINNED, tail.0, head.0),
+        Command::Ban(tail, head) => set_mark(b, BANNED, tail.0, head.0),
+        Command::Clear(tail, head) => set_mark(b, FREE, tail.0, head.0),
+        Command::SetBudget(budget) => change_budget(b, budget),
+        Command::TakeBack => undo_latest(b),
+    }
+}
+
+pub fn pin(b: Board, tail: Vertex, head: Vertex) -> Answered
+    ensures { λ r. ⌜ Answers (answered (model.pin (tail .0) (head .0)) (model-of b)) b r ⌝ }
+{
+    execute(b, Command::Pin(tail, head))
+}
+
+pub fn ban(b: Board, tail: Vertex, head: Vertex) -> Answered
+    ensures { λ r. ⌜ Answers (answered (model.ban (tail .0) (head .0)) (model-of b)) b r ⌝ }
+{
+    execute(b, Command::Ban(tail, head))
+}
+
+pub fn clear(b: Board, tail: Vertex, head: Vertex) -> Answered
+    ensures { λ r. ⌜ Answers (answered (model.clear (tail .0) (head .0)) (model-of b)) b r ⌝ }
+{
+    execute(b, Command::Clear(tail, head))
+}
+
+pub fn set_budget(b: Board, budget: u32) -> Answered
+    ensures { λ r. ⌜ Answers (answered (model.set-budget budget) (model-of b)) b r ⌝ }
+{
+    execute(b, Command::SetBudget(budget))
+}
+
+pub fn take_back(b: Board) -> Answered
+    ensures { λ r. ⌜ Answers (answered model.undo (model-of b)) b r ⌝ }
+{
+    execute(b, Command::TakeBack)
+}

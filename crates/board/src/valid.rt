@@ -1,0 +1,167 @@
+// Whether a board is valid: every field in its range, no mark where there is no arc, at most 200 records, and each of them naming
+// an arc and restoring a mark or a budget in range (document 01, refusal 15).
+ghost use mathlib.Core.Path.{_≡_};
+ghost use Prim.Native.Nat.{_≤_, _<_};
+ghost use lib.ListN.{length};
+ghost use Rattle.base.specs.Bounded.{all-below};
+ghost use Rattle.base.specs.Lists.{all-of};
+ghost use Rattle.instance.specs.Instance.{can-be-arc, is-arc};
+ghost use Rattle.instance.specs.Matrix.{unmarked};
+ghost use Rattle.instance.specs.Valid.{cell-ok, cell-valid, header-valid};
+ghost use Rattle.board.specs.Model.{record-ok, valid};
+ghost use Rattle.board.specs.ModelOf.{instance-with, instance-of, replaced-of, history-of, model-of};
+use crate::Board;
+use crate::Replaced;
+
+// The limits of document 01.
+pub const MAX_VERTICES: u32 = 32;
+
+pub const MAX_WEIGHT: u32 = 1000000;
+
+pub const NO_ARC: u32 = 1048575;
+
+pub const MAX_BUDGET: u32 = 31000000;
+
+pub const FREE: u8 = 0;
+
+pub const BANNED: u8 = 2;
+
+pub const MAX_RECORDS: usize = 200;
+
+fn can_be_arc(n: u32, root: u32, tail: u32, head: u32) -> bool
+    ensures { λ r. ⌜ r ≡ can-be-arc n root tail head ⌝ }
+{
+    if n <= tail {
+        return false;
+    }
+    if n <= head {
+        return false;
+    }
+    if tail == head {
+        return false;
+    }
+    head != root
+}
+
+pub fn is_arc(weights: &[u32; 1024], n: u32, root: u32, tail: u32, head: u32) -> bool
+    requires { ⌜ (n ≤ 32) × (length (now weights) ≡ 1024) ⌝ }
+    ensures { λ r. ⌜ r ≡ is-arc (unmarked n root (now (weights .entry))) tail head ⌝ }
+{
+    if can_be_arc(n, root, tail, head) {
+        let i = (32 * tail + head) as usize;
+        return weights[i] != NO_ARC;
+    }
+    false
+}
+
+fn cell_ok(weight: u32, mark: u8) -> bool
+    ensures { λ r. ⌜ r ≡ cell-ok weight mark ⌝ }
+{
+    if weight <= MAX_WEIGHT {
+        return mark <= BANNED;
+    }
+    if weight == NO_ARC {
+        return mark == FREE;
+    }
+    false
+}
+
+fn cell_valid<'a>(
+    weights: &'a [u32; 1024],
+    marks: &'a [u8; 1024],
+    n: u32,
+    root: u32,
+    i: usize,
+) -> bool
+    requires { ⌜ i < 1024 ⌝ }
+    requires { ⌜ (length (now weights) ≡ 1024) × (length (now marks) ≡ 1024) ⌝ }
+    ensures { λ r. ⌜ r ≡ cell-valid (instance-with n root 0 (now (weights .entry)) (now (marks .entry))) i ⌝ }
+{
+    if can_be_arc(n, root, (i / 32) as u32, (i % 32) as u32) {
+        return cell_ok(weights[i], marks[i]);
+    }
+    true
+}
+
+fn cells_valid<'a>(weights: &'a [u32; 1024], marks: &'a [u8; 1024], n: u32, root: u32) -> bool
+    requires { ⌜ (length (now weights) ≡ 1024) × (length (now marks) ≡ 1024) ⌝ }
+    ensures { λ r. ⌜ r ≡ all-below 1024 (cell-valid (instance-with n root 0 (now (weights .entry)) (now (marks .entry)))) ⌝ }
+{
+    let mut k: usize = 1024;
+    while 0 < k {
+        k -= 1;
+        if !cell_valid(weights, marks, n, root, k) {
+            return false;
+        }
+    }
+    true
+}
+
+fn record_ok(replaced: Replaced, weights: &[u32; 1024], n: u32, root: u32) -> bool
+    requires { ⌜ (n ≤ 32) × (length (now weights) ≡ 1024) ⌝ }
+    ensures { λ r. ⌜ r ≡ record-ok (unmarked n root (now (weights .entry))) (replaced-of replaced) ⌝ }
+{
+    match replaced {
+        Replaced::Mark(tail, head, mark) => {
+            if is_arc(weights, n, root, tail as u32, head as u32) {
+                mark <= BANNED
+            } else {
+                false
+            }
+        }
+        Replaced::Budget(budget) => budget <= MAX_BUDGET,
+    }
+}
+
+fn records_valid(b: Board) -> bool
+    requires { ⌜ (b .n ≤ 32) × (b .count ≤ 200) ⌝ }
+    ensures { λ r. ⌜ r ≡ all-of (record-ok (instance-of b)) (history-of (b .count) (b .records)) ⌝ }
+{
+    let n = b.n;
+    let root = b.root;
+    let mut k = b.count;
+    while 0 < k {
+        k -= 1;
+        let e = b.records[k];
+        let r = e.replaced;
+        if !record_ok(r, &b.weights, n, root) {
+            return false;
+        }
+    }
+    true
+}
+
+fn header_valid(n: u32, root: u32, budget: u32) -> bool
+    ensures { λ r. ⌜ r ≡ header-valid n root budget ⌝ }
+{
+    if n < 1 {
+        return false;
+    }
+    if MAX_VERTICES < n {
+        return false;
+    }
+    if n <= root {
+        return false;
+    }
+    budget <= MAX_BUDGET
+}
+
+// What may be judged depends on what was judged before: cells on n and root, records on n and the count.
+pub fn is_valid(b: Board) -> bool
+    ensures { λ r. ⌜ r ≡ valid (model-of b) ⌝ }
+{
+    let n = b.n;
+    let root = b.root;
+    let budget = b.budget;
+    let count = b.count;
+    if !header_valid(n, root, budget) {
+        return false;
+    }
+    if !cells_valid(&b.weights, &b.marks, n, root) {
+        return false;
+    }
+    if MAX_RECORDS < count {
+        return false;
+    }
+    records_valid(b)
+}
