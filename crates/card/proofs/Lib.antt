@@ -6,3 +6,4 @@ pub mod ReadingLaws
 pub mod WritingLaws
 pub mod OpensLaws
 pub mod CardAgain
+pub mod WorkedRefusals
