@@ -7,3 +7,5 @@ pub mod LogLaws
 pub mod BoardLaws
 pub mod CallLaws
 pub mod RunLaws
+pub mod WorkedCommands
+pub mod SameBoards

@@ -3,4 +3,5 @@
 pub mod Model
 pub mod Log
 pub mod Changes
+pub mod SameBoard
 pub mod ModelOf

@@ -8,3 +8,4 @@ pub mod OpensLaws
 pub mod CardAgain
 pub mod WrittenBits
 pub mod InstanceAgain
+pub mod WorkedRefusals

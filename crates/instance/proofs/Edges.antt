@@ -1,9 +1,9 @@
 -- Edges of the definitions, computed: document 01's cuts for P1 and its traps, sets that are no cut, two pins into one vertex, lists
--- that are no arborescence, a matrix that is too short. Assumes nothing.
+-- that are no arborescence, a matrix that is too short, a root other than 0 and weights of 0. Assumes nothing.
 use mathlib.Core.Path.{_≡_, refl}
 use mathlib.Core.Bool.{Bool, true, false, _&&_, not, cond}
 use mathlib.Core.List.{List, [], _∷_, map}
-use Prim.Native.Nat.{ℕ, _<_}
+use Prim.Native.Nat.{ℕ, suc, _<_}
 use native.Mathlib.Omega.{arith}
 use lib.Dec.{ltb, leb, eqb}
 use borrow.Author.Tests.{ltb-true, leb-true, not-true}
@@ -14,10 +14,10 @@ use Rattle.base.proofs.BoundedLaws.{all-at}
 use Rattle.instance.specs.Limits.{no-arc, pinned, banned}
 use Rattle.instance.specs.Instance.{Instance, weight, mark, can-be-arc, is-arc}
 use Rattle.instance.specs.Arborescence.{is-pinned, other-pinned, remaining, reaches, parent-ok, is-arborescence, total, uses}
-use Rattle.instance.specs.Candidates.{prefixed, choices, candidates-from, candidates}
-use Rattle.instance.specs.Cuts.{Cut, inside, enters, charged, values, set-ok, sets-ok, all-positive, Proves, reduced-cost, No-entry}
-use Rattle.instance.specs.States.{fits, fitting, state-over, state}
-use Rattle.instance.proofs.WorkedCases.{arc, filled, instance-of, sheet-q, two}
+use Rattle.instance.specs.Candidates.{prefixed, choices, candidates-from, candidates, arborescences, lesser, least-total, cheapest}
+use Rattle.instance.specs.Cuts.{Cut, cuts-from, cuts-in, inside, enters, charged, values, set-ok, sets-ok, all-positive, Proves, reduced-cost, No-entry}
+use Rattle.instance.specs.States.{plan, outcome-at, outcome, fits, fitting, state-over, state, states}
+use Rattle.instance.proofs.WorkedCases.{At, arc, filled, instance-of, instance-q, two, optimal-in, computed}
 
 -- A TABLE OF CELLS: a test of every remaining arc, computed, holds of every remaining arc
 unfoldable each-remaining : Instance → (P : (tail head : ℕ) → Bool) → Bool
@@ -46,18 +46,18 @@ cut c v = record { set = c; value = v }
 unfoldable pub p1-cuts : List Cut
 p1-cuts = cut 2 2 ∷ cut 4 1 ∷ cut 8 4 ∷ cut 6 5 ∷ cut 14 3 ∷ []
 
-p1-covered : each-remaining (sheet-q 16 []) (λ t h. leb (charged p1-cuts t h) (weight (sheet-q 16 []) t h)) ≡ true
+p1-covered : each-remaining (instance-q 16 []) (λ t h. leb (charged p1-cuts t h) (weight (instance-q 16 []) t h)) ≡ true
 unfolding
-    each-remaining all-below any-below sheet-q instance-of filled weight mark can-be-arc is-arc is-pinned other-pinned remaining inside enters
+    each-remaining all-below any-below instance-q instance-of filled weight mark can-be-arc is-arc is-pinned other-pinned remaining inside enters
     charged p1-cuts
 p1-covered = refl
 
-p1-sets : sets-ok (sheet-q 16 []) p1-cuts ≡ true
-unfolding sets-ok set-ok inside sheet-q instance-of p1-cuts
+p1-sets : sets-ok (instance-q 16 []) p1-cuts ≡ true
+unfolding sets-ok set-ok inside instance-q instance-of p1-cuts
 p1-sets = refl
 
-pub p1-proves : Proves (sheet-q 16 []) p1-cuts 15
-unfolding all-positive values p1-cuts sheet-q instance-of
+pub p1-proves : Proves (instance-q 16 []) p1-cuts 15
+unfolding all-positive values p1-cuts instance-q instance-of
 p1-proves =
     record {
       feasible =
@@ -65,22 +65,26 @@ p1-proves =
             sets = p1-sets;
             covered =
                 λ t h r.
-                leb-true (charged p1-cuts t h) (weight (sheet-q 16 []) t h)
-                (at-remaining (sheet-q 16 []) (λ u v. leb (charged p1-cuts u v) (weight (sheet-q 16 []) u v)) p1-covered t h r);
+                leb-true (charged p1-cuts t h) (weight (instance-q 16 []) t h)
+                (at-remaining (instance-q 16 []) (λ u v. leb (charged p1-cuts u v) (weight (instance-q 16 []) u v)) p1-covered t h r);
           };
       positive = refl;
       few = omega arith;
       adds = refl;
     }
 
--- "in P3, 2→1 has reduced price 0 under the cuts above, yet the cheapest tree with it costs 16": it is closed
-pub p3-reduced : reduced-cost (sheet-q 15 []) p1-cuts 2 1 ≡ 0
-unfolding reduced-cost charged enters inside weight sheet-q instance-of filled p1-cuts
-p3-reduced = refl
+-- the arcs of Q with their reduced costs under those cuts
+unfoldable pub p1-reduced : List At
+p1-reduced = arc 0 1 0 ∷ arc 0 2 1 ∷ arc 0 3 1 ∷ arc 1 2 0 ∷ arc 1 3 0 ∷ arc 2 1 0 ∷ arc 2 3 5 ∷ arc 3 1 0 ∷ []
 
-pub p3-excluded : state (sheet-q 15 []) 2 1 ≡ 1
+pub reduced-costs : map (λ a. reduced-cost (instance-q 15 []) p1-cuts (a .tail) (a .head)) p1-reduced ≡ map (λ a. a .is) p1-reduced
+unfolding reduced-cost charged enters inside weight instance-q instance-of filled p1-cuts p1-reduced
+reduced-costs = refl
+
+-- "in P3, 2→1 has reduced price 0 under the cuts above, yet the cheapest tree with it costs 16": it is closed
+pub p3-excluded : state (instance-q 15 []) 2 1 ≡ 1
 unfolding
-    sheet-q instance-of filled all-below any-below sum-below tabulate-from tabulate select any-of all-of weight mark can-be-arc is-arc is-pinned
+    instance-q instance-of filled all-below any-below sum-below tabulate-from tabulate select any-of all-of weight mark can-be-arc is-arc is-pinned
     other-pinned remaining reaches parent-ok is-arborescence total uses prefixed choices candidates-from candidates fits fitting state-over state
 p3-excluded = refl
 
@@ -99,9 +103,18 @@ banned-no-entry =
       shut = λ t h r. not-true (enters 2 t h) (at-remaining (two 5 (arc 0 1 banned ∷ [])) (λ u v. not (enters 2 u v)) banned-shut t h r);
     }
 
+-- .. "with amount 0": a pair of another amount is none
+pub other-value : (s : Instance) (c v : ℕ) → No-entry s (cut c (suc v)) → ⊥
+other-value s c v e = omega (arith, e .value-zero)
+
+-- "pairs (set, amount)" of words, so many; the words after them are not read
+pub pairs-read : cuts-in 2 (2 ∷ 3 ∷ 12 ∷ 7 ∷ 5 ∷ 9 ∷ []) ≡ cut 2 3 ∷ cut 12 7 ∷ []
+unfolding cuts-in cuts-from
+pairs-read = refl
+
 -- A SET is no cut if it is empty, has the root, or has a vertex that the instance lacks; {1,2,3} is one
-pub sets-judged : map (set-ok (sheet-q 16 [])) (0 ∷ 3 ∷ 16 ∷ 14 ∷ []) ≡ false ∷ false ∷ false ∷ true ∷ []
-unfolding set-ok inside sheet-q instance-of
+pub sets-judged : map (set-ok (instance-q 16 [])) (0 ∷ 3 ∷ 16 ∷ 14 ∷ []) ≡ false ∷ false ∷ false ∷ true ∷ []
+unfolding set-ok inside instance-q instance-of
 sets-judged = refl
 
 -- "each amount is at least 1"
@@ -110,32 +123,46 @@ unfolding all-positive
 zero-value = refl
 
 -- "Two pins into one position therefore leave it with none": with 0→1 and 2→1 pinned none of 0→1, 2→1, 3→1 remains
-pub two-pins : map (λ t. remaining (sheet-q 16 (arc 0 1 pinned ∷ arc 2 1 pinned ∷ [])) t 1) (0 ∷ 2 ∷ 3 ∷ []) ≡ false ∷ false ∷ false ∷ []
-unfolding any-below sheet-q instance-of filled weight mark can-be-arc is-arc is-pinned other-pinned remaining
+pub two-pins : map (λ t. remaining (instance-q 16 (arc 0 1 pinned ∷ arc 2 1 pinned ∷ [])) t 1) (0 ∷ 2 ∷ 3 ∷ []) ≡ false ∷ false ∷ false ∷ []
+unfolding any-below instance-q instance-of filled weight mark can-be-arc is-arc is-pinned other-pinned remaining
 two-pins = refl
 
 -- a banned arc is an arc that does not remain
-pub banned-arc : is-arc (sheet-q 16 (arc 0 1 banned ∷ [])) 0 1 && not (remaining (sheet-q 16 (arc 0 1 banned ∷ [])) 0 1) ≡ true
-unfolding any-below sheet-q instance-of filled weight mark can-be-arc is-arc is-pinned other-pinned remaining
+pub banned-arc : is-arc (instance-q 16 (arc 0 1 banned ∷ [])) 0 1 && not (remaining (instance-q 16 (arc 0 1 banned ∷ [])) 0 1) ≡ true
+unfolding any-below instance-q instance-of filled weight mark can-be-arc is-arc is-pinned other-pinned remaining
 banned-arc = refl
 
 -- LISTS: P1's; 255 elsewhere than at the root, something else at the root, too short, too long, a cycle, a vertex that is its own
 -- parent, a parent that is no vertex, an arc that is none (3→2)
 pub lists-judged :
-    map (is-arborescence (sheet-q 16 []))
+    map (is-arborescence (instance-q 16 []))
     ((255 ∷ 0 ∷ 1 ∷ 1 ∷ []) ∷ (255 ∷ 0 ∷ 255 ∷ 1 ∷ []) ∷ (0 ∷ 0 ∷ 1 ∷ 1 ∷ []) ∷ (255 ∷ 0 ∷ 1 ∷ []) ∷ (255 ∷ 0 ∷ 1 ∷ 1 ∷ 1 ∷ [])
     ∷ (255 ∷ 2 ∷ 1 ∷ 1 ∷ []) ∷ (255 ∷ 0 ∷ 2 ∷ 1 ∷ []) ∷ (255 ∷ 4 ∷ 1 ∷ 1 ∷ []) ∷ (255 ∷ 0 ∷ 3 ∷ 1 ∷ []) ∷ [])
     ≡ true ∷ false ∷ false ∷ false ∷ false ∷ false ∷ false ∷ false ∷ false ∷ []
 unfolding
-    all-below any-below sheet-q instance-of filled weight mark can-be-arc is-arc is-pinned other-pinned remaining reaches parent-ok is-arborescence
+    all-below any-below instance-q instance-of filled weight mark can-be-arc is-arc is-pinned other-pinned remaining reaches parent-ok is-arborescence
 lists-judged = refl
 
 -- "Taking the cheapest feeder everywhere: Q gives 7, with a ring and no console."
-pub cheapest-each : total (sheet-q 16 []) (255 ∷ 2 ∷ 1 ∷ 1 ∷ []) ≡ 7
-unfolding sum-below sheet-q instance-of filled weight total
+pub cheapest-each : total (instance-q 16 []) (255 ∷ 2 ∷ 1 ∷ 1 ∷ []) ≡ 7
+unfolding sum-below instance-q instance-of filled weight total
 cheapest-each = refl
 
 -- a cell that the list of weights lacks is no arc
 pub missing : is-arc (record { n = 2; root = 0; budget = 0; weights = []; marks = [] }) 0 1 ≡ false
 unfolding is-arc can-be-arc weight
 missing = refl
+
+-- ROOT 2, arcs of weight 0, and cells that can never be an arc (into the root, from a vertex to itself, outside the instance) that
+-- hold weights and pins: 2→0 and 0→1 are the only arborescence of total 0; with 2→1 for 0→1 it costs 3; that with 1→0 costs 7
+unfoldable pub root-two : Instance
+root-two =
+    instance-of 3 2 3 (arc 2 0 0 ∷ arc 0 1 0 ∷ arc 2 1 3 ∷ arc 1 0 4 ∷ arc 0 2 7 ∷ arc 1 1 0 ∷ arc 3 1 0 ∷ [])
+    (arc 0 2 pinned ∷ arc 1 1 pinned ∷ arc 3 1 pinned ∷ [])
+
+pub root-two-worked : computed root-two ≡ record { gives = plan 0; optimal = (2 ∷ 0 ∷ 255 ∷ []) ∷ []; shows = 0 ∷ 2 ∷ 0 ∷ 1 ∷ 0 ∷ 0 ∷ 3 ∷ 2 ∷ 0 ∷ [] }
+unfolding
+    computed root-two instance-of filled optimal-in all-below any-below sum-below tabulate-from tabulate select any-of all-of weight mark can-be-arc
+    is-arc is-pinned other-pinned remaining reaches parent-ok is-arborescence total uses prefixed choices candidates-from candidates arborescences
+    lesser least-total cheapest outcome-at outcome fits fitting state-over states
+root-two-worked = refl

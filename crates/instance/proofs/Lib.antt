@@ -1,3 +1,5 @@
--- Document 01's worked cases and the definitions' edges, computed. Assumes nothing.
+-- Document 01's worked cases, the definitions' edges and which instances are valid, computed; laws of same instances. Assumes nothing.
 pub mod WorkedCases
 pub mod Edges
+pub mod WorkedValidity
+pub mod SameInstances

@@ -1,9 +1,8 @@
 -- P1 to P10 of document 01 ("Sheet Q and its outcomes"), as one list with one claim about the whole list: each outcome, all states,
--- and where there is a plan the parents that document 01 shows, which are an arborescence of that total. Computed. Assumes nothing.
+-- and every arborescence of the least total, among them the parents that document 01 shows. Computed. Assumes nothing.
 use mathlib.Core.Path.{_≡_, refl}
 use mathlib.Core.Bool.{Bool, true, false, _&&_, _||_, not, cond}
 use mathlib.Core.List.{List, [], _∷_, _++_, map}
-use mathlib.Core.Option.{Option, none, some}
 use Prim.Native.Nat.{ℕ, zero, suc, _+_, _*_, _/_, _%_}
 use lib.Dec.{eqb}
 use lib.ListN.{length, replicate, set}
@@ -29,78 +28,70 @@ unfoldable pub filled : (other : ℕ) → List At → List ℕ
 filled d [] = replicate cells d
 filled d (a ∷ xs) = set (filled d xs) (cell (a .tail) (a .head)) (a .is)
 
-unfoldable pub instance-of : (n budget : ℕ) → (weights marks : List At) → Instance
-instance-of n b ws ms = record { n = n; root = 0; budget = b; weights = filled no-arc ws; marks = filled free ms }
+unfoldable pub instance-of : (n root budget : ℕ) → (weights marks : List At) → Instance
+instance-of n r b ws ms = record { n = n; root = r; budget = b; weights = filled no-arc ws; marks = filled free ms }
 
 -- "n = 4, root 0. Prices: 0→1 10, 0→2 10, 0→3 8, 1→2 1, 1→3 4, 2→1 2, 2→3 9, 3→1 7; 3→2 is no link."
-unfoldable pub sheet-q : (budget : ℕ) → (marks : List At) → Instance
-sheet-q b ms =
-    instance-of 4 b (arc 0 1 10 ∷ arc 0 2 10 ∷ arc 0 3 8 ∷ arc 1 2 1 ∷ arc 1 3 4 ∷ arc 2 1 2 ∷ arc 2 3 9 ∷ arc 3 1 7 ∷ []) ms
+unfoldable pub instance-q : (budget : ℕ) → (marks : List At) → Instance
+instance-q b ms =
+    instance-of 4 0 b (arc 0 1 10 ∷ arc 0 2 10 ∷ arc 0 3 8 ∷ arc 1 2 1 ∷ arc 1 3 4 ∷ arc 2 1 2 ∷ arc 2 3 9 ∷ arc 3 1 7 ∷ []) ms
 
 -- "n = 2, price 5"
 unfoldable pub two : (budget : ℕ) → (marks : List At) → Instance
-two b ms = instance-of 2 b (arc 0 1 5 ∷ []) ms
+two b ms = instance-of 2 0 b (arc 0 1 5 ∷ []) ms
 
--- parents are document 01's where there is a plan
-pub record Case : Type 0 where
-  pub of : Instance
-  pub gives : Outcome
-  pub parents : Option (List ℕ)
-  pub shows : List ℕ
-
--- the total of parents that are an arborescence
-unfoldable pub priced : Instance → Option (List ℕ) → Option ℕ
-priced s none = none
-priced s (some ps) = cond (is-arborescence s ps) (some (total s ps)) none
-
-unfoldable pub total-in : Outcome → Option ℕ
-total-in (plan v) = some v
-total-in (over v) = none
-total-in no-tree = none
-
+-- What is claimed of an instance: its outcome, every arborescence of the total that the outcome names, and all states. The list of
+-- optimal arborescences has one entry exactly where document 01's parents are the only cheapest ones.
 pub record Row : Type 0 where
   pub gives : Outcome
-  pub costs : Option ℕ
+  pub optimal : List (List ℕ)
   pub shows : List ℕ
 
-unfoldable pub computed : Case → Row
-computed c = record { gives = outcome (c .of); costs = priced (c .of) (c .parents); shows = states (c .of) }
+pub record Case : Type 0 where
+  pub of : Instance
+  pub row : Row
 
-unfoldable pub stated : Case → Row
-stated c = record { gives = c .gives; costs = total-in (c .gives); shows = c .shows }
+unfoldable pub optimal-in : Instance → Outcome → List (List ℕ)
+optimal-in s (plan v) = select (λ ps. eqb (total s ps) v) (arborescences s)
+optimal-in s (over v) = select (λ ps. eqb (total s ps) v) (arborescences s)
+optimal-in s no-tree = []
 
-unfoldable pub cases : List Case
-cases =
+unfoldable pub computed : Instance → Row
+computed s = record { gives = outcome s; optimal = optimal-in s (outcome s); shows = states s }
+
+-- for every budget b of P7
+unfoldable pub cases : (b : ℕ) → List Case
+cases b =
     -- P1, P2: 2→3 closed, the other seven open
-    record { of = sheet-q 16 []; gives = plan 15; parents = some (255 ∷ 0 ∷ 1 ∷ 1 ∷ []); shows = 0 ∷ 2 ∷ 2 ∷ 2 ∷ 0 ∷ 0 ∷ 2 ∷ 2 ∷ 0 ∷ 2 ∷ 0 ∷ 1 ∷ 0 ∷ 2 ∷ 0 ∷ 0 ∷ [] } ∷
+    record { of = instance-q 16 []; row = record { gives = plan 15; optimal = (255 ∷ 0 ∷ 1 ∷ 1 ∷ []) ∷ []; shows = 0 ∷ 2 ∷ 2 ∷ 2 ∷ 0 ∷ 0 ∷ 2 ∷ 2 ∷ 0 ∷ 2 ∷ 0 ∷ 1 ∷ 0 ∷ 2 ∷ 0 ∷ 0 ∷ [] } } ∷
     -- P3: 0→1, 1→2, 1→3 sure, others closed
-    record { of = sheet-q 15 []; gives = plan 15; parents = some (255 ∷ 0 ∷ 1 ∷ 1 ∷ []); shows = 0 ∷ 3 ∷ 1 ∷ 1 ∷ 0 ∷ 0 ∷ 3 ∷ 3 ∷ 0 ∷ 1 ∷ 0 ∷ 1 ∷ 0 ∷ 1 ∷ 0 ∷ 0 ∷ [] } ∷
+    record { of = instance-q 15 []; row = record { gives = plan 15; optimal = (255 ∷ 0 ∷ 1 ∷ 1 ∷ []) ∷ []; shows = 0 ∷ 3 ∷ 1 ∷ 1 ∷ 0 ∷ 0 ∷ 3 ∷ 3 ∷ 0 ∷ 1 ∷ 0 ∷ 1 ∷ 0 ∷ 1 ∷ 0 ∷ 0 ∷ [] } } ∷
     -- P4: over 15
-    record { of = sheet-q 14 []; gives = over 15; parents = none; shows = 0 ∷ 1 ∷ 1 ∷ 1 ∷ 0 ∷ 0 ∷ 1 ∷ 1 ∷ 0 ∷ 1 ∷ 0 ∷ 1 ∷ 0 ∷ 1 ∷ 0 ∷ 0 ∷ [] } ∷
+    record { of = instance-q 14 []; row = record { gives = over 15; optimal = (255 ∷ 0 ∷ 1 ∷ 1 ∷ []) ∷ []; shows = 0 ∷ 1 ∷ 1 ∷ 1 ∷ 0 ∷ 0 ∷ 1 ∷ 1 ∷ 0 ∷ 1 ∷ 0 ∷ 1 ∷ 0 ∷ 1 ∷ 0 ∷ 0 ∷ [] } } ∷
     -- P5: 2→1 pinned: all three sure
-    record { of = sheet-q 16 (arc 2 1 pinned ∷ []); gives = plan 16; parents = some (255 ∷ 2 ∷ 0 ∷ 1 ∷ []); shows = 0 ∷ 1 ∷ 3 ∷ 1 ∷ 0 ∷ 0 ∷ 1 ∷ 3 ∷ 0 ∷ 3 ∷ 0 ∷ 1 ∷ 0 ∷ 1 ∷ 0 ∷ 0 ∷ [] } ∷
+    record { of = instance-q 16 (arc 2 1 pinned ∷ []); row = record { gives = plan 16; optimal = (255 ∷ 2 ∷ 0 ∷ 1 ∷ []) ∷ []; shows = 0 ∷ 1 ∷ 3 ∷ 1 ∷ 0 ∷ 0 ∷ 1 ∷ 3 ∷ 0 ∷ 3 ∷ 0 ∷ 1 ∷ 0 ∷ 1 ∷ 0 ∷ 0 ∷ [] } } ∷
     -- P6: 0→1 banned: 2→3 and 0→1 closed, six open
-    record { of = sheet-q 16 (arc 0 1 banned ∷ []); gives = plan 16; parents = some (255 ∷ 2 ∷ 0 ∷ 1 ∷ []); shows = 0 ∷ 1 ∷ 2 ∷ 2 ∷ 0 ∷ 0 ∷ 2 ∷ 2 ∷ 0 ∷ 2 ∷ 0 ∷ 1 ∷ 0 ∷ 2 ∷ 0 ∷ 0 ∷ [] } ∷
-    -- P7: 2→1 and 1→2 pinned: none
-    record { of = sheet-q 16 (arc 2 1 pinned ∷ arc 1 2 pinned ∷ []); gives = no-tree; parents = none; shows = 0 ∷ 1 ∷ 1 ∷ 1 ∷ 0 ∷ 0 ∷ 1 ∷ 1 ∷ 0 ∷ 1 ∷ 0 ∷ 1 ∷ 0 ∷ 1 ∷ 0 ∷ 0 ∷ [] } ∷
+    record { of = instance-q 16 (arc 0 1 banned ∷ []); row = record { gives = plan 16; optimal = (255 ∷ 2 ∷ 0 ∷ 1 ∷ []) ∷ (255 ∷ 3 ∷ 1 ∷ 0 ∷ []) ∷ []; shows = 0 ∷ 1 ∷ 2 ∷ 2 ∷ 0 ∷ 0 ∷ 2 ∷ 2 ∷ 0 ∷ 2 ∷ 0 ∷ 1 ∷ 0 ∷ 2 ∷ 0 ∷ 0 ∷ [] } } ∷
+    -- P7: 2→1 and 1→2 pinned: none, and no budget is named
+    record { of = instance-q b (arc 2 1 pinned ∷ arc 1 2 pinned ∷ []); row = record { gives = no-tree; optimal = []; shows = 0 ∷ 1 ∷ 1 ∷ 1 ∷ 0 ∷ 0 ∷ 1 ∷ 1 ∷ 0 ∷ 1 ∷ 0 ∷ 1 ∷ 0 ∷ 1 ∷ 0 ∷ 0 ∷ [] } } ∷
     -- P8: n = 1, budget 0
-    record { of = instance-of 1 0 [] []; gives = plan 0; parents = some (255 ∷ []); shows = 0 ∷ [] } ∷
+    record { of = instance-of 1 0 0 [] []; row = record { gives = plan 0; optimal = (255 ∷ []) ∷ []; shows = 0 ∷ [] } } ∷
     -- P9: link sure
-    record { of = two 5 []; gives = plan 5; parents = some (255 ∷ 0 ∷ []); shows = 0 ∷ 3 ∷ 0 ∷ 0 ∷ [] } ∷
+    record { of = two 5 []; row = record { gives = plan 5; optimal = (255 ∷ 0 ∷ []) ∷ []; shows = 0 ∷ 3 ∷ 0 ∷ 0 ∷ [] } } ∷
     -- P10
-    record { of = two 4 []; gives = over 5; parents = none; shows = 0 ∷ 1 ∷ 0 ∷ 0 ∷ [] } ∷ []
+    record { of = two 4 []; row = record { gives = over 5; optimal = (255 ∷ 0 ∷ []) ∷ []; shows = 0 ∷ 1 ∷ 0 ∷ 0 ∷ [] } } ∷ []
 
 -- THE CLAIM
-pub worked : map computed cases ≡ map stated cases
+pub worked : (b : ℕ) → map (λ c. computed (c .of)) (cases b) ≡ map (λ c. c .row) (cases b)
 unfolding
-    computed stated cases sheet-q two instance-of filled priced total-in all-below any-below sum-below tabulate-from tabulate select any-of all-of
+    computed cases instance-q two instance-of filled optimal-in all-below any-below sum-below tabulate-from tabulate select any-of all-of
     weight mark can-be-arc is-arc is-pinned other-pinned remaining reaches parent-ok is-arborescence total uses prefixed choices candidates-from
     candidates arborescences lesser least-total cheapest outcome-at outcome fits fitting state-over states
-worked = refl
+worked b = refl
 
 -- "It has 12 feed trees."
-pub twelve : length (arborescences (sheet-q 16 [])) ≡ 12
+pub twelve : length (arborescences (instance-q 16 [])) ≡ 12
 unfolding
-    sheet-q instance-of filled all-below any-below tabulate-from tabulate select weight mark can-be-arc is-arc is-pinned other-pinned remaining
+    instance-q instance-of filled all-below any-below tabulate-from tabulate select weight mark can-be-arc is-arc is-pinned other-pinned remaining
     reaches parent-ok is-arborescence prefixed choices candidates-from candidates arborescences
 twelve = refl

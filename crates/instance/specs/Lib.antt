@@ -7,3 +7,4 @@ pub mod States
 pub mod Cuts
 pub mod Valid
 pub mod Matrix
+pub mod Same

@@ -9,3 +9,4 @@ pub mod Usable
 pub mod SameArcs
 pub mod Restriction
 pub mod Forced
+pub mod SameOutcomes
