@@ -1,2 +1,4 @@
--- The text of document 01's cases, computed.
+-- Document 01's texts, computed; laws of decimals and of writing.
 pub mod WorkedTexts
+pub mod DecimalLaws
+pub mod Writing
