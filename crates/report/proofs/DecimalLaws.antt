@@ -103,6 +103,12 @@ unfolding decimal
 decimal-first v b h = first-in 10 v b h
 
 -- LENGTHS
+pub length-few : (v : ℕ) → v < 10 → length (decimal v) ≡ 1
+length-few v h = ap length (decimal-few v h)
+
+pub length-more : (v : ℕ) → 10 ≤ v → v < 10 ^ 10 → length (decimal v) ≡ length (decimal (v / 10)) + 1
+length-more v h b = ap length (decimal-more v h b) ∙ length-append (decimal (v / 10)) (digit (v % 10) ∷ [])
+
 length-in : (d k v : ℕ) → 0 < d → v < 10 ^ d → length (decimal-in k v) ≤ d
 unfolding decimal-in
 length-in zero k v h b = absurd (omega arith)

@@ -6,7 +6,7 @@ use native.Mathlib.Omega.{arith}
 use native.Mathlib.Numerals.{add-one}
 use native.Mathlib.Nat.{add-zero, zero-add, add-assoc}
 use lib.ListN.{length, getD, set, take, drop, length-append, length-take, length-drop, length-set, take-append-drop}
-use lib.Seq.{set-split, take-at, drop-at, drop-drop, length-take-le, append-snoc}
+use lib.Seq.{set-split, take-at, drop-at, drop-drop, length-take-le, take-suc, append-snoc}
 use Rattle.report.specs.Written.{written, Wrote, Filled}
 
 -- the place after a text that fits
@@ -44,9 +44,12 @@ pub written-byte : (old : List ℕ) (at b : ℕ) → at < length old → set old
 unfolding written
 written-byte old at b h = rw (add-one, set-split old at b h) (sym (append-snoc (take at old) b (drop (suc at) old)))
 
--- NOTHING, A TEXT MORE, ONE BYTE MORE
+-- NOTHING, ONE BYTE, A TEXT MORE, ONE BYTE MORE
 pub wrote-none : (old : List ℕ) (at : ℕ) → Wrote old at [] old at
 wrote-none old at = record { buffer = sym (written-none old at); place = sym (add-zero at) }
+
+pub wrote-one : (old : List ℕ) (at b : ℕ) → at < length old → Wrote old at (b ∷ []) (set old at b) (at + 1)
+wrote-one old at b h = record { buffer = written-byte old at b h; place = refl }
 
 module _ {old mid s : List ℕ} {at m : ℕ} (a : Wrote old at s mid m) where
   pub wrote-length : at + length s ≤ length old → length mid ≡ length old
@@ -72,7 +75,16 @@ module _ {old mid s : List ℕ} {at m : ℕ} (a : Wrote old at s mid m) where
   pub wrote-byte : (b : ℕ) → at + length (s ++ (b ∷ [])) ≤ length old → Wrote old at (s ++ (b ∷ [])) (set mid m b) (m + 1)
   wrote-byte b room =
       let h = wrote-room (b ∷ []) room in
-      wrote-then room (record { buffer = written-byte mid m b (omega arith); place = refl })
+      wrote-then room (wrote-one mid m b (omega arith))
+
+-- a list that is copied: the place after i bytes of it, and one byte more
+pub copied-place : {old mid : List ℕ} {at m : ℕ} (l : List ℕ) (i : ℕ) → Wrote old at (take i l) mid m → i ≤ length l → m ≡ at + i
+copied-place {old} {mid} {at} {m} l i a h = a .place ∙ ap (λ (k : ℕ). at + k) (length-take-le i l h)
+
+pub copied-next : {old mid : List ℕ} {at m : ℕ} (l : List ℕ) (i : ℕ) → Wrote old at (take i l) mid m → i < length l → at + length l ≤ length old
+    → Wrote old at (take (i + 1) l) (set mid m (getD l i 0)) (m + 1)
+copied-next {old} {mid} {at} {m} l i a h room =
+    rw (add-one i, take-suc l i 0 h) (wrote-byte a (getD l i 0) (rw (length-append, length-take) (omega arith)))
 
 -- from the beginning on
 pub filled : {old text new : List ℕ} {r : ℕ} → Wrote old 0 text new r → Filled old text new r
