@@ -17,6 +17,7 @@ use Rattle.report.specs.Text.{
   decimal-in,
   decimal,
   field,
+  line,
   join-below,
   header-line,
   outcome-line,
@@ -74,7 +75,7 @@ shown =
 -- THE CLAIM
 pub worked : printed ≡ shown
 unfolding
-    reported printed shown codes decimal-in decimal field join-below header-line outcome-line feed-line row-line feed-at feed-lines row-lines text report-text
+    reported printed shown codes decimal-in decimal field line join-below header-line outcome-line feed-line row-line feed-at feed-lines row-lines text report-text
     refused-text sheet-q instance-of filled all-below any-below sum-below tabulate-from tabulate select any-of all-of weight mark can-be-arc is-arc
     is-pinned other-pinned remaining reaches parent-ok is-arborescence total uses prefixed choices candidates-from candidates arborescences lesser
     least-total cheapest outcome-at outcome fits fitting state-over states

@@ -7,7 +7,7 @@ use native.Mathlib.Numerals.{add-one}
 use native.Mathlib.Nat.{add-zero, zero-add, add-assoc}
 use lib.ListN.{length, getD, set, take, drop, length-append, length-take, length-drop, length-set, take-append-drop}
 use lib.Seq.{set-split, take-at, drop-at, drop-drop, length-take-le, take-suc, append-snoc}
-use Rattle.report.specs.Written.{written, Wrote, Filled}
+use Rattle.report.specs.Written.{Room, written, Wrote, Filled}
 
 -- the place after a text that fits
 pub length-head : (old : List ℕ) (at : ℕ) (t : List ℕ) → at + length t ≤ length old → length (take at old ++ t) ≡ at + length t
@@ -44,6 +44,10 @@ pub written-byte : (old : List ℕ) (at b : ℕ) → at < length old → set old
 unfolding written
 written-byte old at b h = rw (add-one, set-split old at b h) (sym (append-snoc (take at old) b (drop (suc at) old)))
 
+-- ROOM
+pub room-first : {old s : List ℕ} {at : ℕ} (t : List ℕ) → Room old at (s ++ t) → Room old at s
+room-first {old} {s} {at} t h = let e = length-append s t in record { fits = omega arith }
+
 -- NOTHING, ONE BYTE, A TEXT MORE, ONE BYTE MORE
 pub wrote-none : (old : List ℕ) (at : ℕ) → Wrote old at [] old at
 wrote-none old at = record { buffer = sym (written-none old at); place = sym (add-zero at) }
@@ -52,39 +56,42 @@ pub wrote-one : (old : List ℕ) (at b : ℕ) → at < length old → Wrote old 
 wrote-one old at b h = record { buffer = written-byte old at b h; place = refl }
 
 module _ {old mid s : List ℕ} {at m : ℕ} (a : Wrote old at s mid m) where
-  pub wrote-length : at + length s ≤ length old → length mid ≡ length old
-  wrote-length room = ap length (a .buffer) ∙ written-length old at s room
+  pub wrote-length : Room old at s → length mid ≡ length old
+  wrote-length room = ap length (a .buffer) ∙ written-length old at s (room .fits)
 
   -- there is room for what follows
-  pub wrote-room : (t : List ℕ) → at + length (s ++ t) ≤ length old → m + length t ≤ length mid
+  pub wrote-room : (t : List ℕ) → Room old at (s ++ t) → Room mid m t
   wrote-room t room =
       let e = length-append s t in
-      let n = wrote-length (omega arith) in
-      omega (arith, a .place)
+      let n = wrote-length (room-first t room) in
+      record { fits = omega (arith, a .place) }
 
-  pub wrote-then : {new t : List ℕ} {r : ℕ} → at + length (s ++ t) ≤ length old → Wrote mid m t new r → Wrote old at (s ++ t) new r
+  pub wrote-then : {new t : List ℕ} {r : ℕ} → Room old at (s ++ t) → Wrote mid m t new r → Wrote old at (s ++ t) new r
   wrote-then {new} {t} {r} room b =
       let e = length-append s t in
       record {
         buffer =
           b .buffer ∙ ap (λ (l : List ℕ). written l m t) (a .buffer) ∙ ap (λ (k : ℕ). written (written old at s) k t) (a .place)
-          ∙ written-append old at s t room;
+          ∙ written-append old at s t (room .fits);
         place = omega (arith, a .place, b .place);
       }
 
-  pub wrote-byte : (b : ℕ) → at + length (s ++ (b ∷ [])) ≤ length old → Wrote old at (s ++ (b ∷ [])) (set mid m b) (m + 1)
-  wrote-byte b room =
-      let h = wrote-room (b ∷ []) room in
-      wrote-then room (wrote-one mid m b (omega arith))
+  -- one byte more: it is in the buffer
+  pub byte-room : (b : ℕ) → Room old at (s ++ (b ∷ [])) → m < length mid
+  byte-room b room = let h = wrote-room (b ∷ []) room in omega arith
+
+  pub wrote-byte : (b : ℕ) → Room old at (s ++ (b ∷ [])) → Wrote old at (s ++ (b ∷ [])) (set mid m b) (m + 1)
+  wrote-byte b room = wrote-then room (wrote-one mid m b (byte-room b room))
 
 -- a list that is copied: the place after i bytes of it, and one byte more
 pub copied-place : {old mid : List ℕ} {at m : ℕ} (l : List ℕ) (i : ℕ) → Wrote old at (take i l) mid m → i ≤ length l → m ≡ at + i
 copied-place {old} {mid} {at} {m} l i a h = a .place ∙ ap (λ (k : ℕ). at + k) (length-take-le i l h)
 
-pub copied-next : {old mid : List ℕ} {at m : ℕ} (l : List ℕ) (i : ℕ) → Wrote old at (take i l) mid m → i < length l → at + length l ≤ length old
+pub copied-next : {old mid : List ℕ} {at m : ℕ} (l : List ℕ) (i : ℕ) → Wrote old at (take i l) mid m → i < length l → Room old at l
     → Wrote old at (take (i + 1) l) (set mid m (getD l i 0)) (m + 1)
 copied-next {old} {mid} {at} {m} l i a h room =
-    rw (add-one i, take-suc l i 0 h) (wrote-byte a (getD l i 0) (rw (length-append, length-take) (omega arith)))
+    let r : at + length (take i l ++ (getD l i 0 ∷ [])) ≤ length old = rw (length-append, length-take) (omega arith) in
+    rw (add-one i, take-suc l i 0 h) (wrote-byte a (getD l i 0) (record { fits = r }))
 
 -- from the beginning on
 pub filled : {old text new : List ℕ} {r : ℕ} → Wrote old 0 text new r → Filled old text new r

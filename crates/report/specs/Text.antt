@@ -34,26 +34,30 @@ decimal v = decimal-in 10 v
 unfoldable pub field : (word : String) → (v : ℕ) → List ℕ
 field w v = codes w ++ decimal v
 
+-- the same at a line's end: "Each line ends in a line feed."
+unfoldable pub line : (word : String) → (v : ℕ) → List ℕ
+line w v = field w v ++ codes "\n"
+
 -- g 0, g 1, and so on, up to the bound, one after the other
 unfoldable pub join-below : (bound : ℕ) → (g : ℕ → List ℕ) → List ℕ
 join-below zero g = []
 join-below (suc k) g = join-below k g ++ g k
 
--- LINES ("Each line ends in a line feed.")
+-- LINES
 
 -- "count, root, budget"
 unfoldable pub header-line : (n root budget : ℕ) → List ℕ
-header-line n r b = field "positions " n ++ field " root " r ++ field " budget " b ++ codes "\n"
+header-line n r b = field "positions " n ++ field " root " r ++ line " budget " b
 
 -- "total"; "The second line is 'over' with a total, or 'none'"
 unfoldable pub outcome-line : Outcome → List ℕ
-outcome-line (plan v) = field "plan " v ++ codes "\n"
-outcome-line (over v) = field "over " v ++ codes "\n"
+outcome-line (plan v) = line "plan " v
+outcome-line (over v) = line "over " v
 outcome-line no-tree = codes "none\n"
 
 -- "fed, feeder, price"
 unfoldable pub feed-line : (head tail weight : ℕ) → List ℕ
-feed-line h t w = field "feed " h ++ field " from " t ++ field " price " w ++ codes "\n"
+feed-line h t w = field "feed " h ++ field " from " t ++ line " price " w
 
 -- "feeder and its n states", from n times n states, tail by tail
 unfoldable pub row-line : (n : ℕ) → (states : List ℕ) → (tail : ℕ) → List ℕ
@@ -85,4 +89,4 @@ report-text s o ps = text (s .n) (s .root) (s .budget) o ps (states s) (weight s
 
 -- "A refused card prints one line only, as 'refused 3'."
 unfoldable pub refused-text : (number : ℕ) → List ℕ
-refused-text k = field "refused " k ++ codes "\n"
+refused-text k = line "refused " k

@@ -2,6 +2,7 @@
 //
 // A function `put_..` writes one piece of the text from the place `at` on and returns the place after it; it requires that there is room.
 mod words;
+mod lines;
 mod whole;
 
 pub use whole::MAX_TEXT;

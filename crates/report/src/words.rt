@@ -1,12 +1,12 @@
 // Words and numbers.
-ghost use mathlib.Core.List.{[], _∷_, _++_};
+ghost use mathlib.Core.List.{_++_};
 ghost use Prim.Native.Nat.{_+_, _≤_};
 ghost use lib.ListN.{length};
 ghost use Rattle.report.specs.Text.{decimal};
-ghost use Rattle.report.specs.Written.{Wrote};
+ghost use Rattle.report.specs.Written.{Room, Wrote};
 
 pub fn put_bytes(bytes: &[u8], out: &mut [u8], at: usize) -> usize
-    requires { ⌜ at + length (now bytes) ≤ length (now out) ⌝ }
+    requires { ⌜ Room (now out) at (now bytes) ⌝ }
     ensures { λ r. ⌜ Wrote (now (out .entry)) at (now (bytes .entry)) (now (out .exit)) r ⌝ }
 {
     let mut i = 0;
@@ -21,7 +21,7 @@ pub fn put_bytes(bytes: &[u8], out: &mut [u8], at: usize) -> usize
 
 // The digits of v / 10 come first, unless that is 0.
 pub fn put_decimal(v: u32, out: &mut [u8], at: usize) -> usize
-    requires { ⌜ at + length (decimal v) ≤ length (now out) ⌝ }
+    requires { ⌜ Room (now out) at (decimal v) ⌝ }
     ensures { λ r. ⌜ Wrote (now (out .entry)) at (decimal v) (now (out .exit)) r ⌝ }
 {
     if v < 10 {
@@ -35,19 +35,9 @@ pub fn put_decimal(v: u32, out: &mut [u8], at: usize) -> usize
 
 // A word and a number.
 pub fn put_field(word: &[u8], v: u32, out: &mut [u8], at: usize) -> usize
-    requires { ⌜ at + length (now word ++ decimal v) ≤ length (now out) ⌝ }
+    requires { ⌜ Room (now out) at (now word ++ decimal v) ⌝ }
     ensures { λ r. ⌜ Wrote (now (out .entry)) at (now (word .entry) ++ decimal v) (now (out .exit)) r ⌝ }
 {
     let next = put_bytes(word, out, at);
     put_decimal(v, out, next)
-}
-
-// A line of one word and a number.
-pub fn put_field_line(word: &[u8], v: u32, out: &mut [u8], at: usize) -> usize
-    requires { ⌜ at + length (now word ++ decimal v ++ (10 ∷ [])) ≤ length (now out) ⌝ }
-    ensures { λ r. ⌜ Wrote (now (out .entry)) at (now (word .entry) ++ decimal v ++ (10 ∷ [])) (now (out .exit)) r ⌝ }
-{
-    let next = put_field(word, v, out, at);
-    out[next] = b'\n';
-    next + 1
 }

@@ -6,9 +6,9 @@ use lib.ListN.{length, set, length-set}
 use borrow.Fn.Kinds.{In}
 use borrow.Fn.PlainCycle.{Measures, is, falls, and}
 use Rattle.report.specs.Text.{decimal}
-use Rattle.report.specs.Written.{Wrote}
+use Rattle.report.specs.Written.{Room, Wrote}
 use Rattle.report.proofs.DecimalLaws.{decimal-few, decimal-more, length-few, length-more}
-use Rattle.report.proofs.Writing.{wrote-one, wrote-byte, wrote-room}
+use Rattle.report.proofs.Writing.{wrote-one, byte-room, wrote-byte}
 use Rattle.report.proofs.words.put_decimal.Reads as put-decimal
 use Rattle.report.proofs.words.put_decimal.Kinds as put-decimal-kinds
 use Rattle.report.proofs.words.+put_decimal.Lts-put_decimal as put-decimal-lts
@@ -29,7 +29,7 @@ put-decimal-below t =
 -- one digit
 few : (t : ℕ) (c : put-decimal-lts.Then1 (put-decimal-below t, put-decimal.Post) (put-decimal-at t) put-decimal.Post)
     → c .before .before .args .at < length (c .before .before .args .out .now)
-few t c = let l = length-few (c .before .before .args .v) (c .if1 .taken) in omega (arith, c .before .before .pre .1)
+few t c = let l = length-few (c .before .before .args .v) (c .if1 .taken) in omega (arith, c .before .before .pre .1 .fits)
 
 put-decimal-cast-out : (t : ℕ) → put-decimal-lts.Need-cast-out (put-decimal-below t, put-decimal.Post) (put-decimal-at t) put-decimal.Post
 put-decimal-cast-out t c = omega arith
@@ -53,18 +53,17 @@ put-decimal-returns t c = rw (decimal-few (c .before .before .args .v) (c .if1 .
 in-32 : {v : ℕ} → v < 2 ^ 32 → v < 10 ^ 10
 in-32 h = omega arith
 
-last : (v : ℕ) {old mid : List ℕ} {at m : ℕ} → 10 ≤ v → v < 2 ^ 32 → at + length (decimal v) ≤ length old → Wrote old at (decimal (v / 10)) mid m
+last : (v : ℕ) {old mid : List ℕ} {at m : ℕ} → 10 ≤ v → v < 2 ^ 32 → Room old at (decimal v) → Wrote old at (decimal (v / 10)) mid m
     → (m < length mid) × Wrote old at (decimal v) (set mid m (48 + v % 10)) (m + 1)
 last v {old} {mid} {at} {m} h b room w =
     let e = decimal-more v h (in-32 b) in
-    let r : at + length (decimal (v / 10) ++ ((48 + v % 10) ∷ [])) ≤ length old = rw e at room in
-    let l = wrote-room w ((48 + v % 10) ∷ []) r in
-    (omega arith, rw e (wrote-byte w (48 + v % 10) r))
+    let r : Room old at (decimal (v / 10) ++ ((48 + v % 10) ∷ [])) = rw e at room in
+    (byte-room w (48 + v % 10) r, rw e (wrote-byte w (48 + v % 10) r))
 
 put-decimal-put-decimal-requires : (t : ℕ) → put-decimal-lts.Need-put-decimal-requires (put-decimal-below t, put-decimal.Post) (put-decimal-at t) put-decimal.Post
 put-decimal-put-decimal-requires t c κs = 
     let e = length-more (c .before .before .before .args .v) (c .before .if1 .left) (in-32 (c .before .before .before .fits .v .fits)) in
-    (omega arith, omega (arith, c .before .before .before .pre .1))
+    (omega arith, record { fits = omega (arith, c .before .before .before .pre .1 .fits) })
 
 put-decimal-cast-out-2 : (t : ℕ) → put-decimal-lts.Need-cast-out-2 (put-decimal-below t, put-decimal.Post) (put-decimal-at t) put-decimal.Post
 put-decimal-cast-out-2 t c = omega arith

@@ -1,0 +1,86 @@
+// Single lines.
+ghost use mathlib.Core.List.{[], _∷_, _++_};
+ghost use Prim.Native.Nat.{_+_, _*_, _≤_, _<_};
+ghost use lib.ListN.{length, getD};
+ghost use Rattle.report.specs.Text.{decimal, join-below, header-line, outcome-line, feed-line, row-line};
+ghost use Rattle.report.specs.Written.{Room, Wrote};
+ghost use Rattle.report.specs.Found.{outcome-of};
+use crate::Found;
+use crate::words::put_bytes;
+use crate::words::put_decimal;
+use crate::words::put_field;
+
+// A line of one word and number.
+pub fn put_line(word: &[u8], v: u32, out: &mut [u8], at: usize) -> usize
+    requires { ⌜ Room (now out) at (now word ++ decimal v ++ (10 ∷ [])) ⌝ }
+    ensures { λ r. ⌜ Wrote (now (out .entry)) at (now (word .entry) ++ decimal v ++ (10 ∷ [])) (now (out .exit)) r ⌝ }
+{
+    let next = put_field(word, v, out, at);
+    out[next] = b'\n';
+    next + 1
+}
+
+// Two words and numbers.
+fn put_fields(a: &[u8], x: u32, b: &[u8], y: u32, out: &mut [u8], at: usize) -> usize
+    requires { ⌜ Room (now out) at (now a ++ decimal x ++ (now b ++ decimal y)) ⌝ }
+    ensures { λ r. ⌜ Wrote (now (out .entry)) at (now (a .entry) ++ decimal x ++ (now (b .entry) ++ decimal y)) (now (out .exit)) r ⌝ }
+{
+    let next = put_field(a, x, out, at);
+    put_field(b, y, out, next)
+}
+
+pub fn put_header(n: u32, root: u32, budget: u32, out: &mut [u8], at: usize) -> usize
+    requires { ⌜ Room (now out) at (header-line n root budget) ⌝ }
+    ensures { λ r. ⌜ Wrote (now (out .entry)) at (header-line n root budget) (now (out .exit)) r ⌝ }
+{
+    let next = put_fields(b"positions ", n, b" root ", root, out, at);
+    put_line(b" budget ", budget, out, next)
+}
+
+pub fn put_feed(head: u32, tail: u32, weight: u32, out: &mut [u8], at: usize) -> usize
+    requires { ⌜ Room (now out) at (feed-line head tail weight) ⌝ }
+    ensures { λ r. ⌜ Wrote (now (out .entry)) at (feed-line head tail weight) (now (out .exit)) r ⌝ }
+{
+    let next = put_fields(b"feed ", head, b" from ", tail, out, at);
+    put_line(b" price ", weight, out, next)
+}
+
+pub fn put_outcome(found: Found, out: &mut [u8], at: usize) -> usize
+    requires { ⌜ Room (now out) at (outcome-line (outcome-of found)) ⌝ }
+    ensures { λ r. ⌜ Wrote (now (out .entry)) at (outcome-line (outcome-of found)) (now (out .exit)) r ⌝ }
+{
+    match found {
+        Found::Plan(total) => put_line(b"plan ", total, out, at),
+        Found::Over(total) => put_line(b"over ", total, out, at),
+        Found::NoTree => put_bytes(b"none\n", out, at),
+    }
+}
+
+// The n states from the place `from` on, each in decimal.
+fn put_states(n: u32, states: &[u8], from: usize, out: &mut [u8], at: usize) -> usize
+    requires { ⌜ from + n ≤ length (now states) ⌝ }
+    requires { ⌜ Room (now out) at (join-below n (λ h. decimal (getD (now states) (from + h) 0))) ⌝ }
+    ensures { λ r. ⌜ Wrote (now (out .entry)) at (join-below n (λ h. decimal (getD (now (states .entry)) (from + h) 0))) (now (out .exit)) r ⌝ }
+{
+    let mut h = 0;
+    let mut next = at;
+    while h < n as usize {
+        next = put_decimal(states[from + h] as u32, out, next);
+        h += 1;
+    }
+    next
+}
+
+pub fn put_row(n: u32, states: &[u8], tail: u32, out: &mut [u8], at: usize) -> usize
+    requires { ⌜ n ≤ 32 ⌝ }
+    requires { ⌜ tail < n ⌝ }
+    requires { ⌜ n * n ≤ length (now states) ⌝ }
+    requires { ⌜ Room (now out) at (row-line n (now states) tail) ⌝ }
+    ensures { λ r. ⌜ Wrote (now (out .entry)) at (row-line n (now (states .entry)) tail) (now (out .exit)) r ⌝ }
+{
+    let named = put_field(b"row ", tail, out, at);
+    out[named] = b' ';
+    let last = put_states(n, states, tail as usize * n as usize, out, named + 1);
+    out[last] = b'\n';
+    last + 1
+}
