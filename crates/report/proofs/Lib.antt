@@ -2,3 +2,4 @@
 pub mod WorkedTexts
 pub mod DecimalLaws
 pub mod Writing
+pub mod JoinLaws
