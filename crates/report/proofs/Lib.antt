@@ -3,3 +3,4 @@ pub mod WorkedTexts
 pub mod DecimalLaws
 pub mod Writing
 pub mod JoinLaws
+pub mod RowLaws
