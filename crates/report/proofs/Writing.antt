@@ -35,8 +35,8 @@ written-append old at s t room =
     let front : take (at + length s) (p ++ rest) ≡ p = take-at p rest (at + length s) h in
     let past : at + length s + length t ≡ at + length (s ++ t) = omega arith in
     let back : drop (at + length s + length t) (p ++ rest) ≡ drop (at + length (s ++ t)) old =
-      sym (drop-drop (length t) (at + length s) (p ++ rest)) ∙ ap (λ (l : List ℕ). drop (length t) l) (drop-at p rest (at + length s) h)
-      ∙ drop-drop (length t) (at + length s) old ∙ ap (λ (k : ℕ). drop k old) past in
+    sym (drop-drop (length t) (at + length s) (p ++ rest)) ∙ ap (λ (l : List ℕ). drop (length t) l) (drop-at p rest (at + length s) h)
+    ∙ drop-drop (length t) (at + length s) old ∙ ap (λ (k : ℕ). drop k old) past in
     rw (front, back) (ap (λ (l : List ℕ). l ++ drop (at + length (s ++ t)) old) (append-assoc (take at old) s t))
 
 -- one byte
@@ -47,6 +47,9 @@ written-byte old at b h = rw (add-one, set-split old at b h) (sym (append-snoc (
 -- ROOM
 pub room-first : {old s : List ℕ} {at : ℕ} (t : List ℕ) → Room old at (s ++ t) → Room old at s
 room-first {old} {s} {at} t h = let e = length-append s t in record { fits = omega arith }
+
+pub room-whole : (old text : List ℕ) → length text ≤ length old → Room old 0 text
+room-whole old text h = record { fits = omega arith }
 
 -- NOTHING, ONE BYTE, A TEXT MORE, ONE BYTE MORE
 pub wrote-none : (old : List ℕ) (at : ℕ) → Wrote old at [] old at
@@ -71,8 +74,8 @@ module _ {old mid s : List ℕ} {at m : ℕ} (a : Wrote old at s mid m) where
       let e = length-append s t in
       record {
         buffer =
-          b .buffer ∙ ap (λ (l : List ℕ). written l m t) (a .buffer) ∙ ap (λ (k : ℕ). written (written old at s) k t) (a .place)
-          ∙ written-append old at s t (room .fits);
+            b .buffer ∙ ap (λ (l : List ℕ). written l m t) (a .buffer) ∙ ap (λ (k : ℕ). written (written old at s) k t) (a .place)
+            ∙ written-append old at s t (room .fits);
         place = omega (arith, a .place, b .place);
       }
 

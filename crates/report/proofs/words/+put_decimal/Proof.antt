@@ -61,7 +61,7 @@ last v {old} {mid} {at} {m} h b room w =
     (byte-room w (48 + v % 10) r, rw e (wrote-byte w (48 + v % 10) r))
 
 put-decimal-put-decimal-requires : (t : ℕ) → put-decimal-lts.Need-put-decimal-requires (put-decimal-below t, put-decimal.Post) (put-decimal-at t) put-decimal.Post
-put-decimal-put-decimal-requires t c κs = 
+put-decimal-put-decimal-requires t c κs =
     let e = length-more (c .before .before .before .args .v) (c .before .if1 .left) (in-32 (c .before .before .before .fits .v .fits)) in
     (omega arith, record { fits = omega (arith, c .before .before .before .pre .1 .fits) })
 

@@ -5,10 +5,10 @@ use lib.ListN.{length, getD}
 use Rattle.report.specs.Text.{decimal, join-below}
 use Rattle.report.specs.Written.{Wrote}
 use Rattle.report.proofs.JoinLaws.{join-none, join-room, join-next}
-use Rattle.report.proofs.lines.put_states.Statement.{statement}
-use Rattle.report.proofs.lines.put_states.Tie as tie
-use Rattle.report.proofs.lines.put_states.Reads as reads
-use Rattle.report.proofs.lines.put_states.Lts as lts
+use Rattle.report.proofs.rows.put_states.Statement.{statement}
+use Rattle.report.proofs.rows.put_states.Tie as tie
+use Rattle.report.proofs.rows.put_states.Reads as reads
+use Rattle.report.proofs.rows.put_states.Lts as lts
 use Rattle.report.proofs.words.put_decimal.Reads as put-decimal-reads
 
 abbrev Inv-loop : tie.InvT-loop

@@ -4,11 +4,11 @@ use lib.ListN.{length-set}
 use Rattle.report.specs.Text.{codes, field}
 use Rattle.report.proofs.RowLaws.{row-in, row-start, row-room, blank-room, states-room, end-room, row-written}
 use borrow.Author.Needs.{needs}
-use Rattle.report.proofs.lines.put_row.Statement.{statement}
-use Rattle.report.proofs.lines.put_row.Tie as tie
-use Rattle.report.proofs.lines.put_row.Reads as reads
-use Rattle.report.proofs.lines.put_row.Lts as lts
-use Rattle.report.proofs.lines.put_states.Reads as put-states-reads
+use Rattle.report.proofs.rows.put_row.Statement.{statement}
+use Rattle.report.proofs.rows.put_row.Tie as tie
+use Rattle.report.proofs.rows.put_row.Reads as reads
+use Rattle.report.proofs.rows.put_row.Lts as lts
+use Rattle.report.proofs.rows.put_states.Reads as put-states-reads
 use Rattle.report.proofs.words.put_field.Reads as put-field-reads
 
 -- src/lines.rt:81:27
