@@ -4,3 +4,4 @@ pub mod DecimalLaws
 pub mod Writing
 pub mod JoinLaws
 pub mod RowLaws
+pub mod TextLaws

@@ -47,7 +47,7 @@ cast-put-feed c = let a = c .before .before .before .before .before .args in ome
 
 -- src/whole.rt:49:5
 put-feed-requires : tie.Need-put-feed-requires
-put-feed-requires c κs = 
+put-feed-requires c κs =
     let start = c .before .before .before .before .before .before in
     let a = start .args in
     rw (elsewhere (a .root) (now (a .parents)) (weight-in (now (a .weights))) (a .v) (c .before .weight-at .result) (c .before .before .before .if1 .left) (start .pre .1 .0) (c .before .weight-at .ensures)) at (start .pre .1 .1)
@@ -58,7 +58,7 @@ same-length c = search needs
 
 -- src/whole.rt:31:1
 returns-2 : tie.Need-returns-2
-returns-2 c = 
+returns-2 c =
     let start = c .before .before .before .before .before .before .before .before .before in
     let a = start .args in
     let w = c .before .before .before .before .weight-at in
