@@ -5,3 +5,4 @@ pub mod Writing
 pub mod JoinLaws
 pub mod RowLaws
 pub mod TextLaws
+pub mod LengthLaws

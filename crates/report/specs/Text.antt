@@ -90,3 +90,7 @@ report-text s o ps = text (s .n) (s .root) (s .budget) o ps (states s) (weight s
 -- "A refused card prints one line only, as 'refused 3'."
 unfoldable pub refused-text : (number : ℕ) → List ℕ
 refused-text k = line "refused " k
+
+-- the longest text: 32 vertices, and every number as long as it can be
+abbrev pub max-text : ℕ
+max-text = 2241
