@@ -1,5 +1,5 @@
 -- Laws of tests and sums over every number below a bound. Assumes nothing.
-use mathlib.Core.Path.{_≡_, refl, sym, ap, _∙_, subst}
+use mathlib.Core.Path.{_≡_, refl, sym, _∙_, subst}
 use mathlib.Core.Bool.{Bool, true, false, _&&_, _||_, true≢false}
 use mathlib.Core.Logic.{⊎-elim}
 use Prim.Native.Nat.{ℕ, zero, suc, _+_, _-_, _≤_, _<_}
@@ -7,7 +7,7 @@ use native.Mathlib.Omega.{arith}
 use native.Mathlib.Nat.{eq-or-lt-of-le}
 use native.Mathlib.Decide.{ℕ-discrete}
 use Rattle.base.specs.Bounded.{all-below, any-below, sum-below}
-use Rattle.base.proofs.Tests.{and-left, and-right, and-both, or-cases, or-left, or-right}
+use Rattle.base.proofs.Tests.{and-left, and-right, and-both, or-cases, or-left, or-right, or-both-false}
 
 -- ALL
 pub all-none : (P : ℕ → Bool) → all-below 0 P ≡ true
@@ -73,6 +73,11 @@ any-found zero P e = absurd (true≢false (sym e))
 any-found (suc k) P e =
     ⊎-elim (λ (p : P k ≡ true). (k, omega arith, p)) (λ (p : any-below k P ≡ true). let r = any-found k P p in (r .0, omega (arith, r .1), r .2))
     (or-cases (P k) (any-below k P) e)
+
+pub any-false : (k : ℕ) (P : ℕ → Bool) → ((i : ℕ) → i < k → P i ≡ false) → any-below k P ≡ false
+unfolding any-below
+any-false zero P h = refl
+any-false (suc k) P h = or-both-false (P k) (any-below k P) (h k (omega arith)) (any-false k P (λ i l. h i (omega arith)))
 
 -- SUMS
 pub sum-mono : (k : ℕ) (f g : ℕ → ℕ) → ((q : ℕ) → q < k → f q ≤ g q) → sum-below k f ≤ sum-below k g

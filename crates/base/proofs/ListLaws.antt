@@ -1,15 +1,15 @@
 -- Laws of lists made by index, of defaults, and of tests over lists. Assumes nothing.
 use mathlib.Core.Path.{_≡_, refl, sym, ap, _∙_, subst}
 use mathlib.Core.Bool.{Bool, true, false, _&&_, _||_, not, cond, true≢false}
-use mathlib.Core.List.{List, [], _∷_, _++_}
-use Prim.Native.Nat.{ℕ, zero, suc, _+_, _-_, _≤_, _<_}
+use mathlib.Core.List.{List, [], _∷_, _++_, map}
+use Prim.Native.Nat.{ℕ, zero, suc, _+_, _<_}
 use native.Mathlib.Omega.{arith}
 use native.Mathlib.Numerals.{add-one}
 use native.Mathlib.Nat.{add-zero, add-suc, suc-add, zero-add}
 use lib.ListN.{length, getD, set, take}
-use lib.Seq.{take-suc-set, take-all, take-suc, take-length, ext-getD}
+use lib.Seq.{take-suc-set, take-all, ext-getD}
 use Rattle.base.specs.Lists.{tabulate-from, tabulate, select, any-of, all-of}
-use Rattle.base.proofs.Tests.{and-left, and-right, or-false-left, or-false-right, or-both-false}
+use Rattle.base.proofs.Tests.{and-left, and-right, and-both, or-left, or-right}
 
 -- inside a list the default does not matter
 pub default : {A : Type 0} (l : List A) (i : ℕ) (d e : A) → i < length l → getD l i d ≡ getD l i e
@@ -86,6 +86,12 @@ module _ {A : Type 0} where
       go true e = e
       go false e = refl
 
+  pub all-mono : (p q : A → Bool) (xs : List A) → ((x : A) → p x ≡ true → q x ≡ true) → all-of p xs ≡ true → all-of q xs ≡ true
+  unfolding all-of
+  all-mono p q [] h e = refl
+  all-mono p q (x ∷ xs) h e =
+      and-both (q x) (all-of q xs) (h x (and-left (p x) (all-of p xs) e)) (all-mono p q xs h (and-right (p x) (all-of p xs) e))
+
   -- a test that some element passes has a witness
   pub any-witness : (q : A → Bool) (xs : List A) → any-of q xs ≡ true → (x : A) × (q x ≡ true)
   unfolding any-of
@@ -104,3 +110,27 @@ module _ {A : Type 0} where
       go : (b : Bool) → any-of q (xs ++ ys) ≡ any-of q xs || any-of q ys → b || any-of q (xs ++ ys) ≡ (b || any-of q xs) || any-of q ys
       go true e = refl
       go false e = e
+
+  pub any-map : {B : Type 0} (q : A → Bool) (f : B → A) (xs : List B) → any-of q (map f xs) ≡ any-of (λ x. q (f x)) xs
+  unfolding any-of
+  any-map q f [] = refl
+  any-map q f (x ∷ xs) = ap (λ (b : Bool). q (f x) || b) (any-map q f xs)
+
+  pub any-append-left : (q : A → Bool) (xs ys : List A) → any-of q xs ≡ true → any-of q (xs ++ ys) ≡ true
+  any-append-left q xs ys e = rw (any-append q xs ys, e)
+
+  pub any-append-right : (q : A → Bool) (xs ys : List A) → any-of q ys ≡ true → any-of q (xs ++ ys) ≡ true
+  any-append-right q xs ys e = any-append q xs ys ∙ or-right (any-of q xs) (any-of q ys) e
+
+pub any-tabulate-from : (q : ℕ → Bool) (k a : ℕ) (g : ℕ → ℕ) (i : ℕ) → i < k → q (g (a + i)) ≡ true → any-of q (tabulate-from k a g) ≡ true
+unfolding any-of tabulate-from
+any-tabulate-from q zero a g i h e = absurd (omega arith)
+any-tabulate-from q (suc k) a g zero h e =
+    or-left (q (g a)) (any-of q (tabulate-from k (suc a) g)) (subst (λ (j : ℕ). q (g j) ≡ true) (add-zero a) e)
+any-tabulate-from q (suc k) a g (suc i) h e =
+    or-right (q (g a)) (any-of q (tabulate-from k (suc a) g))
+    (any-tabulate-from q k (suc a) g i (omega arith) (subst (λ (j : ℕ). q (g j) ≡ true) (add-suc a i ∙ sym (suc-add a i)) e))
+
+pub any-tabulate : (q : ℕ → Bool) (k : ℕ) (g : ℕ → ℕ) (i : ℕ) → i < k → q (g i) ≡ true → any-of q (tabulate k g) ≡ true
+unfolding tabulate
+any-tabulate q k g i h e = any-tabulate-from q k 0 g i h (subst (λ (j : ℕ). q (g j) ≡ true) (sym (zero-add i)) e)

@@ -1,2 +1,3 @@
--- Document 01's worked cases, computed. Assumes nothing.
+-- Document 01's worked cases and the definitions' edges, computed. Assumes nothing.
 pub mod WorkedCases
+pub mod Edges

@@ -1,4 +1,6 @@
-// The numbers that the planner's calls take, and where an arc can be.
+// The limits of document 01, the numbers that the planner's calls take, and where an arc can be.
+pub mod limits;
+
 ghost use mathlib.Core.Path.{_≡_};
 ghost use Rattle.instance.specs.Instance.{can-be-arc};
 

@@ -1,1 +1,11 @@
--- Laws. Assumes nothing.
+-- What is proved about the problem. Assumes nothing.
+pub mod ArborescenceLaws
+pub mod CandidateLaws
+pub mod StateLaws
+pub mod OutcomeLaws
+pub mod Duality
+pub mod Optimality
+pub mod Usable
+pub mod SameArcs
+pub mod Restriction
+pub mod Forced

@@ -1,0 +1,141 @@
+-- Edges of the definitions, computed: document 01's cuts for P1 and its traps, sets that are no cut, two pins into one vertex, lists
+-- that are no arborescence, a matrix that is too short. Assumes nothing.
+use mathlib.Core.Path.{_≡_, refl}
+use mathlib.Core.Bool.{Bool, true, false, _&&_, not, cond}
+use mathlib.Core.List.{List, [], _∷_, map}
+use Prim.Native.Nat.{ℕ, _<_}
+use native.Mathlib.Omega.{arith}
+use lib.Dec.{ltb, leb, eqb}
+use borrow.Author.Tests.{ltb-true, leb-true, not-true}
+use Rattle.base.specs.Bounded.{all-below, any-below, sum-below}
+use Rattle.base.specs.Lists.{tabulate-from, tabulate, select, any-of, all-of}
+use Rattle.base.proofs.Tests.{and-left, and-right}
+use Rattle.base.proofs.BoundedLaws.{all-at}
+use Rattle.instance.specs.Limits.{no-arc, pinned, banned}
+use Rattle.instance.specs.Instance.{Instance, weight, mark, can-be-arc, is-arc}
+use Rattle.instance.specs.Arborescence.{is-pinned, other-pinned, remaining, reaches, parent-ok, is-arborescence, total, uses}
+use Rattle.instance.specs.Candidates.{prefixed, choices, candidates-from, candidates}
+use Rattle.instance.specs.Cuts.{Cut, inside, enters, charged, values, set-ok, sets-ok, all-positive, Proves, reduced-cost, No-entry}
+use Rattle.instance.specs.States.{fits, fitting, state-over, state}
+use Rattle.instance.proofs.WorkedCases.{arc, filled, instance-of, sheet-q, two}
+
+-- A TABLE OF CELLS: a test of every remaining arc, computed, holds of every remaining arc
+unfoldable each-remaining : Instance → (P : (tail head : ℕ) → Bool) → Bool
+each-remaining s P = all-below (s .n) (λ t. all-below (s .n) (λ h. cond (remaining s t h) (P t h) true))
+
+remaining-below : (s : Instance) (t h : ℕ) → remaining s t h ≡ true → (t < s .n) × (h < s .n)
+unfolding remaining is-arc can-be-arc
+remaining-below s t h r =
+    let can =
+    and-left (can-be-arc (s .n) (s .root) t h) (not (eqb (weight s t h) no-arc))
+    (and-left (is-arc s t h) (not (eqb (mark s t h) banned) && not (other-pinned s t h)) r) in
+    let both = and-left (ltb t (s .n) && ltb h (s .n)) (not (eqb t h) && not (eqb h (s .root))) can in
+    (ltb-true t (s .n) (and-left (ltb t (s .n)) (ltb h (s .n)) both), ltb-true h (s .n) (and-right (ltb t (s .n)) (ltb h (s .n)) both))
+
+at-remaining : (s : Instance) (P : ℕ → ℕ → Bool) → each-remaining s P ≡ true → (t h : ℕ) → remaining s t h ≡ true → P t h ≡ true
+unfolding each-remaining
+at-remaining s P e t h r =
+    let l = remaining-below s t h r in
+    let row = all-at (s .n) (λ u. all-below (s .n) (λ v. cond (remaining s u v) (P u v) true)) t (l .0) e in
+    rw r at (all-at (s .n) (λ v. cond (remaining s t v) (P t v) true) h (l .1) row)
+
+abbrev cut : (set value : ℕ) → Cut
+cut c v = record { set = c; value = v }
+
+-- "Cuts that fit P1: {1} 2, {2} 1, {3} 4, {1,2} 5, {1,2,3} 3."
+unfoldable pub p1-cuts : List Cut
+p1-cuts = cut 2 2 ∷ cut 4 1 ∷ cut 8 4 ∷ cut 6 5 ∷ cut 14 3 ∷ []
+
+p1-covered : each-remaining (sheet-q 16 []) (λ t h. leb (charged p1-cuts t h) (weight (sheet-q 16 []) t h)) ≡ true
+unfolding
+    each-remaining all-below any-below sheet-q instance-of filled weight mark can-be-arc is-arc is-pinned other-pinned remaining inside enters
+    charged p1-cuts
+p1-covered = refl
+
+p1-sets : sets-ok (sheet-q 16 []) p1-cuts ≡ true
+unfolding sets-ok set-ok inside sheet-q instance-of p1-cuts
+p1-sets = refl
+
+pub p1-proves : Proves (sheet-q 16 []) p1-cuts 15
+unfolding all-positive values p1-cuts sheet-q instance-of
+p1-proves =
+    record {
+      feasible =
+          record {
+            sets = p1-sets;
+            covered =
+                λ t h r.
+                leb-true (charged p1-cuts t h) (weight (sheet-q 16 []) t h)
+                (at-remaining (sheet-q 16 []) (λ u v. leb (charged p1-cuts u v) (weight (sheet-q 16 []) u v)) p1-covered t h r);
+          };
+      positive = refl;
+      few = omega arith;
+      adds = refl;
+    }
+
+-- "in P3, 2→1 has reduced price 0 under the cuts above, yet the cheapest tree with it costs 16": it is closed
+pub p3-reduced : reduced-cost (sheet-q 15 []) p1-cuts 2 1 ≡ 0
+unfolding reduced-cost charged enters inside weight sheet-q instance-of filled p1-cuts
+p3-reduced = refl
+
+pub p3-excluded : state (sheet-q 15 []) 2 1 ≡ 1
+unfolding
+    sheet-q instance-of filled all-below any-below sum-below tabulate-from tabulate select any-of all-of weight mark can-be-arc is-arc is-pinned
+    other-pinned remaining reaches parent-ok is-arborescence total uses prefixed choices candidates-from candidates fits fitting state-over state
+p3-excluded = refl
+
+-- "n = 2, root 0, link banned": "none, cut pair (2, 0)"
+banned-shut : each-remaining (two 5 (arc 0 1 banned ∷ [])) (λ t h. not (enters 2 t h)) ≡ true
+unfolding
+    each-remaining all-below any-below two instance-of filled weight mark can-be-arc is-arc is-pinned other-pinned remaining inside enters
+banned-shut = refl
+
+pub banned-no-entry : No-entry (two 5 (arc 0 1 banned ∷ [])) (cut 2 0)
+unfolding set-ok inside two instance-of
+banned-no-entry =
+    record {
+      set-good = refl;
+      value-zero = refl;
+      shut = λ t h r. not-true (enters 2 t h) (at-remaining (two 5 (arc 0 1 banned ∷ [])) (λ u v. not (enters 2 u v)) banned-shut t h r);
+    }
+
+-- A SET is no cut if it is empty, has the root, or has a vertex that the instance lacks; {1,2,3} is one
+pub sets-judged : map (set-ok (sheet-q 16 [])) (0 ∷ 3 ∷ 16 ∷ 14 ∷ []) ≡ false ∷ false ∷ false ∷ true ∷ []
+unfolding set-ok inside sheet-q instance-of
+sets-judged = refl
+
+-- "each amount is at least 1"
+pub zero-value : all-positive (cut 2 0 ∷ []) ≡ false
+unfolding all-positive
+zero-value = refl
+
+-- "Two pins into one position therefore leave it with none": with 0→1 and 2→1 pinned none of 0→1, 2→1, 3→1 remains
+pub two-pins : map (λ t. remaining (sheet-q 16 (arc 0 1 pinned ∷ arc 2 1 pinned ∷ [])) t 1) (0 ∷ 2 ∷ 3 ∷ []) ≡ false ∷ false ∷ false ∷ []
+unfolding any-below sheet-q instance-of filled weight mark can-be-arc is-arc is-pinned other-pinned remaining
+two-pins = refl
+
+-- a banned arc is an arc that does not remain
+pub banned-arc : is-arc (sheet-q 16 (arc 0 1 banned ∷ [])) 0 1 && not (remaining (sheet-q 16 (arc 0 1 banned ∷ [])) 0 1) ≡ true
+unfolding any-below sheet-q instance-of filled weight mark can-be-arc is-arc is-pinned other-pinned remaining
+banned-arc = refl
+
+-- LISTS: P1's; 255 elsewhere than at the root, something else at the root, too short, too long, a cycle, a vertex that is its own
+-- parent, a parent that is no vertex, an arc that is none (3→2)
+pub lists-judged :
+    map (is-arborescence (sheet-q 16 []))
+    ((255 ∷ 0 ∷ 1 ∷ 1 ∷ []) ∷ (255 ∷ 0 ∷ 255 ∷ 1 ∷ []) ∷ (0 ∷ 0 ∷ 1 ∷ 1 ∷ []) ∷ (255 ∷ 0 ∷ 1 ∷ []) ∷ (255 ∷ 0 ∷ 1 ∷ 1 ∷ 1 ∷ [])
+    ∷ (255 ∷ 2 ∷ 1 ∷ 1 ∷ []) ∷ (255 ∷ 0 ∷ 2 ∷ 1 ∷ []) ∷ (255 ∷ 4 ∷ 1 ∷ 1 ∷ []) ∷ (255 ∷ 0 ∷ 3 ∷ 1 ∷ []) ∷ [])
+    ≡ true ∷ false ∷ false ∷ false ∷ false ∷ false ∷ false ∷ false ∷ false ∷ []
+unfolding
+    all-below any-below sheet-q instance-of filled weight mark can-be-arc is-arc is-pinned other-pinned remaining reaches parent-ok is-arborescence
+lists-judged = refl
+
+-- "Taking the cheapest feeder everywhere: Q gives 7, with a ring and no console."
+pub cheapest-each : total (sheet-q 16 []) (255 ∷ 2 ∷ 1 ∷ 1 ∷ []) ≡ 7
+unfolding sum-below sheet-q instance-of filled weight total
+cheapest-each = refl
+
+-- a cell that the list of weights lacks is no arc
+pub missing : is-arc (record { n = 2; root = 0; budget = 0; weights = []; marks = [] }) 0 1 ≡ false
+unfolding is-arc can-be-arc weight
+missing = refl

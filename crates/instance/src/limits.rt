@@ -1,0 +1,24 @@
+// The numbers of document 01, as the program has them; specs/Limits.antt has them for the contracts.
+
+pub const MAX_VERTICES: u32 = 32;
+
+pub const MAX_WEIGHT: u32 = 1_000_000;
+
+// A weight that means that there is no arc.
+pub const NO_ARC: u32 = 1_048_575;
+
+pub const MAX_BUDGET: u32 = 31_000_000;
+
+pub const FREE: u8 = 0;
+
+pub const PINNED: u8 = 1;
+
+pub const BANNED: u8 = 2;
+
+// Stands for the parent of the root.
+pub const NO_PARENT: u8 = 255;
+
+pub const MAX_RECORDS: usize = 200;
+
+// Words for 61 cuts, a set and a value each.
+pub const CUT_WORDS: usize = 122;

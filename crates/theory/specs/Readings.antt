@@ -1,0 +1,57 @@
+-- Document 01's words on outcomes and link states, read as statements about all lists of parents, where `instance` computes them
+-- from a listing. The theorems that the two agree are in proofs/. Assumes nothing: these are definitions.
+use mathlib.Core.Path.{_≡_}
+use mathlib.Core.Bool.{true, false}
+use mathlib.Core.List.{List}
+use mathlib.Core.Logic.{_↔_}
+use Prim.Native.Nat.{ℕ, _+_, _*_, _≤_, _<_}
+use lib.ListN.{length, getD}
+use Rattle.instance.specs.Instance.{Instance, is-arc}
+use Rattle.instance.specs.Arborescence.{is-arborescence, total, uses}
+use Rattle.instance.specs.States.{Outcome, plan, over, no-tree, fits}
+
+-- FITTING LISTS AND AN ARC ("Over the feed trees within budget")
+abbrev pub Some-fits : Instance → Type 0
+Some-fits s = (ps : List ℕ) × (fits s ps ≡ true)
+
+abbrev pub Some-uses : Instance → (tail head : ℕ) → Type 0
+Some-uses s t h = (ps : List ℕ) × (fits s ps ≡ true) × (uses ps t h ≡ true)
+
+abbrev pub Some-avoids : Instance → (tail head : ℕ) → Type 0
+Some-avoids s t h = (ps : List ℕ) × (fits s ps ≡ true) × (uses ps t h ≡ false)
+
+abbrev pub None-uses : Instance → (tail head : ℕ) → Type 0
+None-uses s t h = (ps : List ℕ) → fits s ps ≡ true → uses ps t h ≡ false
+
+abbrev pub All-use : Instance → (tail head : ℕ) → Type 0
+All-use s t h = (ps : List ℕ) → fits s ps ≡ true → uses ps t h ≡ true
+
+-- v is the state of the cell: "0 not a link; 1 closed, no tree uses it; 2 open, some use it and some don't; 3 sure, there is at
+-- least one tree and all use it"
+pub record State-reads (s : Instance) (t h v : ℕ) : Type 0 where
+  pub absent : is-arc s t h ≡ false → v ≡ 0
+  pub present : is-arc s t h ≡ true → (1 ≤ v) × (v ≤ 3)
+  pub excluded : is-arc s t h ≡ true → (v ≡ 1) ↔ None-uses s t h
+  pub optional : is-arc s t h ≡ true → (v ≡ 2) ↔ (Some-uses s t h × Some-avoids s t h)
+  pub mandatory : is-arc s t h ≡ true → (v ≡ 3) ↔ (Some-fits s × All-use s t h)
+
+-- "the first n times n bytes, feeder by feeder"
+pub record States-read (s : Instance) (vs : List ℕ) : Type 0 where
+  pub size : length vs ≡ s .n * s .n
+  pub reads : (t h : ℕ) → t < s .n → h < s .n → State-reads s t h (getD vs (t * s .n + h) 0)
+
+-- v is the cheapest total: an arborescence has it, and none has less
+pub record Least-total (s : Instance) (v : ℕ) : Type 0 where
+  pub parents : List ℕ
+  pub found : is-arborescence s parents ≡ true
+  pub attained : total s parents ≡ v
+  pub least : (ps : List ℕ) → is-arborescence s ps ≡ true → v ≤ total s ps
+
+abbrev pub No-arborescence : Instance → Type 0
+No-arborescence s = (ps : List ℕ) → is-arborescence s ps ≡ false
+
+-- o is the outcome: "plan with its total; over with the cheapest total; none"
+pub record Outcome-reads (s : Instance) (o : Outcome) : Type 0 where
+  pub plans : (v : ℕ) → (o ≡ plan v) ↔ (Least-total s v × (v ≤ s .budget))
+  pub exceeds : (v : ℕ) → (o ≡ over v) ↔ (Least-total s v × (s .budget < v))
+  pub fails : (o ≡ no-tree) ↔ No-arborescence s
