@@ -6,3 +6,4 @@ pub mod JoinLaws
 pub mod RowLaws
 pub mod TextLaws
 pub mod LengthLaws
+pub mod RoomLaws
