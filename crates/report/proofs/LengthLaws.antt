@@ -2,40 +2,22 @@
 --
 -- Each line is bounded by its fixed part and its numbers' digits. The lines of 32 vertices, sorted by vertex, are then bounded by sums over the
 -- digits of 0 to 31, which are computed; the root has no feed line, which makes up for its digits in the header.
-use mathlib.Core.Path.{_≡_, refl, sym, ap, _∙_}
+use mathlib.Core.Path.{_≡_, refl, ap, _∙_}
 use mathlib.Core.Bool.{Bool, true, false, cond}
-use mathlib.Core.List.{List, [], _∷_, _++_}
+use mathlib.Core.List.{List, [], _++_}
 use mathlib.Core.Logic.{⊎-elim}
-use Prim.Native.Nat.{ℕ, zero, suc, _+_, _*_, _-_, _^_, _≤_, _<_}
+use Prim.Native.Nat.{ℕ, zero, suc, _+_, _*_, _^_, _≤_, _<_}
 use Prim.Native.String.{String}
 use native.Mathlib.Omega.{arith}
 use native.Mathlib.Nat.{eq-or-lt-of-le}
-use borrow.Author.Tests.{eq-eqb, ne-eqb, eqb-true, eqb-false}
+use borrow.Author.Tests.{eq-eqb, eqb-false}
 use lib.Dec.{eqb}
 use lib.ListN.{length, getD, replicate, length-append}
 use Rattle.base.specs.Bounded.{sum-below}
 use Rattle.base.proofs.BoundedLaws.{sum-mono, sum-room}
 use Rattle.instance.specs.Arborescence.{parent}
 use Rattle.instance.specs.States.{Outcome, plan, over, no-tree}
-use Rattle.report.specs.Text.{
-  codes,
-  decimal-in,
-  decimal,
-  field,
-  line,
-  join-below,
-  header-line,
-  outcome-line,
-  feed-line,
-  row-line,
-  feed-at,
-  feed-lines,
-  row-lines,
-  text,
-  refused-text,
-  total-in,
-  max-text,
-}
+use Rattle.report.specs.Text.{codes, decimal-in, decimal, field, line, join-below, header-line, outcome-line, feed-line, row-line, feed-at, feed-lines, row-lines, text, refused-text, total-in, max-text}
 use Rattle.report.proofs.DecimalLaws.{decimal-length, length-few}
 
 -- SUMS

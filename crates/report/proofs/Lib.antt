@@ -5,5 +5,6 @@ pub mod Writing
 pub mod JoinLaws
 pub mod RowLaws
 pub mod TextLaws
+pub mod BufferLaws
 pub mod LengthLaws
 pub mod RoomLaws

@@ -1,23 +1,23 @@
 -- A buffer of 2,241 bytes has room for the text of every valid instance with its outcome: its weights and totals are short. Assumes nothing.
-use mathlib.Core.Path.{_≡_, refl, sym, ap, _∙_, subst}
-use mathlib.Core.Bool.{Bool, true, false, _&&_, not, cond, true≢false}
+use mathlib.Core.Path.{_≡_, refl, subst}
+use mathlib.Core.Bool.{Bool, true, false, _&&_, not, cond}
 use mathlib.Core.List.{List}
 use mathlib.Core.Logic.{⊎-elim}
-use Prim.Native.Nat.{ℕ, _+_, _*_, _-_, _/_, _%_, _^_, _≤_, _<_}
+use Prim.Native.Nat.{ℕ, _/_, _%_, _≤_, _<_}
 use native.Mathlib.Omega.{arith}
-use borrow.Author.Tests.{eq-eqb, ne-eqb, eqb-true, eqb-false, leb-true, leb-false, ltb-true}
+use borrow.Author.Tests.{eq-eqb, ne-eqb, leb-true, ltb-true}
 use lib.Dec.{ltb, leb, eqb}
-use lib.ListN.{length, getD}
+use lib.ListN.{length}
 use Rattle.base.specs.Bounded.{all-below, sum-below}
 use Rattle.base.proofs.Tests.{test, and-left, and-right, not-both}
 use Rattle.base.proofs.BoundedLaws.{all-at, sum-room}
 use Rattle.instance.specs.Limits.{max-vertices, max-weight, no-arc, max-budget, free, banned, cells}
-use Rattle.instance.specs.Instance.{Instance, cell, weight-at, mark-at, weight, can-be-arc, is-arc}
+use Rattle.instance.specs.Instance.{Instance, cell, mark-at, weight, can-be-arc, is-arc}
 use Rattle.instance.specs.Arborescence.{parent, is-arborescence, total}
 use Rattle.instance.specs.States.{Outcome, plan, over, no-tree, outcome, states}
 use Rattle.instance.specs.Valid.{cell-ok, cell-valid, header-valid, valid-instance}
-use Rattle.theory.specs.Readings.{State-reads, States-read, Least-total, Outcome-reads}
-use Rattle.theory.proofs.ArborescenceLaws.{Ends, arc-ends, arc-weight, remaining-arc, Joined, joined}
+use Rattle.theory.specs.Readings.{Least-total}
+use Rattle.theory.proofs.ArborescenceLaws.{arc-ends, arc-weight, remaining-arc, joined}
 use Rattle.theory.proofs.StateLaws.{states-read}
 use Rattle.theory.proofs.OutcomeLaws.{outcome-reads}
 use Rattle.report.specs.Text.{report-text, total-in, max-text}
@@ -36,10 +36,11 @@ module _ (s : Instance) (valid : valid-instance s ≡ true) where
   head =
       let ok = and-left Head (all-below cells (cell-valid s)) valid in
       let sizes = and-left (leb 1 (s .n) && leb (s .n) max-vertices) (ltb (s .root) (s .n) && leb (s .budget) max-budget) ok in
-      let rest = and-right (leb 1 (s .n) && leb (s .n) max-vertices) (ltb (s .root) (s .n) && leb (s .budget) max-budget) ok in
-      (leb-true _ _ (and-right (leb 1 (s .n)) (leb (s .n) max-vertices) sizes),
+      let rest = and-right (leb 1 (s .n) && leb (s .n) max-vertices) (ltb (s .root) (s .n) && leb (s .budget) max-budget) ok in (
+        leb-true _ _ (and-right (leb 1 (s .n)) (leb (s .n) max-vertices) sizes),
         ltb-true _ _ (and-left (ltb (s .root) (s .n)) (leb (s .budget) max-budget) rest),
-        leb-true _ _ (and-right (ltb (s .root) (s .n)) (leb (s .budget) max-budget) rest))
+        leb-true _ _ (and-right (ltb (s .root) (s .n)) (leb (s .budget) max-budget) rest),
+      )
 
   -- a cell that is an arc's holds a weight of at most 1,000,000
   light : (w m : ℕ) → cell-ok w m ≡ true → eqb w no-arc ≡ false → w ≤ max-weight
@@ -73,12 +74,14 @@ module _ (s : Instance) (valid : valid-instance s ≡ true) where
     where
       taken : ℕ → ℕ
       taken v = cond (eqb v (s .root)) 0 (weight s (parent ps v) v)
+
       each : (v : ℕ) → v < s .n → taken v ≤ max-weight
       each v l = go (eqb v (s .root)) refl
         where
           go : (t : Bool) → eqb v (s .root) ≡ t → cond t 0 (weight s (parent ps v) v) ≤ max-weight
           go true e = omega arith
           go false e = arc-light (parent ps v) v (remaining-arc s (parent ps v) v (joined s ps a v l e .arc))
+
       at-root : taken (s .root) ≡ 0
       at-root = rw (eq-eqb (s .root) (s .root) refl)
 
@@ -88,6 +91,7 @@ module _ (s : Instance) (valid : valid-instance s ≡ true) where
     where
       least : (v : ℕ) → Least-total s v → v ≤ max-budget
       least v l = subst (λ (t : ℕ). t ≤ max-budget) (l .attained) (total-light (l .parents) (l .found))
+
       go : (o : Outcome) → outcome s ≡ o → total-in o ≤ max-budget
       go (plan v) e = least v (outcome-reads s .plans v .0 e .0)
       go (over v) e = least v (outcome-reads s .exceeds v .0 e .0)

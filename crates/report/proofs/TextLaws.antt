@@ -1,20 +1,11 @@
--- The text is written in four steps: header, outcome, feed lines and rows. And what it is of an instance. Assumes nothing.
-use mathlib.Core.Path.{_≡_, refl}
+-- The text is written in four steps: header, outcome, feed lines and rows. Assumes nothing.
 use mathlib.Core.List.{List, _++_}
 use Prim.Native.Nat.{ℕ, _≤_}
 use lib.ListN.{length}
-use Rattle.instance.specs.Instance.{Instance, weight}
-use Rattle.instance.specs.States.{Outcome, states}
-use Rattle.report.specs.Text.{header-line, outcome-line, feed-lines, row-lines, text, report-text}
-use Rattle.report.specs.Found.{weight-in}
+use Rattle.instance.specs.States.{Outcome}
+use Rattle.report.specs.Text.{header-line, outcome-line, feed-lines, row-lines, text}
 use Rattle.report.specs.Written.{Room, Wrote, Filled}
 use Rattle.report.proofs.Writing.{room-whole, room-first, wrote-room, wrote-then, filled}
-
--- with the weights and the states of an instance it is the instance's text
-pub text-of-instance : (s : Instance) (o : Outcome) (ps ss : List ℕ) → ss ≡ states s
-    → text (s .n) (s .root) (s .budget) o ps ss (weight-in (s .weights)) ≡ report-text s o ps
-unfolding report-text weight weight-in
-text-of-instance s o ps ss e = rw e
 
 module _
     (n r b : ℕ)

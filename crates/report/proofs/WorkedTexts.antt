@@ -1,9 +1,8 @@
 -- The texts of document 01's cases, computed from instance to bytes: P1 as document 01 shows it, P4 (over), P7 (none), P8 (one vertex)
 -- and a refused card, as one list with one claim. Assumes nothing.
 use mathlib.Core.Path.{_≡_, refl}
-use mathlib.Core.Bool.{Bool, true, false, _&&_, _||_, not, cond}
 use mathlib.Core.List.{List, [], _∷_, _++_}
-use Prim.Native.Nat.{ℕ, zero, suc, _+_, _*_, _/_, _%_}
+use Prim.Native.Nat.{ℕ}
 use Rattle.base.specs.Bounded.{all-below, any-below, sum-below}
 use Rattle.base.specs.Lists.{tabulate-from, tabulate, select, any-of, all-of}
 use Rattle.instance.specs.Limits.{pinned}
@@ -12,24 +11,7 @@ use Rattle.instance.specs.Arborescence.{is-pinned, other-pinned, remaining, rea
 use Rattle.instance.specs.Candidates.{prefixed, choices, candidates-from, candidates, arborescences, lesser, least-total, cheapest}
 use Rattle.instance.specs.States.{outcome-at, outcome, fits, fitting, state-over, states}
 use Rattle.instance.proofs.WorkedCases.{arc, filled, instance-of, sheet-q}
-use Rattle.report.specs.Text.{
-  codes,
-  decimal-in,
-  decimal,
-  field,
-  line,
-  join-below,
-  header-line,
-  outcome-line,
-  feed-line,
-  row-line,
-  feed-at,
-  feed-lines,
-  row-lines,
-  text,
-  report-text,
-  refused-text,
-}
+use Rattle.report.specs.Text.{codes, decimal-in, decimal, field, line, join-below, header-line, outcome-line, feed-line, row-line, feed-at, feed-lines, row-lines, text, report-text, refused-text}
 
 unfoldable pub reported : Instance → (parents : List ℕ) → List ℕ
 reported s ps = report-text s (outcome s) ps

@@ -5,9 +5,9 @@ ghost use lib.ListN.{length};
 ghost use Rattle.report.specs.Text.{join-below, feed-at, feed-lines};
 ghost use Rattle.report.specs.Written.{Room, Wrote};
 ghost use Rattle.report.specs.Found.{outcome-of, weight-in};
-use instance::limits::NO_ARC;
 use crate::Found;
 use crate::lines::put_feed;
+use instance::limits::NO_ARC;
 
 // The weight of the arc from tail to head; a cell that there is not holds no arc.
 fn weight_at(weights: &[u32; 1024], tail: u8, head: u32) -> u32

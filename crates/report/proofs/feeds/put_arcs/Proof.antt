@@ -1,5 +1,6 @@
+-- The loop has written the lines of the vertices that it passed. Assumes nothing.
 use mathlib.Core.Path.{_≡_, refl, _∙_}
-use Prim.Native.Nat.{ℕ, _-_, _≤_}
+use Prim.Native.Nat.{_-_, _≤_}
 use native.Mathlib.Omega.{arith}
 use lib.ListN.{length}
 use Rattle.report.specs.Text.{join-below, feed-at}
@@ -8,9 +9,6 @@ use Rattle.report.specs.Written.{Wrote}
 use Rattle.report.proofs.JoinLaws.{join-none, join-room, join-next}
 use Rattle.report.proofs.feeds.put_arcs.Statement.{statement}
 use Rattle.report.proofs.feeds.put_arcs.Tie as tie
-use Rattle.report.proofs.feeds.put_arcs.Reads as reads
-use Rattle.report.proofs.feeds.put_arcs.Lts as lts
-use Rattle.report.proofs.feeds.put_feed_at.Reads as put-feed-at-reads
 
 abbrev Inv-loop : tie.InvT-loop
 Inv-loop n root parents weights out₀ at v₀ next₀ out v next =
@@ -19,26 +17,21 @@ Inv-loop n root parents weights out₀ at v₀ next₀ out v next =
 abbrev μ-loop : tie.MeasureT-loop
 μ-loop n root parents weights out₀ at v₀ next₀ out v next = n - v
 
--- src/whole.rt:67:5
 loop-holds : tie.Need-loop-holds Inv-loop μ-loop
 loop-holds c = (join-none _ _ _, omega arith, refl)
 
--- src/whole.rt:68:9
 put-feed-at-requires : tie.Need-put-feed-at-requires Inv-loop μ-loop
 put-feed-at-requires c κs =
     let i = c .before .before .loop in
     let start = c .before .before .before .before .before in
     (start .pre .0, (omega arith, join-room _ _ (i .v) (start .pre .1 .1) (c .before .loop-test .taken) (i .inv .0)))
 
--- src/whole.rt:69:9
 add-v : tie.Need-add-v Inv-loop μ-loop
 add-v c = omega arith
 
--- src/whole.rt:67:5
 loop-less : tie.Need-loop-less Inv-loop μ-loop
 loop-less c = omega arith
 
--- src/whole.rt:67:5
 loop-again : tie.Need-loop-again Inv-loop μ-loop
 loop-again c =
     let i = c .before .before .before .before .before .loop in
@@ -46,11 +39,9 @@ loop-again c =
     let test = c .before .before .before .before .loop-test .taken in
     (join-next _ _ (i .v) (start .pre .1 .1) test (i .inv .0) (c .before .before .put-feed-at .ensures), omega arith, c .before .before .put-feed-at .kept .1 .1 .1 .1 .0 ∙ i .inv .2)
 
--- src/whole.rt:52:1
 same-length : tie.Need-same-length Inv-loop μ-loop
 same-length c = c .before .loop .inv .2
 
--- src/whole.rt:52:1
 returns : tie.Need-returns Inv-loop μ-loop
 returns c = let e : c .before .loop .v ≡ c .before .before .before .before .args .n = omega arith in rw e at (c .before .loop .inv .0)
 

@@ -1,3 +1,4 @@
+-- The tests of the code are those of the definition. Assumes nothing.
 use mathlib.Core.Path.{_≡_}
 use mathlib.Core.List.{List, []}
 use Prim.Native.Nat.{ℕ, _<_}
@@ -12,10 +13,6 @@ use Rattle.report.proofs.Writing.{wrote-none}
 use borrow.Author.Needs.{needs}
 use Rattle.report.proofs.feeds.put_feed_at.Statement.{statement}
 use Rattle.report.proofs.feeds.put_feed_at.Tie as tie
-use Rattle.report.proofs.feeds.put_feed_at.Reads as reads
-use Rattle.report.proofs.feeds.put_feed_at.Lts as lts
-use Rattle.report.proofs.lines.put_feed.Reads as put-feed-reads
-use Rattle.report.proofs.feeds.weight_at.Reads as weight-at-reads
 
 -- the root has no line
 at-root : (r : ℕ) (ps : List ℕ) (w : ℕ → ℕ → ℕ) (v : ℕ) → v ≡ r → feed-at r ps w v ≡ []
@@ -27,36 +24,29 @@ elsewhere : (r : ℕ) (ps : List ℕ) (w : ℕ → ℕ → ℕ) (v x : ℕ) → 
 unfolding feed-at
 elsewhere r ps w v x h l e = rw (ne-eqb _ _ h, default ps v 255 0 l, e)
 
--- src/whole.rt:45:9
 returns : tie.Need-returns
 returns c =
     let a = c .before .before .before .args in
     rw (at-root (a .root) (now (a .parents)) (weight-in (now (a .weights))) (a .v) (c .if1 .taken)) (wrote-none _ _)
 
--- src/whole.rt:47:16
 shared-slice-read-tail : tie.Need-shared-slice-read-tail
 shared-slice-read-tail c = search needs
 
--- src/whole.rt:48:9
 weight-at-requires : tie.Need-weight-at-requires
 weight-at-requires c κs = search needs
 
--- src/whole.rt:49:17
 cast-put-feed : tie.Need-cast-put-feed
 cast-put-feed c = let a = c .before .before .before .before .before .args in omega (arith, c .before .shared-slice-known2 .given (a .v))
 
--- src/whole.rt:49:5
 put-feed-requires : tie.Need-put-feed-requires
 put-feed-requires c κs =
     let start = c .before .before .before .before .before .before in
     let a = start .args in
     rw (elsewhere (a .root) (now (a .parents)) (weight-in (now (a .weights))) (a .v) (c .before .weight-at .result) (c .before .before .before .if1 .left) (start .pre .1 .0) (c .before .weight-at .ensures)) at (start .pre .1 .1)
 
--- src/whole.rt:31:1
 same-length : tie.Need-same-length
 same-length c = search needs
 
--- src/whole.rt:31:1
 returns-2 : tie.Need-returns-2
 returns-2 c =
     let start = c .before .before .before .before .before .before .before .before .before in

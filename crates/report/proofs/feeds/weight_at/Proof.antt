@@ -1,3 +1,4 @@
+-- Inside the list the default does not matter, and behind it there is only the default. Assumes nothing.
 use Prim.Native.Nat.{_≤_, _<_}
 use Rattle.instance.specs.Limits.{no-arc}
 use Rattle.instance.specs.Instance.{cell}
@@ -10,26 +11,19 @@ use Rattle.report.specs.Found.{weight-in}
 use borrow.Author.Needs.{needs}
 use Rattle.report.proofs.feeds.weight_at.Statement.{statement}
 use Rattle.report.proofs.feeds.weight_at.Tie as tie
-use Rattle.report.proofs.feeds.weight_at.Reads as reads
-use Rattle.report.proofs.feeds.weight_at.Lts as lts
 
--- src/whole.rt:26:16
 mul-cell : tie.Need-mul-cell
 mul-cell c = search needs
 
--- src/whole.rt:26:16
 add-cell : tie.Need-add-cell
 add-cell c = search needs
 
--- src/whole.rt:27:22
 mul-result : tie.Need-mul-result
 mul-result c = search needs
 
--- src/whole.rt:27:22
 element-copy-out-result : tie.Need-element-copy-out-result
 element-copy-out-result c = search needs
 
--- src/whole.rt:22:1
 returns : tie.Need-returns
 unfolding weight-in
 returns c =
@@ -37,7 +31,6 @@ returns c =
     let l : cell (a .tail) (a .head) < length (now (a .weights)) = omega arith in
     default (now (a .weights)) (cell (a .tail) (a .head)) 0 no-arc l
 
--- src/whole.rt:22:1
 returns-2 : tie.Need-returns-2
 unfolding weight-in
 returns-2 c =

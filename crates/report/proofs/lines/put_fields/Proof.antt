@@ -1,25 +1,19 @@
+-- The second pair goes behind the first. Assumes nothing.
 use Rattle.report.proofs.Writing.{room-first, wrote-room, wrote-then}
 use borrow.Author.Needs.{needs}
 use Rattle.report.proofs.lines.put_fields.Statement.{statement}
 use Rattle.report.proofs.lines.put_fields.Tie as tie
-use Rattle.report.proofs.lines.put_fields.Reads as reads
-use Rattle.report.proofs.lines.put_fields.Lts as lts
-use Rattle.report.proofs.words.put_field.Reads as put-field-reads
 
--- src/lines.rt:28:9
 put-field-requires : tie.Need-put-field-requires
 put-field-requires c κs = room-first _ (c .before .before .before .before .pre)
 
--- src/lines.rt:29:5
 put-field-requires-2 : tie.Need-put-field-requires-2
 put-field-requires-2 c κs =
     wrote-room (c .before .before .before .put-field .ensures) _ (c .before .before .before .before .before .before .before .before .pre)
 
--- src/lines.rt:24:1
 same-length : tie.Need-same-length
 same-length c = search needs
 
--- src/lines.rt:24:1
 returns : tie.Need-returns
 returns c =
     let start = c .before .before .before .before .before .before .before .before .before .before .before in

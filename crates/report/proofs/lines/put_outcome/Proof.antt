@@ -1,75 +1,57 @@
+-- One line for each kind of outcome. Assumes nothing.
 use Rattle.report.specs.Text.{codes, field, line, outcome-line}
 use Rattle.report.specs.Found.{outcome-of}
 use borrow.Author.Needs.{needs}
 use Rattle.report.proofs.lines.put_outcome.Statement.{statement}
 use Rattle.report.proofs.lines.put_outcome.Tie as tie
-use Rattle.report.proofs.lines.put_outcome.Reads as reads
-use Rattle.report.proofs.lines.put_outcome.Lts as lts
-use Rattle.report.proofs.lines.put_line.Reads as put-line-reads
-use Rattle.report.proofs.words.put_bytes.Reads as put-bytes-reads
 
--- src/lines.rt:53:21
 enum-known-found : tie.Need-enum-known-found
 enum-known-found c = search needs
 
--- src/lines.rt:53:40
 slice-aggregate-put-line : tie.Need-slice-aggregate-put-line
 slice-aggregate-put-line c = search needs
 
--- src/lines.rt:53:31
 put-line-requires : tie.Need-put-line-requires
 unfolding codes field line outcome-line outcome-of
 put-line-requires c κs = rw (c .before .before .before .found .given .1) at (c .before .before .before .before .before .before .pre)
 
--- src/lines.rt:54:21
 enum-known-found-2 : tie.Need-enum-known-found-2
 enum-known-found-2 c = search needs
 
--- src/lines.rt:54:40
 slice-aggregate-put-line-2 : tie.Need-slice-aggregate-put-line-2
 slice-aggregate-put-line-2 c = search needs
 
--- src/lines.rt:54:31
 put-line-requires-2 : tie.Need-put-line-requires-2
 unfolding codes field line outcome-line outcome-of
 put-line-requires-2 c κs = rw (c .before .before .before .found2 .given .1) at (c .before .before .before .before .before .before .pre)
 
--- src/lines.rt:55:36
 enum-told : tie.Need-enum-told
 enum-told c = search needs
 
--- src/lines.rt:55:36
 slice-aggregate-put-bytes : tie.Need-slice-aggregate-put-bytes
 slice-aggregate-put-bytes c = search needs
 
--- src/lines.rt:55:26
 put-bytes-requires : tie.Need-put-bytes-requires
 unfolding codes field line outcome-line outcome-of
 put-bytes-requires c κs = rw (c .before .before .enum-told .given .1) at (c .before .before .before .before .before .pre)
 
--- src/lines.rt:48:1
 same-length : tie.Need-same-length
 same-length c = search needs
 
--- src/lines.rt:48:1
 returns : tie.Need-returns
 unfolding codes field line outcome-line outcome-of
 returns c = rw (c .before .before .before .before .before .before .found .given .1) (c .before .before .put-line .ensures)
 
--- src/lines.rt:48:1
 same-length-2 : tie.Need-same-length-2
 same-length-2 c = search needs
 
--- src/lines.rt:48:1
 returns-2 : tie.Need-returns-2
 unfolding codes field line outcome-line outcome-of
 returns-2 c = rw (c .before .before .before .before .before .before .found2 .given .1) (c .before .before .put-line2 .ensures)
 
--- src/lines.rt:48:1
 same-length-3 : tie.Need-same-length-3
 same-length-3 c = search needs
 
--- src/lines.rt:48:1
 returns-3 : tie.Need-returns-3
 unfolding codes field line outcome-line outcome-of
 returns-3 c = rw (c .before .before .before .before .before .enum-told .given .1) (c .before .before .put-bytes .ensures)

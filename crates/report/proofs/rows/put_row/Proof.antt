@@ -1,4 +1,5 @@
-use mathlib.Core.Path.{_≡_, _∙_}
+-- The four steps of RowLaws. Assumes nothing.
+use mathlib.Core.Path.{_∙_}
 use native.Mathlib.Omega.{arith}
 use lib.ListN.{length-set}
 use Rattle.report.specs.Text.{codes, field}
@@ -6,32 +7,23 @@ use Rattle.report.proofs.RowLaws.{row-in, row-start, row-room, blank-ro
 use borrow.Author.Needs.{needs}
 use Rattle.report.proofs.rows.put_row.Statement.{statement}
 use Rattle.report.proofs.rows.put_row.Tie as tie
-use Rattle.report.proofs.rows.put_row.Reads as reads
-use Rattle.report.proofs.rows.put_row.Lts as lts
-use Rattle.report.proofs.rows.put_states.Reads as put-states-reads
-use Rattle.report.proofs.words.put_field.Reads as put-field-reads
 
--- src/lines.rt:81:27
 slice-aggregate-put-field : tie.Need-slice-aggregate-put-field
 slice-aggregate-put-field c = search needs
 
--- src/lines.rt:81:9
 put-field-requires : tie.Need-put-field-requires
 unfolding codes field
 put-field-requires c κs = row-room _ _ _ (c .before .before .before .before .pre .1 .1 .1)
 
--- src/lines.rt:82:5
 slice-write-out : tie.Need-slice-write-out
 unfolding codes field
 slice-write-out c = blank-room _ _ _ (c .before .before .before .before .before .before .before .pre .1 .1 .1) (c .before .before .put-field .ensures)
 
--- src/lines.rt:83:38
 mul-put-states : tie.Need-mul-put-states
 mul-put-states c =
     let start = c .before .before .before .before .before .before .before in
     omega (arith, row-start (start .args .n) (start .args .tail) (start .pre .0) (start .pre .1 .0))
 
--- src/lines.rt:83:71
 add-put-states : tie.Need-add-put-states
 unfolding codes field
 add-put-states c =
@@ -39,21 +31,18 @@ add-put-states c =
     let h = blank-room _ _ _ (start .pre .1 .1 .1) (c .before .before .before .put-field .ensures) in
     omega (arith, start .good .1 .1 .1 .0 .0, c .before .before .before .put-field .kept .1 .1 .0)
 
--- src/lines.rt:83:9
 put-states-requires : tie.Need-put-states-requires
 unfolding codes field
 put-states-requires c κs =
     let start = c .before .before .before .before .before .before .before .before in
     (omega (arith, row-in (start .args .n) (start .args .tail) (start .pre .1 .0)), states-room _ _ _ (start .pre .1 .1 .1) (c .before .before .before .put-field .ensures))
 
--- src/lines.rt:84:5
 slice-write-out-2 : tie.Need-slice-write-out-2
 unfolding codes field
 slice-write-out-2 c =
     let start = c .before .before .before .before .before .before .before .before .before .before .before in
     end-room _ _ _ (start .pre .1 .1 .1) (c .before .before .before .before .before .before .put-field .ensures) (c .before .before .put-states .ensures)
 
--- src/lines.rt:85:5
 add-result : tie.Need-add-result
 unfolding codes field
 add-result c =
@@ -62,12 +51,10 @@ add-result c =
     let h = end-room _ _ _ (start .pre .1 .1 .1) (mid .ensures) (c .before .before .put-states .ensures) in
     omega (arith, start .good .1 .1 .1 .0 .0, simp length-set at (c .before .before .put-states .kept .1 .1 .1 .0), mid .kept .1 .1 .0)
 
--- src/lines.rt:74:1
 same-length : tie.Need-same-length
 same-length c =
     simp length-set (c .before .before .put-states .kept .1 .1 .1 .0 ∙ simp length-set (c .before .before .before .before .before .before .put-field .kept .1 .1 .0))
 
--- src/lines.rt:74:1
 returns : tie.Need-returns
 unfolding codes field
 returns c =

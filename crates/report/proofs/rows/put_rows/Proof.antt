@@ -1,5 +1,6 @@
+-- The loop has written the rows that it passed. Assumes nothing.
 use mathlib.Core.Path.{_≡_, refl, _∙_}
-use Prim.Native.Nat.{ℕ, _-_, _≤_}
+use Prim.Native.Nat.{_-_, _≤_}
 use native.Mathlib.Omega.{arith}
 use lib.ListN.{length}
 use Rattle.report.specs.Text.{join-below, row-line, row-lines}
@@ -7,9 +8,6 @@ use Rattle.report.specs.Written.{Wrote}
 use Rattle.report.proofs.JoinLaws.{join-none, join-room, join-next}
 use Rattle.report.proofs.rows.put_rows.Statement.{statement}
 use Rattle.report.proofs.rows.put_rows.Tie as tie
-use Rattle.report.proofs.rows.put_rows.Reads as reads
-use Rattle.report.proofs.rows.put_rows.Lts as lts
-use Rattle.report.proofs.rows.put_row.Reads as put-row-reads
 
 abbrev Inv-loop : tie.InvT-loop
 Inv-loop n states out₀ at tail₀ next₀ out tail next = Wrote out₀ at (join-below tail (row-line n states)) out next × (tail ≤ n) × (length out ≡ length out₀)
@@ -17,11 +15,9 @@ Inv-loop n states out₀ at tail₀ next₀ out tail next = Wrote out₀ at (joi
 abbrev μ-loop : tie.MeasureT-loop
 μ-loop n states out₀ at tail₀ next₀ out tail next = n - tail
 
--- src/whole.rt:104:5
 loop-holds : tie.Need-loop-holds Inv-loop μ-loop
 loop-holds c = (join-none _ _ _, omega arith, refl)
 
--- src/whole.rt:105:9
 put-row-requires : tie.Need-put-row-requires Inv-loop μ-loop
 unfolding row-lines
 put-row-requires c κs =
@@ -29,15 +25,12 @@ put-row-requires c κs =
     let start = c .before .before .before .before .before in
     (start .pre .0, (c .before .loop-test .taken, (start .pre .1 .0, join-room _ _ (i .tail) (start .pre .1 .1) (c .before .loop-test .taken) (i .inv .0))))
 
--- src/whole.rt:106:9
 add-tail : tie.Need-add-tail Inv-loop μ-loop
 add-tail c = omega arith
 
--- src/whole.rt:104:5
 loop-less : tie.Need-loop-less Inv-loop μ-loop
 loop-less c = omega arith
 
--- src/whole.rt:104:5
 loop-again : tie.Need-loop-again Inv-loop μ-loop
 unfolding row-lines
 loop-again c =
@@ -46,11 +39,9 @@ loop-again c =
     let test = c .before .before .before .before .loop-test .taken in
     (join-next _ _ (i .tail) (start .pre .1 .1) test (i .inv .0) (c .before .before .put-row .ensures), omega arith, c .before .before .put-row .kept .1 .1 .1 .0 ∙ i .inv .2)
 
--- src/whole.rt:96:1
 same-length : tie.Need-same-length Inv-loop μ-loop
 same-length c = c .before .loop .inv .2
 
--- src/whole.rt:96:1
 returns : tie.Need-returns Inv-loop μ-loop
 unfolding row-lines
 returns c = let e : c .before .loop .tail ≡ c .before .before .before .before .args .n = omega arith in rw e at (c .before .loop .inv .0)

@@ -1,14 +1,13 @@
-use mathlib.Core.Path.{_≡_, refl, ap}
-use Prim.Native.Nat.{_≤_, _-_, _+_}
+-- The loop has copied the bytes that it passed. Assumes nothing.
+use mathlib.Core.Path.{_≡_, refl}
+use Prim.Native.Nat.{_≤_, _-_}
 use native.Mathlib.Omega.{arith}
-use lib.ListN.{length, take, length-take, length-set}
+use lib.ListN.{length, take, length-set}
 use lib.Seq.{take-all}
 use Rattle.report.specs.Written.{Wrote}
 use Rattle.report.proofs.Writing.{wrote-none, copied-place, copied-next}
 use Rattle.report.proofs.words.put_bytes.Statement.{statement}
 use Rattle.report.proofs.words.put_bytes.Tie as tie
-use Rattle.report.proofs.words.put_bytes.Reads as reads
-use Rattle.report.proofs.words.put_bytes.Lts as lts
 
 abbrev Inv-loop : tie.InvT-loop
 Inv-loop bytes out₀ at i₀ next₀ out i next = Wrote out₀ at (take i bytes) out next × (i ≤ length bytes) × (length out ≡ length out₀)
@@ -16,41 +15,32 @@ Inv-loop bytes out₀ at i₀ next₀ out i next = Wrote out₀ at (take i bytes
 abbrev μ-loop : tie.MeasureT-loop
 μ-loop bytes out₀ at i₀ next₀ out i next = length bytes - i
 
--- src/words.rt:14:5
 loop-holds : tie.Need-loop-holds Inv-loop μ-loop
 loop-holds c = (wrote-none _ _, omega arith, refl)
 
--- src/words.rt:15:21
 shared-slice-read-out : tie.Need-shared-slice-read-out Inv-loop μ-loop
 shared-slice-read-out c = omega arith
 
--- src/words.rt:15:9
 slice-write-out : tie.Need-slice-write-out Inv-loop μ-loop
 slice-write-out c = let i = c .before .before .loop in let p = copied-place _ (i .i) (i .inv .0) (i .inv .1) in omega arith
 
--- src/words.rt:16:9
 add-next : tie.Need-add-next Inv-loop μ-loop
 add-next c = let i = c .before .before .loop in let p = copied-place _ (i .i) (i .inv .0) (i .inv .1) in omega arith
 
--- src/words.rt:17:9
 add-i : tie.Need-add-i Inv-loop μ-loop
 add-i c = omega arith
 
--- src/words.rt:14:5
 loop-less : tie.Need-loop-less Inv-loop μ-loop
 loop-less c = omega arith
 
--- src/words.rt:14:5
 loop-again : tie.Need-loop-again Inv-loop μ-loop
 loop-again c =
     let i = c .before .before .loop in
     (copied-next _ (i .i) (i .inv .0) (c .before .loop-test .taken) (c .before .before .before .pre), omega arith, simp length-set (i .inv .2))
 
--- src/words.rt:8:1
 same-length : tie.Need-same-length Inv-loop μ-loop
 same-length c = c .before .loop .inv .2
 
--- src/words.rt:8:1
 returns : tie.Need-returns Inv-loop μ-loop
 returns c = rw (take-all _ _ (c .loop-test .left)) at (c .before .loop .inv .0)
 

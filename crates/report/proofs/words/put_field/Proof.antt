@@ -1,25 +1,18 @@
+-- The number goes behind the word. Assumes nothing.
 use Rattle.report.proofs.Writing.{room-first, wrote-room, wrote-then}
 use borrow.Author.Needs.{needs}
 use Rattle.report.proofs.words.put_field.Statement.{statement}
 use Rattle.report.proofs.words.put_field.Tie as tie
-use Rattle.report.proofs.words.put_field.Reads as reads
-use Rattle.report.proofs.words.put_field.Lts as lts
-use Rattle.report.proofs.words.put_bytes.Reads as put-bytes-reads
-use Rattle.report.proofs.words.put_decimal.Reads as put-decimal-reads
 
--- src/words.rt:41:9
 put-bytes-requires : tie.Need-put-bytes-requires
 put-bytes-requires c κs = room-first _ (c .before .before .before .pre)
 
--- src/words.rt:42:5
 put-decimal-requires : tie.Need-put-decimal-requires
 put-decimal-requires c κs = wrote-room (c .before .before .before .put-bytes .ensures) _ (c .before .before .before .before .before .before .before .pre)
 
--- src/words.rt:37:1
 same-length : tie.Need-same-length
 same-length c = search needs
 
--- src/words.rt:37:1
 returns : tie.Need-returns
 returns c =
     let start = c .before .before .before .before .before .before .before .before .before .before in
