@@ -17,7 +17,7 @@ use Rattle.base.specs.Bounded.{sum-below}
 use Rattle.base.proofs.BoundedLaws.{sum-mono, sum-room}
 use Rattle.instance.specs.Arborescence.{parent}
 use Rattle.instance.specs.States.{Outcome, plan, over, no-tree}
-use Rattle.report.specs.Text.{codes, decimal-in, decimal, field, line, join-below, header-line, outcome-line, feed-line, row-line, feed-at, feed-lines, row-lines, text, refused-text, total-in, max-text}
+use Rattle.report.specs.Text.{codes, decimal-in, decimal, field, line, join-below, header-line, outcome-line, feed-line, row-line, feed-at, feed-lines, row-lines, text, refused-text, max-text}
 use Rattle.report.proofs.DecimalLaws.{decimal-length, length-few}
 
 -- SUMS
@@ -51,6 +51,12 @@ header-length n r b hn hb =
     let a = decimal-length 2 n (omega arith) hn in
     let d = decimal-length 8 b (omega arith) hb in
     omega (arith, field-length "positions " n, field-length " root " r, line-length " budget " b)
+
+-- the total that an outcome shows
+unfoldable pub total-in : Outcome → ℕ
+total-in (plan v) = v
+total-in (over v) = v
+total-in no-tree = 0
 
 outcome-length : (o : Outcome) → total-in o < 10 ^ 8 → length (outcome-line o) ≤ 14
 unfolding outcome-line total-in codes

@@ -20,8 +20,8 @@ use Rattle.theory.specs.Readings.{Least-total}
 use Rattle.theory.proofs.ArborescenceLaws.{arc-ends, arc-weight, remaining-arc, joined}
 use Rattle.theory.proofs.StateLaws.{states-read}
 use Rattle.theory.proofs.OutcomeLaws.{outcome-reads}
-use Rattle.report.specs.Text.{report-text, total-in, max-text}
-use Rattle.report.proofs.LengthLaws.{Short-feeds, Digits, sum-longer, text-length}
+use Rattle.report.specs.Text.{report-text, max-text}
+use Rattle.report.proofs.LengthLaws.{Short-feeds, Digits, sum-longer, total-in, text-length}
 
 whole : sum-below 32 (λ v. max-weight) ≡ 32000000
 unfolding sum-below

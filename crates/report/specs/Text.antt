@@ -91,12 +91,6 @@ report-text s o ps = text (s .n) (s .root) (s .budget) o ps (states s) (weight s
 unfoldable pub refused-text : (number : ℕ) → List ℕ
 refused-text k = line "refused " k
 
--- the total that an outcome shows
-unfoldable pub total-in : Outcome → ℕ
-total-in (plan v) = v
-total-in (over v) = v
-total-in no-tree = 0
-
 -- the longest text: 32 vertices, and every number as long as it can be
 abbrev pub max-text : ℕ
 max-text = 2241

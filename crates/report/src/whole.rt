@@ -12,7 +12,7 @@ use crate::lines::put_line;
 use crate::lines::put_outcome;
 use crate::rows::put_rows;
 
-// No text is longer: 32 vertices, and every number as long as it can be.
+// The longest text of a valid instance with its outcome (proofs/RoomLaws.antt): 32 vertices, and every number as long as it can be.
 pub const MAX_TEXT: usize = 2241;
 
 // Writes the text from the buffer's beginning on and returns its length; the bytes after it keep their contents.
@@ -33,10 +33,10 @@ pub fn write_report(
     requires { ⌜ length (text n root budget (outcome-of found) (now parents) (now states) (weight-in (now weights))) ≤ length (now out) ⌝ }
     ensures { λ r. ⌜ Filled (now (out .entry)) (text n root budget (outcome-of found) (now (parents .entry)) (now (states .entry)) (weight-in (now (weights .entry)))) (now (out .exit)) r ⌝ }
 {
-    let opened = put_header(n, root, budget, out, 0);
-    let second = put_outcome(found, out, opened);
-    let feeds = put_feeds(n, root, found, parents, weights, out, second);
-    put_rows(n, states, out, feeds)
+    let outcome_at = put_header(n, root, budget, out, 0);
+    let feeds_at = put_outcome(found, out, outcome_at);
+    let rows_at = put_feeds(n, root, found, parents, weights, out, feeds_at);
+    put_rows(n, states, out, rows_at)
 }
 
 // The line of a refused card.

@@ -1,7 +1,5 @@
 // Words and numbers.
 ghost use mathlib.Core.List.{_++_};
-ghost use Prim.Native.Nat.{_+_, _≤_};
-ghost use lib.ListN.{length};
 ghost use Rattle.report.specs.Text.{decimal};
 ghost use Rattle.report.specs.Written.{Room, Wrote};
 
