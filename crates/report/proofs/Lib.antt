@@ -1,0 +1,10 @@
+-- Document 01's texts, computed; laws of decimals and of writing.
+pub mod WorkedTexts
+pub mod DecimalLaws
+pub mod Writing
+pub mod JoinLaws
+pub mod RowLaws
+pub mod TextLaws
+pub mod BufferLaws
+pub mod LengthLaws
+pub mod RoomLaws
