@@ -10,7 +10,7 @@ use Rattle.instance.specs.Instance.{Instance, weight, mark, can-be-arc, is-arc}
 use Rattle.instance.specs.Arborescence.{is-pinned, other-pinned, remaining, reaches, parent-ok, is-arborescence, total, uses}
 use Rattle.instance.specs.Candidates.{prefixed, choices, candidates-from, candidates, arborescences, lesser, least-total, cheapest}
 use Rattle.instance.specs.States.{outcome-at, outcome, fits, fitting, state-over, states}
-use Rattle.instance.proofs.WorkedCases.{arc, filled, instance-of, sheet-q}
+use Rattle.instance.proofs.WorkedCases.{arc, filled, instance-of, instance-q}
 use Rattle.report.specs.Text.{codes, decimal-in, decimal, field, line, join-below, header-line, outcome-line, feed-line, row-line, feed-at, feed-lines, row-lines, text, report-text, refused-text}
 
 unfoldable pub reported : Instance → (parents : List ℕ) → List ℕ
@@ -19,10 +19,10 @@ reported s ps = report-text s (outcome s) ps
 -- what is printed
 unfoldable pub printed : List (List ℕ)
 printed =
-    reported (sheet-q 16 []) (255 ∷ 0 ∷ 1 ∷ 1 ∷ [])
-    ∷ reported (sheet-q 14 []) []
-    ∷ reported (sheet-q 16 (arc 2 1 pinned ∷ arc 1 2 pinned ∷ [])) []
-    ∷ reported (instance-of 1 0 [] []) (255 ∷ [])
+    reported (instance-q 16 []) (255 ∷ 0 ∷ 1 ∷ 1 ∷ [])
+    ∷ reported (instance-q 14 []) []
+    ∷ reported (instance-q 16 (arc 2 1 pinned ∷ arc 1 2 pinned ∷ [])) []
+    ∷ reported (instance-of 1 0 0 [] []) (255 ∷ [])
     ∷ refused-text 3
     ∷ []
 
@@ -58,7 +58,7 @@ shown =
 pub worked : printed ≡ shown
 unfolding
     reported printed shown codes decimal-in decimal field line join-below header-line outcome-line feed-line row-line feed-at feed-lines row-lines text report-text
-    refused-text sheet-q instance-of filled all-below any-below sum-below tabulate-from tabulate select any-of all-of weight mark can-be-arc is-arc
+    refused-text instance-q instance-of filled all-below any-below sum-below tabulate-from tabulate select any-of all-of weight mark can-be-arc is-arc
     is-pinned other-pinned remaining reaches parent-ok is-arborescence total uses prefixed choices candidates-from candidates arborescences lesser
     least-total cheapest outcome-at outcome fits fitting state-over states
 worked = refl
