@@ -1,0 +1,222 @@
+// Makes cards of several families with a fixed seed, runs the planner's print_plan and the baseline on the same cards in turn, checks that
+// they print the same outcome and states, and prints times and ratios. Arguments: PRINT_PLAN BASELINE [valgrind].
+// A time is that of a whole process, its start included: the least of several runs, since other work on the machine only adds to it.
+use std::fs::{self, File};
+use std::process::{Command, Stdio};
+use std::time::Instant;
+
+const NONE: u32 = 1_048_575;
+
+struct Random(u64);
+
+impl Random {
+    fn below(&mut self, k: u64) -> u64 {
+        self.0 ^= self.0 << 13;
+        self.0 ^= self.0 >> 7;
+        self.0 ^= self.0 << 17;
+        (self.0 >> 11) % k
+    }
+}
+
+#[derive(Clone)]
+struct Sheet {
+    n: usize,
+    root: usize,
+    budget: u32,
+    price: Vec<u32>, // feeder by feeder
+    mark: Vec<u32>,
+}
+
+impl Sheet {
+    fn new(n: usize, root: usize) -> Sheet {
+        Sheet { n, root, budget: 31_000_000, price: vec![NONE; n * n], mark: vec![0; n * n] }
+    }
+
+    fn fill(mut self, mut price: impl FnMut(usize, usize) -> u32) -> Sheet {
+        for f in 0..self.n {
+            for p in 0..self.n {
+                if f != p && p != self.root {
+                    self.price[f * self.n + p] = price(f, p);
+                }
+            }
+        }
+        self
+    }
+
+    fn card(&self) -> Vec<u8> {
+        let mut bits: Vec<bool> = Vec::new();
+        let mut put = |v: u32, width: u32| (0..width).rev().for_each(|k| bits.push(v >> k & 1 == 1));
+        put(self.n as u32, 6);
+        put(self.root as u32, 5);
+        put(self.budget, 25);
+        for f in 0..self.n {
+            for p in 0..self.n {
+                if f != p && p != self.root {
+                    put(self.price[f * self.n + p], 20);
+                    put(self.mark[f * self.n + p], 2);
+                }
+            }
+        }
+        bits.resize((bits.len() + 7) / 8 * 8, false);
+        bits.chunks(8).map(|c| c.iter().fold(0, |v, &b| v << 1 | u8::from(b))).collect()
+    }
+}
+
+fn dense(r: &mut Random, n: usize) -> Sheet {
+    let root = r.below(n as u64) as usize;
+    Sheet::new(n, root).fill(|_, _| r.below(1_000_001) as u32)
+}
+
+fn equal(r: &mut Random, n: usize) -> Sheet {
+    let p = r.below(1_000_001) as u32;
+    Sheet::new(n, 0).fill(|_, _| p)
+}
+
+fn few(r: &mut Random, n: usize) -> Sheet {
+    Sheet::new(n, 0).fill(|_, _| r.below(4) as u32)
+}
+
+fn sparse(r: &mut Random, n: usize) -> Sheet {
+    Sheet::new(n, 0).fill(|f, p| if f + 1 == p || r.below(8) == 0 { r.below(1_000_001) as u32 } else { NONE })
+}
+
+// Every contraction takes in one vertex more: v + 1 is cheapest from within {1 .. v}, and {1 .. v} cheapest from v + 1.
+fn nested(r: &mut Random, n: usize) -> Sheet {
+    Sheet::new(n, 0).fill(|f, p| match (f, p) {
+        (0, _) => 900_000 + r.below(1000) as u32,
+        (f, 1) => 100 * f as u32 + r.below(50) as u32,
+        (f, p) if f + 1 == p => 1 + r.below(5) as u32,
+        _ => 500_000 + r.below(300_000) as u32,
+    })
+}
+
+fn marked(r: &mut Random, n: usize) -> Sheet {
+    let mut s = dense(r, n);
+    for p in 0..n {
+        for f in 0..n {
+            if f != p && p != s.root && r.below(3) == 0 {
+                s.mark[f * n + p] = 2;
+            }
+        }
+        if r.below(6) == 0 {
+            let f = s.root;
+            if f != p {
+                s.mark[f * n + p] = 1;
+            }
+        }
+    }
+    s
+}
+
+fn run(program: &str, card: &str) -> String {
+    let out = Command::new(program).stdin(File::open(card).unwrap()).output().expect(program);
+    String::from_utf8(out.stdout).unwrap()
+}
+
+fn time(program: &str, card: &str) -> f64 {
+    let start = Instant::now();
+    let status = Command::new(program).stdin(File::open(card).unwrap()).stdout(Stdio::null()).status().expect(program);
+    assert!(status.success());
+    start.elapsed().as_secs_f64() * 1000.0
+}
+
+// The outcome and the rows; the tree is free, so the feed lines are left out.
+fn fixed(text: &str) -> Vec<&str> {
+    text.lines().filter(|l| !l.starts_with("feed ")).collect()
+}
+
+fn cheapest(text: &str) -> Option<u32> {
+    let line = text.lines().nth(1)?;
+    line.strip_prefix("plan ").or(line.strip_prefix("over "))?.parse().ok()
+}
+
+// Under valgrind: how often the planner was called, and the deepest stack.
+fn plannings(program: &str, card: &str) -> u64 {
+    let out = "target/bench/callgrind";
+    Command::new("valgrind")
+        .args(["--tool=callgrind", &format!("--callgrind-out-file={out}"), program])
+        .stdin(File::open(card).unwrap())
+        .stdout(Stdio::null())
+        .stderr(Stdio::null())
+        .status()
+        .expect("valgrind");
+    let text = fs::read_to_string(out).unwrap_or_default();
+    let mut names = std::collections::HashMap::new();
+    let mut calls = 0;
+    let mut callee = String::new();
+    for line in text.lines() {
+        if let Some(rest) = line.strip_prefix("cfn=").or(line.strip_prefix("fn=")) {
+            let (id, name) = rest.split_once(' ').unwrap_or((rest, ""));
+            if !name.is_empty() {
+                names.insert(id.to_string(), name.to_string());
+            }
+            if line.starts_with("cfn=") {
+                callee = names.get(id).cloned().unwrap_or_default();
+            }
+        } else if let Some(rest) = line.strip_prefix("calls=") {
+            if callee.contains("plan_matrix") {
+                calls += rest.split(' ').next().unwrap().parse::<u64>().unwrap();
+            }
+        }
+    }
+    calls
+}
+
+fn peak_stack(program: &str, card: &str) -> u64 {
+    let out = "target/bench/massif";
+    Command::new("valgrind")
+        .args(["--tool=massif", "--stacks=yes", &format!("--massif-out-file={out}"), program])
+        .stdin(File::open(card).unwrap())
+        .stdout(Stdio::null())
+        .stderr(Stdio::null())
+        .status()
+        .expect("valgrind");
+    let text = fs::read_to_string(out).unwrap_or_default();
+    text.lines().filter_map(|l| l.strip_prefix("mem_stacks_B=")?.parse().ok()).max().unwrap_or(0)
+}
+
+fn main() {
+    let args: Vec<String> = std::env::args().collect();
+    let (ours, base) = (&args[1], &args[2]);
+    let deep = args.get(3).is_some_and(|a| a == "valgrind");
+    fs::create_dir_all("target/bench").unwrap();
+    let families: [(&str, fn(&mut Random, usize) -> Sheet); 6] =
+        [("dense", dense), ("equal", equal), ("few", few), ("nested", nested), ("sparse", sparse), ("marked", marked)];
+    let mut random = Random(0x9E37_79B9_7F4A_7C15);
+    println!("family   budget      n  baseline ms  print_plan ms  ratio  plannings  stack bytes");
+    for (name, make) in families {
+        for budget in ["tight", "middling", "unlimited"] {
+            for n in [8, 16, 32] {
+                let (mut a, mut b, mut count, mut stack) = (0.0, 0.0, 0, 0);
+                let cards = 5;
+                for _ in 0..cards {
+                    let mut sheet = make(&mut random, n);
+                    fs::write("target/bench/card", sheet.card()).unwrap();
+                    if let Some(v) = cheapest(&run(base, "target/bench/card")) {
+                        sheet.budget = match budget {
+                            "tight" => v,
+                            "middling" => v + v / 10,
+                            _ => 31_000_000,
+                        };
+                    }
+                    fs::write("target/bench/card", sheet.card()).unwrap();
+                    let (x, y) = (run(base, "target/bench/card"), run(ours, "target/bench/card"));
+                    assert_eq!(fixed(&x), fixed(&y), "{name} {budget} {n}");
+                    let (mut p, mut q) = (f64::MAX, f64::MAX);
+                    for _ in 0..15 {
+                        p = p.min(time(base, "target/bench/card"));
+                        q = q.min(time(ours, "target/bench/card"));
+                    }
+                    a += p;
+                    b += q;
+                    if deep && n == 32 {
+                        count = count.max(plannings(ours, "target/bench/card"));
+                        stack = stack.max(peak_stack(ours, "target/bench/card"));
+                    }
+                }
+                let k = cards as f64;
+                println!("{name:<8} {budget:<10} {n:>2} {:>12.2} {:>14.2} {:>6.2} {count:>10} {stack:>12}", a / k, b / k, b / a);
+            }
+        }
+    }
+}
