@@ -2,10 +2,9 @@
 -- about the whole list. The answers and what is left are written out here, so that board and log cannot be wrong alike. Computed.
 -- Assumes nothing.
 use mathlib.Core.Path.{_≡_, refl}
-use mathlib.Core.Bool.{Bool, true, false, _&&_, not, cond}
 use mathlib.Core.List.{List, [], _∷_, _++_, map}
 use Prim.Native.Nat.{ℕ, _*_, _/_, _%_}
-use lib.ListN.{length, replicate, set}
+use lib.ListN.{replicate}
 use Rattle.base.specs.Bounded.{all-below}
 use Rattle.base.specs.Lists.{tabulate-from, tabulate, all-of}
 use Rattle.instance.specs.Limits.{banned}

@@ -3,10 +3,9 @@
 use mathlib.Core.Path.{_≡_, refl}
 use mathlib.Core.List.{List, [], _∷_, map}
 use Prim.Native.Nat.{ℕ}
-use lib.ListN.{replicate, set}
 use Rattle.base.specs.Lists.{all-of}
 use Rattle.bits.specs.Bits.{bits-of, bits-in, number-from, field}
-use Rattle.instance.specs.Limits.{no-arc, free, pinned, banned, cells}
+use Rattle.instance.specs.Limits.{pinned, banned}
 use Rattle.instance.specs.Instance.{Instance, can-be-arc}
 use Rattle.instance.proofs.WorkedCases.{arc, filled, instance-of, instance-q}
 use Rattle.card.specs.Card.{on-card, bits-needed, bytes-needed, cell-fields, instance-in, cell-refusal, cells-refusal, card-refusal}

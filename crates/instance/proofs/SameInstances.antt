@@ -22,10 +22,6 @@ chosen : (c x y d : Bool) → (c ≡ true → x ≡ y) → cond c x d ≡ cond c
 chosen true x y d h = h refl
 chosen false x y d h = refl
 
-pub same-again : (a : Instance) → Same-instance a a
-same-again a =
-    record { same-n = refl; same-root = refl; same-budget = refl; same-weights = λ t h c. refl; same-marks = λ t h c. refl }
-
 module _ (a b : Instance) (e : Same-instance a b) where
   pub same-can-be : (t h : ℕ) → can-be-arc (a .n) (a .root) t h ≡ can-be-arc (b .n) (b .root) t h
   same-can-be t h = rw (e .same-n, e .same-root)

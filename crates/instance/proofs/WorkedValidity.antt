@@ -1,13 +1,13 @@
 -- Which instances are valid, at the ranges' ends: one list with one claim about the whole list. Computed. Assumes nothing.
 use mathlib.Core.Path.{_≡_, refl}
-use mathlib.Core.Bool.{Bool, true, false, _&&_, not, cond}
+use mathlib.Core.Bool.{Bool, true, false}
 use mathlib.Core.List.{List, [], _∷_, map}
 use Prim.Native.Nat.{ℕ}
 use Rattle.base.specs.Bounded.{all-below}
 use Rattle.instance.specs.Limits.{no-arc, free, pinned, banned}
 use Rattle.instance.specs.Instance.{Instance, can-be-arc}
 use Rattle.instance.specs.Valid.{cell-ok, cell-valid, header-valid, valid-instance}
-use Rattle.instance.proofs.WorkedCases.{At, arc, filled, instance-of, instance-q}
+use Rattle.instance.proofs.WorkedCases.{arc, filled, instance-of, instance-q}
 
 pub record Judged : Type 0 where
   pub of : Instance
