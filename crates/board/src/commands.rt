@@ -13,15 +13,14 @@ use crate::Board;
 use crate::Command;
 use crate::Replaced;
 use crate::UndoRecord;
-use crate::valid::BANNED;
-use crate::valid::FREE;
-use crate::valid::MAX_BUDGET;
-use crate::valid::MAX_RECORDS;
 use crate::valid::is_arc;
 use crate::valid::is_valid;
 use instance::Vertex;
-
-const PINNED: u8 = 1;
+use instance::limits::BANNED;
+use instance::limits::FREE;
+use instance::limits::MAX_BUDGET;
+use instance::limits::MAX_RECORDS;
+use instance::limits::PINNED;
 
 // The number that refuses a mark on a valid board, or 0. `is_arc` is false where a vertex is not below n, so it can be asked first.
 fn mark_refusal(weights: &[u32; 1024], n: u32, root: u32, count: usize, tail: u32, head: u32) -> u32

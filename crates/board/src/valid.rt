@@ -5,43 +5,21 @@ ghost use Prim.Native.Nat.{_≤_, _<_};
 ghost use lib.ListN.{length};
 ghost use Rattle.base.specs.Bounded.{all-below};
 ghost use Rattle.base.specs.Lists.{all-of};
-ghost use Rattle.instance.specs.Instance.{can-be-arc, is-arc};
+ghost use Rattle.instance.specs.Instance.{is-arc};
 ghost use Rattle.instance.specs.Matrix.{unmarked};
 ghost use Rattle.instance.specs.Valid.{cell-ok, cell-valid, header-valid};
 ghost use Rattle.board.specs.Model.{record-ok, valid};
 ghost use Rattle.board.specs.ModelOf.{instance-with, instance-of, replaced-of, history-of, model-of};
 use crate::Board;
 use crate::Replaced;
-
-// The limits of document 01.
-pub const MAX_VERTICES: u32 = 32;
-
-pub const MAX_WEIGHT: u32 = 1000000;
-
-pub const NO_ARC: u32 = 1048575;
-
-pub const MAX_BUDGET: u32 = 31000000;
-
-pub const FREE: u8 = 0;
-
-pub const BANNED: u8 = 2;
-
-pub const MAX_RECORDS: usize = 200;
-
-fn can_be_arc(n: u32, root: u32, tail: u32, head: u32) -> bool
-    ensures { λ r. ⌜ r ≡ can-be-arc n root tail head ⌝ }
-{
-    if n <= tail {
-        return false;
-    }
-    if n <= head {
-        return false;
-    }
-    if tail == head {
-        return false;
-    }
-    head != root
-}
+use instance::can_be_arc;
+use instance::limits::BANNED;
+use instance::limits::FREE;
+use instance::limits::MAX_BUDGET;
+use instance::limits::MAX_RECORDS;
+use instance::limits::MAX_VERTICES;
+use instance::limits::MAX_WEIGHT;
+use instance::limits::NO_ARC;
 
 pub fn is_arc(weights: &[u32; 1024], n: u32, root: u32, tail: u32, head: u32) -> bool
     requires { ⌜ (n ≤ 32) × (length (now weights) ≡ 1024) ⌝ }

@@ -23,7 +23,7 @@ use Rattle.instance.specs.Limits.{max-weight, max-budget, no-arc, free, banned}
 use Rattle.instance.specs.Instance.{Instance, cell, weight-at, mark-at, weight, mark, can-be-arc}
 use Rattle.instance.specs.Valid.{cell-ok, cell-valid, header-valid, valid-instance}
 use Rattle.card.specs.Card.{n-in, root-in, budget-in, on-card, bits-needed, bytes-needed, instance-in, cell-refusal, cells-refusal, card-refusal, cell-bits, instance-bits, card-of}
-use Rattle.card.specs.Same.{Same-instance}
+use Rattle.instance.specs.Same.{Same-instance}
 use Rattle.card.specs.Writing.{header-bits}
 use Rattle.card.proofs.CellLaws.{ok-passes, all-pass}
 use Rattle.card.proofs.ReadingLaws.{length-known}

@@ -3,4 +3,3 @@ pub mod Card
 pub mod Offsets
 pub mod Reading
 pub mod Writing
-pub mod Same

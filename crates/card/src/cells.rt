@@ -1,5 +1,4 @@
 // The cells of a card, read and judged.
-use crate::limits;
 ghost use mathlib.Core.Path.{_≡_};
 ghost use Prim.Native.Nat.{_*_, _≤_, _<_};
 ghost use lib.ListN.{length};
@@ -7,24 +6,16 @@ ghost use Rattle.bits.specs.Bits.{bits-in};
 ghost use Rattle.card.specs.Card.{on-card, cell-refusal};
 ghost use Rattle.card.specs.Offsets.{offset};
 ghost use Rattle.card.specs.Reading.{Cell-read, Cells-read};
+use instance::can_be_arc;
+use instance::limits::MAX_WEIGHT;
+use instance::limits::NO_ARC;
 
 // Whether cell `i` is on the card: its tail and head are vertices, differ, and the head is not the root.
 pub fn on_card(n: u32, root: u32, i: usize) -> bool
     requires { ⌜ i < 1024 ⌝ }
     ensures { λ r. ⌜ r ≡ on-card n root i ⌝ }
 {
-    let tail = (i / 32) as u32;
-    let head = (i % 32) as u32;
-    if n <= tail {
-        return false;
-    }
-    if n <= head {
-        return false;
-    }
-    if tail == head {
-        return false;
-    }
-    head != root
+    can_be_arc(n, root, (i / 32) as u32, (i % 32) as u32)
 }
 
 // A cell of a card, and where the next one begins.
@@ -49,7 +40,7 @@ fn read_cell(card: &[u8], n: u32, root: u32, i: usize, at: usize) -> Cell
         };
     }
     Cell {
-        weight: limits::NO_ARC,
+        weight: NO_ARC,
         mark: 0,
         next: at,
     }
@@ -59,13 +50,13 @@ fn read_cell(card: &[u8], n: u32, root: u32, i: usize, at: usize) -> Cell
 fn judge_cell(weight: u32, mark: u8) -> u32
     ensures { λ r. ⌜ r ≡ cell-refusal weight mark ⌝ }
 {
-    if weight <= limits::MAX_WEIGHT {
+    if weight <= MAX_WEIGHT {
         if mark == 3 {
             return 7;
         }
         return 0;
     }
-    if weight == limits::NO_ARC {
+    if weight == NO_ARC {
         if mark == 0 {
             return 0;
         }
@@ -87,7 +78,7 @@ pub fn read_cells(card: &[u8], n: u32, root: u32) -> Cells
     requires { ⌜ (offset n root 1024 ≤ 8 * length (now card)) × (offset n root 1024 ≤ 65536) ⌝ }
     ensures { λ r. ⌜ Cells-read (bits-in (now (card .entry))) n root r ⌝ }
 {
-    let mut weights = [limits::NO_ARC; 1024];
+    let mut weights = [NO_ARC; 1024];
     let mut marks = [0u8; 1024];
     let mut end: usize = 36;
     let mut i: usize = 0;

@@ -1,6 +1,5 @@
 // The rig card: reading and writing.
 
-pub mod limits; // limits.rt: the numbers that a card is judged by
 pub mod lengths; // lengths.rt: how many bytes a card has
 pub mod cells; // cells.rt: the cells of a card, read and judged
 pub mod read; // read.rt: a card of any bytes, read or refused

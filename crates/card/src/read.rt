@@ -1,9 +1,11 @@
 // A card of any bytes, read or refused.
 use crate::cells;
 use crate::lengths;
-use crate::limits;
 ghost use mathlib.Core.Path.{_≡_};
 ghost use Rattle.card.specs.Reading.{header-of, blank as blank-contents, contents-of};
+use instance::limits::MAX_BUDGET;
+use instance::limits::MAX_VERTICES;
+use instance::limits::NO_ARC;
 
 // The fields before the cells, or a refusal.
 pub struct Header {
@@ -35,7 +37,7 @@ fn read_header(card: &[u8]) -> Header
     if n == 0 {
         return no_header(2);
     }
-    if limits::MAX_VERTICES < n {
+    if MAX_VERTICES < n {
         return no_header(2);
     }
     if card.len() != lengths::needed_length(n) {
@@ -46,7 +48,7 @@ fn read_header(card: &[u8]) -> Header
         return no_header(4);
     }
     let budget = bits::read_bits(card, 11, 25);
-    if limits::MAX_BUDGET < budget {
+    if MAX_BUDGET < budget {
         return no_header(5);
     }
     Header {
@@ -75,7 +77,7 @@ fn blank(refusal: u32) -> Contents
         n: 0,
         root: 0,
         budget: 0,
-        weights: [limits::NO_ARC; 1024],
+        weights: [NO_ARC; 1024],
         marks: [0u8; 1024],
     }
 }

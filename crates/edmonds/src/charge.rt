@@ -7,8 +7,7 @@ ghost use lib.ListN.{set, length};
 ghost use Rattle.edmonds.specs.Charge.{Cheapest, Affords, Lowered-cells, Members, Charged-group};
 use instance::CutIndex;
 use instance::Vertex;
-
-pub const NO_ARC: u32 = 1048575;
+use instance::limits::NO_ARC;
 
 pub const NO_VERTEX: usize = 255;
 

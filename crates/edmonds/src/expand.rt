@@ -5,8 +5,7 @@ ghost use Prim.Native.Nat.{_≤_, _<_};
 ghost use lib.ListN.{length};
 ghost use Rattle.edmonds.specs.Cycle.{Below, Own-arcs, Entry, Entered, Expanded, Expansion};
 use instance::Vertex;
-
-pub const NO_PARENT: u8 = 255;
+use instance::limits::NO_PARENT;
 
 // Each group's own arc, at the vertex that it enters.
 pub fn own_parents(

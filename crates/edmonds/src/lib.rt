@@ -16,9 +16,9 @@ mod expand; // expand.rt: the cycle's arcs again, but one
 mod plan; // plan.rt: planning that calls itself on the contracted instance
 
 use charge::charge_group;
-use expand::NO_PARENT;
 use instance::CutIndex;
 use instance::Vertex;
+use instance::limits::NO_PARENT;
 use plan::plan_groups;
 
 // An arborescence by its parents, with the number of cuts; or, where there is none, a set that no arc enters.

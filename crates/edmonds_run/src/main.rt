@@ -7,8 +7,7 @@ ghost use lib.ListN.{length};
 ghost use Rattle.edmonds.specs.Planned.{Weights};
 use edmonds::plan_matrix;
 use instance::Vertex;
-
-const NO_ARC: u32 = 1048575;
+use instance::limits::NO_ARC;
 
 fn put_arc(w: &mut [u32; 1024], tail: usize, head: usize, weight: u32)
     requires { ⌜ (length (now w) ≡ 1024) × Weights (now w) ⌝ }

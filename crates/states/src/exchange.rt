@@ -8,8 +8,7 @@ ghost use Rattle.instance.specs.Matrix.{unmarked};
 ghost use Rattle.states.specs.Tree.{Matrix-tree};
 ghost use Rattle.states.specs.Walks.{Rooted, Below};
 ghost use Rattle.states.specs.Exchange.{Below-flag, Below-table, Least-outside, Increase, Increases, Path-least, Detour, Detours};
-
-const NO_ARC: u32 = 1048575;
+use instance::limits::NO_ARC;
 
 // 1 where the vertex is below the head in the tree, as the head is itself.
 fn below(parents: &[u8; 32], n: u32, root: u32, head: u32, vertex: u32) -> u8

@@ -10,8 +10,7 @@ ghost use Rattle.states.specs.Tree.{Matrix-ok};
 ghost use Rattle.states.specs.Judge.{Forced-matrix, Forced-plan};
 use edmonds::Planned;
 use instance::Vertex;
-
-const NO_ARC: u32 = 1048575;
+use instance::limits::NO_ARC;
 
 // Takes the other arcs into the head out of the matrix.
 fn force_arc(w: &mut [u32; 1024], n: u32, tail: u32, head: u32)

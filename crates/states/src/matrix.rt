@@ -10,12 +10,9 @@ ghost use Rattle.instance.specs.Arborescence.{is-pinned as pinned-arc};
 ghost use Rattle.instance.specs.Matrix.{matrix};
 ghost use Rattle.states.specs.Fields.{fields};
 ghost use Rattle.states.specs.Pins.{Pins, Pin-table, allows};
-
-const NO_ARC: u32 = 1048575;
-
-const PINNED: u8 = 1;
-
-const BANNED: u8 = 2;
+use instance::limits::BANNED;
+use instance::limits::NO_ARC;
+use instance::limits::PINNED;
 
 // Pins into a head: a tail, or one of these.
 const NO_PIN: u32 = 32;

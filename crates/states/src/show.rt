@@ -11,8 +11,7 @@ ghost use Rattle.instance.specs.Limits.{no-arc};
 ghost use Rattle.instance.specs.Instance.{can-be-arc};
 ghost use Rattle.contraction.specs.Counting.{count-below};
 ghost use Rattle.states.specs.Table.{is-used, Counts, state-by};
-
-const NO_ARC: u32 = 1048575;
+use instance::limits::NO_ARC;
 
 fn used_into(used: &[u8; 1024], n: u32, head: u32) -> u32
     requires { ⌜ (n ≤ 32) × (head < 32) ⌝ }

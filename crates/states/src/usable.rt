@@ -15,8 +15,7 @@ use super::exchange::detours;
 use super::forced::plan_with;
 use super::tree::enter_tree;
 use super::tree::tree_total;
-
-const NO_ARC: u32 = 1048575;
+use instance::limits::NO_ARC;
 
 // Plans with the arc, and enters the tree that is found if it fits.
 fn judge_by_planning(
