@@ -107,7 +107,7 @@ pub struct Charged {
     pub found: bool,
     pub tail: usize,
     pub head: usize,
-    pub next: u32,
+    pub next: CutIndex,
     pub set: u32,
 }
 
@@ -120,7 +120,7 @@ pub fn charge_group(
     c: CutIndex,
 ) -> Charged
     requires { ⌜ (length (now w) ≡ 1024) × (length (now cuts) ≡ 122) × (n ≤ 32) × (g .0 < n) × (c .0 < 61) ⌝ }
-    ensures { λ r. ⌜ Charged-group (now (w .entry)) (now (w .exit)) (now (label .entry)) n (g .0) (now (cuts .entry)) (now (cuts .exit)) (c .0) (r .found) (r .tail) (r .head) (r .next) (r .set) ⌝ }
+    ensures { λ r. ⌜ Charged-group (now (w .entry)) (now (w .exit)) (now (label .entry)) n (g .0) (now (cuts .entry)) (now (cuts .exit)) (c .0) (r .found) (r .tail) (r .head) (r .next .0) (r .set) ⌝ }
 {
     let group = g.0;
     let k = c.0;
@@ -132,7 +132,7 @@ pub fn charge_group(
             found: false,
             tail: NO_VERTEX,
             head: NO_VERTEX,
-            next: k,
+            next: CutIndex(k),
             set,
         };
     }
@@ -141,7 +141,7 @@ pub fn charge_group(
             found: true,
             tail: arc.tail,
             head: arc.head,
-            next: k,
+            next: CutIndex(k),
             set: 0,
         };
     }
@@ -152,7 +152,7 @@ pub fn charge_group(
         found: true,
         tail: arc.tail,
         head: arc.head,
-        next: k + 1,
+        next: CutIndex(k + 1),
         set: 0,
     }
 }

@@ -8,13 +8,13 @@ use instance::Vertex;
 // A group on the cycle, and the stamps: the groups of the cycle are those stamped no earlier than it.
 pub struct Walked {
     pub found: bool,
-    pub at: u32,
+    pub at: Vertex,
     pub stamp: [u8; 32],
 }
 
 pub fn find_cycle(label: &[u8; 32], tails: &[u8; 32], n: usize, root: Vertex) -> Walked
     requires { ⌜ Searchable (now label) (now tails) n (root .0) ⌝ }
-    ensures { λ r. ⌜ Searched (now (label .entry)) (now (tails .entry)) n (root .0) (r .found) (r .at) (r .stamp) ⌝ }
+    ensures { λ r. ⌜ Searched (now (label .entry)) (now (tails .entry)) n (root .0) (r .found) (r .at .0) (r .stamp) ⌝ }
 {
     let r = root.0 as usize;
     let top = label[r] as usize;
@@ -46,7 +46,7 @@ pub fn find_cycle(label: &[u8; 32], tails: &[u8; 32], n: usize, root: Vertex) ->
     }
     Walked {
         found: s < n,
-        at,
+        at: Vertex(at),
         stamp,
     }
 }

@@ -95,7 +95,7 @@ pub fn plan_matrix(w: &mut [u32; 1024], n: usize, root: Vertex, cuts: &mut [u32;
             }
             tails[v] = next.tail as u8;
             heads[v] = next.head as u8;
-            k = next.next;
+            k = next.next.0;
         }
         v += 1;
     }

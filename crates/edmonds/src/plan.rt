@@ -35,7 +35,7 @@ pub fn plan_groups(
         let parents = own_parents(label, tails, heads, n, Vertex(r));
         return Planned::tree(parents, k);
     }
-    let at = walked.at;
+    let at = walked.at.0;
     let stamp = walked.stamp;
     let coarse = contracted_labels(label, &stamp, n, Vertex(at));
     let next = charge_group(w, &coarse, n, Vertex(at), cuts, CutIndex(k));
@@ -56,7 +56,7 @@ pub fn plan_groups(
         Vertex(r),
         left - 1,
         cuts,
-        CutIndex(next.next),
+        next.next,
     );
     if !inner.found {
         return inner;

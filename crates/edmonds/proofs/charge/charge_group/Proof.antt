@@ -35,8 +35,8 @@ members-requires-2 c κs = search needs
 put-cut-requires : tie.Need-put-cut-requires
 put-cut-requires c κs = search needs
 
-add-t21 : tie.Need-add-t21
-add-t21 c = search needs
+add-t23 : tie.Need-add-t23
+add-t23 c = search needs
 
 returns-3 : tie.Need-returns-3
 returns-3 c =
@@ -60,5 +60,5 @@ charge-group-spec =
     lower-arcs-requires
     members-requires-2
     put-cut-requires
-    add-t21
+    add-t23
     returns-3)

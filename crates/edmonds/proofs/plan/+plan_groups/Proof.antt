@@ -117,7 +117,7 @@ returns-2 t c =
 
 -- what is stored in the arrays of arcs fits there
 stored : (t : ℕ) (c : lts.Else2 (callees t) (at-measure t) plan.Post)
-    → (c .before .before .before .before .before .before .before .before .before .before .before .find-cycle .result .at < 32) × (c .before .before .charge-group .result .tail < 32)
+    → (c .before .before .before .before .before .before .before .before .before .before .before .find-cycle .result .at .0 < 32) × (c .before .before .charge-group .result .tail < 32)
     × (c .before .before .charge-group .result .head < 32)
 stored t c =
     let e2 = c in
