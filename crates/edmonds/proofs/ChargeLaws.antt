@@ -17,7 +17,9 @@ use Rattle.contraction.proofs.Lowering.{lowered-none}
 use Rattle.contraction.proofs.Charging.{entering, enters-no, lowered-charge, charge-tree}
 use Rattle.contraction.proofs.SetBits.{inside-some}
 use Rattle.edmonds.specs.Cells.{at, cost}
-use Rattle.edmonds.specs.Charge.{Cheapest, Affords, Lowered-cells, low, Members, Charged-group}
+use Rattle.edmonds.specs.Entering.{Cheapest}
+use Rattle.edmonds.specs.Lower.{Affords, Lowered-cells, low}
+use Rattle.edmonds.specs.Charge.{Members, Charged-group}
 use Rattle.edmonds.proofs.LowerLaws.{low-in, low-out}
 use Rattle.edmonds.proofs.CutLaws.{no-cuts, one-cut}
 
@@ -30,32 +32,32 @@ group-proper {ls} {n} {g} {s} ms root rl ne v l e =
       no-root = ms .is root rl ∙ ne-eqb (at ls root) g ne;
     }
 
-module _ (ws ls : List ℕ) (n g : ℕ) (small : n ≤ 32) {t h a : ℕ} (b : Cheapest ws ls n g 1024 t h a) where
+module _ (ws ls : List ℕ) (n g : ℕ) (small : n ≤ 32) {t h a : ℕ} (b : Cheapest ws ls n g n t h a) where
   pub affords : Affords ws ls n g a
-  affords u v l m e ne = b .least u v (omega arith) l m e ne
+  affords v m e u l ne = b .least u v l m e ne
 
-  module _ (ws′ : List ℕ) (lo : Lowered-cells ws ws′ ls n g a 0 1024) where
+  module _ (ws′ : List ℕ) (lo : Lowered-cells ws ws′ ls n g a n) where
     at-cell : (u v : ℕ) → u < n → v < n → cost ws′ u v ≡ low ls g a u v (cost ws u v)
-    at-cell u v l m = lo .done u v (omega arith) (omega arith) l m
+    at-cell u v l m = lo .done u v l m
 
     same-cell : (u v : ℕ) → u < n → v < n → (at ls v ≢ g) ⊎ ((at ls u ≡ g) ⊎ (no-arc ≤ cost ws u v)) → cost ws′ u v ≡ cost ws u v
-    same-cell u v l m why = at-cell u v l m ∙ low-out ws ls n g a small u v why
+    same-cell u v l m why = at-cell u v l m ∙ low-out ls g a u v why
 
     lowered-cell : (u v : ℕ) → u < n → v < n → cost ws u v < no-arc → at ls v ≡ g → at ls u ≢ g → cost ws′ u v + a ≡ cost ws u v
     lowered-cell u v l m th e ne =
-        let x = at-cell u v l m ∙ low-in ws ls n g a small u v e ne th in
-        let y = affords u v l m e ne in
+        let x = at-cell u v l m ∙ low-in ls g a u v e ne th in
+        let y = affords v m e u l ne in
         omega arith
 
     beyond-or-none : (u v : ℕ) → v < max-vertices → (n ≤ u) ⊎ ((n ≤ v) ⊎ (no-arc ≤ cost ws u v)) → cost ws′ u v ≡ cost ws u v
-    beyond-or-none u v l (inl d) = lo .beyond u v l (inl d)
-    beyond-or-none u v l (inr (inl d)) = lo .beyond u v l (inr d)
+    beyond-or-none u v l (inl d) = lo .rest u v l (inl d)
+    beyond-or-none u v l (inr (inl d)) = lo .rest u v l (inr d)
     beyond-or-none u v l (inr (inr d)) =
         ⊎-elim
         (λ (p : ltb u n ≡ true).
         ⊎-elim (λ (q : ltb v n ≡ true). same-cell u v (ltb-true u n p) (ltb-true v n q) (inr (inr d)))
-        (λ (q : ltb v n ≡ false). lo .beyond u v l (inr (ltb-false v n q))) (test (ltb v n)))
-        (λ (p : ltb u n ≡ false). lo .beyond u v l (inl (ltb-false u n p))) (test (ltb u n))
+        (λ (q : ltb v n ≡ false). lo .rest u v l (inr (ltb-false v n q))) (test (ltb v n)))
+        (λ (p : ltb u n ≡ false). lo .rest u v l (inl (ltb-false u n p))) (test (ltb u n))
 
     module _ (cuts : List ℕ) (k s : ℕ) (room : k < 61) (cuts-size : length cuts ≡ cut-words) (ms : Members ls g n s) (lt : a < no-arc) (pos : 1 ≤ a) where
       abbrev cut : Cut
@@ -146,7 +148,7 @@ module _ (ws ls : List ℕ) (n g : ℕ) (small : n ≤ 32) {t h a : ℕ} (b : Ch
               proper = group-proper ms root rl ne v l ve;
               shut =
                   λ p q x y th.
-                  ⊎-elim (λ (d : (at ls q ≡ g) × (at ls p ≢ g)). absurd (omega (arith, affords p q x y (d .0) (d .1))))
+                  ⊎-elim (λ (d : (at ls q ≡ g) × (at ls p ≢ g)). absurd (omega (arith, affords q y (d .0) p x (d .1))))
                   (λ (d : (at ls q ≢ g) ⊎ (at ls p ≡ g)). enters-no n (at ls) g (record { set = s; value = 0 }) (ms .is) p q x y d) (entering (at ls) g p q);
             };
       }

@@ -1,5 +1,5 @@
 -- Laws that the functions' proofs cite. Assumes nothing.
-pub mod CheapestLaws
+pub mod EnteringLaws
 pub mod LowerLaws
 pub mod MembersLaws
 pub mod CutLaws

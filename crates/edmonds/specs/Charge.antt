@@ -13,31 +13,6 @@ use Rattle.contraction.specs.Groups.{Lowered}
 use Rattle.contraction.specs.Trees.{Each, Tree, Proper, Fine}
 use Rattle.edmonds.specs.Cells.{at, cost}
 
--- of the arcs into group g at cells below a bound, the cheapest, from t to h; no-arc where there is none
-pub record Cheapest (ws ls : List ℕ) (n g bound t h best : ℕ) : Type 0 where
-  pub most : best ≤ no-arc
-  pub least : (u v : ℕ) → cell u v < bound → u < n → v < n → at ls v ≡ g → at ls u ≢ g → best ≤ cost ws u v
-  pub tail-below : best < no-arc → t < n
-  pub head-below : best < no-arc → h < n
-  pub tail-out : best < no-arc → at ls t ≢ g
-  pub head-in : best < no-arc → at ls h ≡ g
-  pub is : best < no-arc → cost ws t h ≡ best
-
--- a value that no arc into the group is below
-abbrev pub Affords : (ws ls : List ℕ) (n g value : ℕ) → Type 0
-Affords ws ls n g a = (t h : ℕ) → t < n → h < n → at ls h ≡ g → at ls t ≢ g → a ≤ cost ws t h
-
--- what an arc of weight x becomes
-abbrev pub low : (ls : List ℕ) (g value t h x : ℕ) → ℕ
-low ls g a t h x = cond (eqb (at ls h) g && (not (eqb (at ls t) g) && ltb x no-arc)) (x - a) x
-
--- cells from lo up to hi are lowered, the others are as they were
-pub record Lowered-cells (ws ws′ ls : List ℕ) (n g value lo hi : ℕ) : Type 0 where
-  pub size : length ws′ ≡ cells
-  pub done : (t h : ℕ) → lo ≤ cell t h → cell t h < hi → t < n → h < n → cost ws′ t h ≡ low ls g value t h (cost ws t h)
-  pub rest : (i : ℕ) → (i < lo) ⊎ (hi ≤ i) → at ws′ i ≡ at ws i
-  pub beyond : (t h : ℕ) → h < max-vertices → (n ≤ t) ⊎ (n ≤ h) → cost ws′ t h ≡ cost ws t h
-
 -- the vertices of group g below a bound, as bits
 pub record Members (ls : List ℕ) (g bound set : ℕ) : Type 0 where
   pub below : set < 2 ^ bound

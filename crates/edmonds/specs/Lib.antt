@@ -2,5 +2,7 @@
 pub mod Cells
 pub mod Charge
 pub mod Cycle
+pub mod Entering
+pub mod Lower
 pub mod Level
 pub mod Planned

@@ -4,76 +4,13 @@
 ghost use mathlib.Core.Path.{_≡_};
 ghost use Prim.Native.Nat.{_+_, _*_, _≤_, _<_};
 ghost use lib.ListN.{set, length};
-ghost use Rattle.edmonds.specs.Charge.{Cheapest, Affords, Lowered-cells, Members, Charged-group};
+ghost use Rattle.edmonds.specs.Charge.{Members, Charged-group};
+use super::entering::NO_VERTEX;
+use super::entering::cheapest_arc;
+use super::lower::lower_arcs;
 use instance::CutIndex;
 use instance::Vertex;
 use instance::limits::NO_ARC;
-
-pub const NO_VERTEX: usize = 255;
-
-// The cheapest arc into a group; the weight is NO_ARC where there is none.
-pub struct Entering {
-    pub tail: usize,
-    pub head: usize,
-    pub weight: u32,
-}
-
-pub fn cheapest_arc(w: &[u32; 1024], label: &[u8; 32], n: usize, g: Vertex) -> Entering
-    requires { ⌜ (n ≤ 32) × (g .0 < n) ⌝ }
-    ensures { λ r. ⌜ Cheapest (now (w .entry)) (now (label .entry)) n (g .0) 1024 (r .tail) (r .head) (r .weight) ⌝ }
-{
-    let group = g.0 as u8;
-    let mut tail: usize = NO_VERTEX;
-    let mut head: usize = NO_VERTEX;
-    let mut best: u32 = NO_ARC;
-    let mut t: usize = 0;
-    while t < n {
-        if label[t] != group {
-            let mut h: usize = 0;
-            while h < n {
-                if label[h] == group {
-                    let x = w[32 * t + h];
-                    if x < best {
-                        best = x;
-                        tail = t;
-                        head = h;
-                    }
-                }
-                h += 1;
-            }
-        }
-        t += 1;
-    }
-    Entering {
-        tail,
-        head,
-        weight: best,
-    }
-}
-
-// Lowers each arc into a group by a value.
-pub fn lower_arcs(w: &mut [u32; 1024], label: &[u8; 32], n: usize, g: Vertex, value: u32)
-    requires { ⌜ (length (now w) ≡ 1024) × (n ≤ 32) × (g .0 < n) × Affords (now w) (now label) n (g .0) value ⌝ }
-    ensures { λ _. ⌜ Lowered-cells (now (w .entry)) (now (w .exit)) (now (label .entry)) n (g .0) value 0 1024 ⌝ }
-{
-    let group = g.0 as u8;
-    let mut t: usize = 0;
-    while t < n {
-        if label[t] != group {
-            let mut h: usize = 0;
-            while h < n {
-                if label[h] == group {
-                    let x = w[32 * t + h];
-                    if x < NO_ARC {
-                        w[32 * t + h] = x - value;
-                    }
-                }
-                h += 1;
-            }
-        }
-        t += 1;
-    }
-}
 
 // The vertices of a group as bits.
 pub fn members(label: &[u8; 32], n: usize, g: Vertex) -> u32

@@ -9,7 +9,9 @@ ghost use lib.ListN.{length, replicate};
 ghost use Rattle.edmonds.specs.Cells.{Own-labels};
 ghost use Rattle.edmonds.specs.Planned.{Weights, Planned-matrix};
 
-mod charge; // charge.rt: the cheapest arc into a group, lowered away, and the cut that proves it
+mod entering; // entering.rt: the cheapest arc into a group
+mod lower; // lower.rt: the arcs into a group, lowered
+mod charge; // charge.rt: a group charged for its cheapest arc, with the cut that proves it
 mod cycle; // cycle.rt: the first cycle of chosen arcs
 mod contract; // contract.rt: a cycle's groups become one
 mod expand; // expand.rt: the cycle's arcs again, but one
