@@ -1,6 +1,7 @@
 // Makes cards of several families with a fixed seed, runs the planner's print_plan and the baseline on the same cards in turn, checks that
 // they print the same outcome and states, and prints times and ratios. Arguments: PRINT_PLAN BASELINE [valgrind].
 // A time is that of a whole process, its start included: the least of several runs, since other work on the machine only adds to it.
+// Under valgrind it also prints what no clock shows: instructions of the planning process after its start, plannings, deepest stack.
 use std::fs::{self, File};
 use std::process::{Command, Stdio};
 use std::time::Instant;
@@ -130,20 +131,25 @@ fn cheapest(text: &str) -> Option<u32> {
     line.strip_prefix("plan ").or(line.strip_prefix("over "))?.parse().ok()
 }
 
-// Under valgrind: how often the planner was called, and the deepest stack.
-fn plannings(program: &str, card: &str) -> u64 {
-    let out = "target/bench/callgrind";
+fn valgrind(tool: &[&str], program: &str, card: &str) {
     Command::new("valgrind")
-        .args(["--tool=callgrind", &format!("--callgrind-out-file={out}"), program])
+        .args(tool)
+        .arg(program)
         .stdin(File::open(card).unwrap())
         .stdout(Stdio::null())
         .stderr(Stdio::null())
         .status()
         .expect("valgrind");
-    let text = fs::read_to_string(out).unwrap_or_default();
+}
+
+// How often the planner was called, and the instructions of `main` with all that it calls.
+fn count(program: &str, card: &str) -> (u64, u64) {
+    let out = "target/bench/callgrind";
+    valgrind(&["--tool=callgrind", &format!("--callgrind-out-file={out}")], program, card);
+    let text = fs::read_to_string(out).unwrap();
     let mut names = std::collections::HashMap::new();
-    let mut calls = 0;
-    let mut callee = String::new();
+    let (mut plannings, mut instructions) = (0, 0);
+    let (mut callee, mut after_calls) = (String::new(), false);
     for line in text.lines() {
         if let Some(rest) = line.strip_prefix("cfn=").or(line.strip_prefix("fn=")) {
             let (id, name) = rest.split_once(' ').unwrap_or((rest, ""));
@@ -155,24 +161,23 @@ fn plannings(program: &str, card: &str) -> u64 {
             }
         } else if let Some(rest) = line.strip_prefix("calls=") {
             if callee.contains("plan_matrix") {
-                calls += rest.split(' ').next().unwrap().parse::<u64>().unwrap();
+                plannings += rest.split(' ').next().unwrap().parse::<u64>().unwrap();
             }
+            after_calls = true;
+            continue;
+        } else if after_calls && callee == "main" {
+            instructions += line.split(' ').next_back().unwrap().parse::<u64>().unwrap();
         }
+        after_calls = false;
     }
-    calls
+    (plannings, instructions)
 }
 
 fn peak_stack(program: &str, card: &str) -> u64 {
     let out = "target/bench/massif";
-    Command::new("valgrind")
-        .args(["--tool=massif", "--stacks=yes", &format!("--massif-out-file={out}"), program])
-        .stdin(File::open(card).unwrap())
-        .stdout(Stdio::null())
-        .stderr(Stdio::null())
-        .status()
-        .expect("valgrind");
-    let text = fs::read_to_string(out).unwrap_or_default();
-    text.lines().filter_map(|l| l.strip_prefix("mem_stacks_B=")?.parse().ok()).max().unwrap_or(0)
+    valgrind(&["--tool=massif", "--stacks=yes", &format!("--massif-out-file={out}")], program, card);
+    let text = fs::read_to_string(out).unwrap();
+    text.lines().filter_map(|l| l.strip_prefix("mem_stacks_B=")?.parse().ok()).max().unwrap()
 }
 
 fn main() {
@@ -183,11 +188,11 @@ fn main() {
     let families: [(&str, fn(&mut Random, usize) -> Sheet); 6] =
         [("dense", dense), ("equal", equal), ("few", few), ("nested", nested), ("sparse", sparse), ("marked", marked)];
     let mut random = Random(0x9E37_79B9_7F4A_7C15);
-    println!("family   budget      n  baseline ms  print_plan ms  ratio  plannings  stack bytes");
+    println!("family   budget      n  baseline ms  print_plan ms  ratio  plannings  stack bytes  instructions");
     for (name, make) in families {
         for budget in ["tight", "middling", "unlimited"] {
             for n in [8, 16, 32] {
-                let (mut a, mut b, mut count, mut stack) = (0.0, 0.0, 0, 0);
+                let (mut a, mut b, mut plannings, mut stack, mut instructions) = (0.0, 0.0, 0, 0, 0);
                 let cards = 5;
                 for _ in 0..cards {
                     let mut sheet = make(&mut random, n);
@@ -209,13 +214,18 @@ fn main() {
                     }
                     a += p;
                     b += q;
-                    if deep && n == 32 {
-                        count = count.max(plannings(ours, "target/bench/card"));
+                    if deep {
+                        let (p, i) = count(ours, "target/bench/card");
+                        plannings = plannings.max(p);
+                        instructions += i / cards;
                         stack = stack.max(peak_stack(ours, "target/bench/card"));
                     }
                 }
                 let k = cards as f64;
-                println!("{name:<8} {budget:<10} {n:>2} {:>12.2} {:>14.2} {:>6.2} {count:>10} {stack:>12}", a / k, b / k, b / a);
+                println!(
+                    "{name:<8} {budget:<10} {n:>2} {:>12.2} {:>14.2} {:>6.2} {plannings:>10} {stack:>12} {instructions:>13}",
+                    a / k, b / k, b / a
+                );
             }
         }
     }
