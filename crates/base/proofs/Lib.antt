@@ -2,3 +2,6 @@
 pub mod Tests
 pub mod BoundedLaws
 pub mod ListLaws
+pub mod AllOfLaws
+pub mod CountingLaws
+pub mod FillingLaws

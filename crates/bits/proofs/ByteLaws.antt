@@ -12,7 +12,7 @@ use borrow.Author.Tests.{ltb-true, lt-ltb}
 use Rattle.base.specs.Lists.{all-of}
 use Rattle.base.proofs.Tests.{and-left, and-right, and-both}
 use Rattle.bits.specs.Bits.{bits-of, bits-in, number-from, packed, are-bits, are-bytes}
-use Rattle.bits.proofs.AllOf.{all-of-append, all-of-take, all-of-drop}
+use Rattle.base.proofs.AllOfLaws.{all-of-append, all-of-take, all-of-drop}
 use Rattle.bits.proofs.NumberLaws.{length-bits-of, bits-of-are-bits, number-bits-of, number-below, bits-of-number}
 
 pub length-bits-in : (ws : List ℕ) → length (bits-in ws) ≡ 8 * length ws

@@ -12,7 +12,7 @@ use lib.Seq.{take-at, drop-at, take-add, take-all, drop-drop, length-take-le}
 use borrow.Author.Tests.{ne-eqb}
 use Rattle.base.specs.Lists.{all-of}
 use Rattle.bits.specs.Bits.{bits-of, bits-in, number-from, field, are-bits}
-use Rattle.bits.proofs.AllOf.{all-of-take, all-of-drop}
+use Rattle.base.proofs.AllOfLaws.{all-of-take, all-of-drop}
 use Rattle.bits.proofs.NumberLaws.{length-bits-of, number-from-append, number-from-shift, number-below, number-bits-of, bits-of-number}
 use Rattle.bits.proofs.ByteLaws.{length-bits-in, bits-in-are-bits}
 

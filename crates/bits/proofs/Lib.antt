@@ -1,5 +1,4 @@
 -- Laws of bits. Assumes nothing.
-pub mod AllOf
 pub mod NumberLaws
 pub mod ByteLaws
 pub mod FieldLaws

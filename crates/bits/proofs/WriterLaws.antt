@@ -11,7 +11,7 @@ use lib.Seq.{take-suc-set, drop-set-lt, drop-drop, length-take-le}
 use Rattle.bits.specs.Bits.{bits-of, bits-in, packed, are-bytes}
 use Rattle.bits.specs.Writer.{bits-put, Ready, Put}
 use Rattle.bits.specs.declared.BitWriter.{BitWriter}
-use Rattle.bits.proofs.AllOf.{all-of-take}
+use Rattle.base.proofs.AllOfLaws.{all-of-take}
 use Rattle.bits.proofs.NumberLaws.{length-bits-of, bits-of-none, bits-of-split, bits-of-cut, bits-of-join}
 use Rattle.bits.proofs.ByteLaws.{bits-in-append, bits-in-one, packed-bits-in}
 

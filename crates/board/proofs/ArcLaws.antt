@@ -18,7 +18,7 @@ use Rattle.instance.specs.Instance.{Instance, cell, weight-at, mark-at, weight,
 use Rattle.instance.specs.Matrix.{unmarked}
 use Rattle.instance.specs.Valid.{cell-ok, cell-valid}
 use Rattle.board.specs.Model.{Replaced, old-mark, old-budget, with-budget, record-ok}
-use Rattle.board.proofs.AllOfLaws.{all-of-eq}
+use Rattle.base.proofs.AllOfLaws.{all-of-eq}
 
 pub record Can-be-arc (n r t h : ℕ) : Type 0 where
   pub tail-in : t < n

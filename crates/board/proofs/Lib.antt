@@ -1,5 +1,4 @@
 -- Laws of the model and of lists of commands, and what they say of the program's own boards. Assumes nothing.
-pub mod AllOfLaws
 pub mod ArcLaws
 pub mod CommandLaws
 pub mod ValidLaws

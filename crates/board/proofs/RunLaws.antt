@@ -14,7 +14,8 @@ use Rattle.board.specs.Log.{Log, new-log, note}
 use Rattle.board.specs.declared.Board.{Board}
 use Rattle.board.specs.declared.Answered.{Answered}
 use Rattle.board.specs.declared.Command as declared-command
-use Rattle.board.specs.ModelOf.{model-of, result-of, command-of, instance-with, Answers, New-board}
+use Rattle.instance.specs.Instance.{instance-with}
+use Rattle.board.specs.ModelOf.{model-of, result-of, command-of, Answers, New-board}
 use Rattle.board.proofs.ValidLaws.{valid-parts, opened-valid, answered-applied}
 use Rattle.board.proofs.LogLaws.{Tied, step-tied, opened-tied, Follows-log, valid-lists-follow}
 use Rattle.board.proofs.CallLaws.{call-board, call-answer, call-valid}

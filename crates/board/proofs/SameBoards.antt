@@ -16,7 +16,7 @@ use Rattle.instance.specs.Same.{Same-instance}
 use Rattle.instance.proofs.SameInstances.{same-is-arc, same-arc-mark, same-valid-instance}
 use Rattle.board.specs.Model.{Command, pin, ban, clear, set-budget, undo, Replaced, old-mark, old-budget, Model, Result, with-mark, with-budget, restored, refused, accepted, marked, budgeted, undone, applied, record-ok, valid, answered, answers, board-after}
 use Rattle.board.specs.SameBoard.{Same-board, Same-result}
-use Rattle.board.proofs.AllOfLaws.{all-of-eq}
+use Rattle.base.proofs.AllOfLaws.{all-of-eq}
 
 -- a mark stored into two lists of one length: equal cells stay equal
 stored : (xs ys : List ℕ) (i j m : ℕ) → length xs ≡ length ys → getD xs j free ≡ getD ys j free → getD (set xs i m) j free ≡ getD (set ys i m) j free

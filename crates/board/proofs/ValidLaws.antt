@@ -20,7 +20,7 @@ use Rattle.instance.specs.Instance.{Instance, cell, weight, mark, can-be-arc, i
 use Rattle.instance.specs.Valid.{cell-ok, cell-valid, header-valid, valid-instance}
 use Rattle.board.specs.Model.{Command, pin, ban, clear, set-budget, undo, Replaced, old-mark, old-budget, Model, opened, with-mark, with-budget, restored, refused, accepted, marked, budgeted, undone, applied, record-ok, valid, answered}
 use Rattle.board.specs.Changes.{is-undo}
-use Rattle.board.proofs.AllOfLaws.{all-of-first, all-of-rest, all-of-more}
+use Rattle.base.proofs.AllOfLaws.{all-of-first, all-of-rest, all-of-more}
 use Rattle.board.proofs.ArcLaws.{arc-in-range, records-ok-of, cells-valid-of}
 use Rattle.board.proofs.CommandLaws.{mark-cases, budget-cases, undo-restores}
 

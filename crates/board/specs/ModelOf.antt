@@ -6,7 +6,7 @@ use mathlib.Core.List.{List, [], _∷_}
 use Prim.Native.Nat.{ℕ, zero, suc}
 use lib.Dec.{ltb, leb}
 use lib.ListN.{getD, replicate}
-use Rattle.instance.specs.Instance.{Instance, is-arc}
+use Rattle.instance.specs.Instance.{Instance, instance-with, is-arc}
 use Rattle.instance.specs.Limits.{cells, max-records}
 use Rattle.board.specs.Model.{Model, Result, Replaced, old-mark, old-budget, Command, pin, ban, clear, set-budget, undo, restored, opened}
 use Rattle.board.specs.declared.Board.{Board}
@@ -16,9 +16,6 @@ use Rattle.board.specs.declared.Replaced as declared-replaced
 use Rattle.board.specs.declared.Replaced.the-variants.{Mark, Budget}
 use Rattle.board.specs.declared.Command as declared-command
 use Rattle.board.specs.declared.Command.the-variants.{Pin, Ban, Clear, SetBudget, TakeBack}
-
-abbrev pub instance-with : (n root budget : ℕ) → (weights marks : List ℕ) → Instance
-instance-with n r b ws ms = record { n = n; root = r; budget = b; weights = ws; marks = ms }
 
 -- the one name for what a record restores
 abbrev pub replaced-of : declared-replaced.Replaced → Replaced

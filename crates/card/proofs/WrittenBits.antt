@@ -11,7 +11,7 @@ use lib.ListN.{length, drop, replicate, length-append}
 use lib.Seq.{drop-at}
 use Rattle.base.specs.Lists.{all-of, tabulate-from}
 use Rattle.bits.specs.Bits.{bits-of, field, are-bits}
-use Rattle.bits.proofs.AllOf.{all-of-append}
+use Rattle.base.proofs.AllOfLaws.{all-of-append}
 use Rattle.bits.proofs.NumberLaws.{length-bits-of, bits-of-are-bits}
 use Rattle.bits.proofs.FieldLaws.{field-read}
 use Rattle.instance.specs.Instance.{Instance, weight-at, mark-at}

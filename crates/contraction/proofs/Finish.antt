@@ -18,7 +18,7 @@ use Rattle.instance.specs.Arborescence.{remaining, parent, reaches, parent-ok, 
 use Rattle.instance.specs.Cuts.{Cut, inside, enters, charged, values, set-ok, sets-ok, all-positive, Proves, reduced-cost}
 use Rattle.contraction.specs.Groups.{Lowered}
 use Rattle.contraction.specs.Trees.{Each, none-left, more, Reached, here, step, Once, Tree, Proper, Fine}
-use Rattle.contraction.proofs.CountingLaws.{sum-one}
+use Rattle.base.proofs.CountingLaws.{sum-one}
 use Rattle.contraction.proofs.Steps.{enough}
 
 -- the weights that the algorithm starts from are those of the remaining arcs

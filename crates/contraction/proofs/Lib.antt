@@ -1,5 +1,4 @@
 -- Laws of Edmonds' algorithm, with no program. Assumes nothing.
-pub mod CountingLaws
 pub mod EachLaws
 pub mod Lowering
 pub mod Charging

@@ -8,12 +8,11 @@ use Prim.Native.Nat.{ℕ, zero, suc, _+_, _≤_, _<_}
 use native.Mathlib.Omega.{arith}
 use lib.Dec.{eqb}
 use borrow.Author.Tests.{eq-eqb, not-true}
-use Rattle.base.specs.Bounded.{any-below}
+use Rattle.base.specs.Bounded.{any-below, count-below}
 use Rattle.base.proofs.Tests.{test, not-both, and-left, and-right, and-both}
 use Rattle.base.proofs.BoundedLaws.{any-found, any-intro}
 use Rattle.instance.specs.Arborescence.{parent, reaches}
-use Rattle.contraction.specs.Counting.{count-below}
-use Rattle.contraction.proofs.CountingLaws.{count-le, count-more, count-one}
+use Rattle.base.proofs.CountingLaws.{count-le, count-more, count-one}
 
 module _ (n root : ℕ) (ps : List ℕ) (root-below : root < n) (below : (v : ℕ) → v < n → eqb v root ≡ false → parent ps v < n) where
   abbrev got : ℕ → ℕ → Bool

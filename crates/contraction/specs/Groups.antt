@@ -6,6 +6,7 @@ use mathlib.Core.List.{List}
 use mathlib.Core.Logic.{_⊎_, _≢_}
 use Prim.Native.Nat.{ℕ, _+_, _≤_, _<_}
 use lib.Dec.{eqb}
+use Rattle.base.specs.Bounded.{count-below}
 use Rattle.instance.specs.Limits.{max-vertices, no-arc, no-parent}
 use Rattle.instance.specs.Cuts.{Cut, charged}
 
@@ -14,6 +15,10 @@ pub record Labels (n root : ℕ) (label : ℕ → ℕ) : Type 0 where
   pub below : (v : ℕ) → v < n → label v < n
   pub self : (v : ℕ) → v < n → label (label v) ≡ label v
   pub root-below : root < n
+
+-- the number of groups: of the vertices that are their own labels
+abbrev pub groups : (n : ℕ) (label : ℕ → ℕ) → ℕ
+groups n label = count-below n (λ v. eqb (label v) v)
 
 -- g is the label of a group other than the root's
 abbrev pub Group : (n root : ℕ) (label : ℕ → ℕ) → ℕ → Type 0

@@ -12,16 +12,21 @@ use borrow.Author.Tests.{eq-eqb, ne-eqb, ltb-true, ltb-false}
 use Rattle.base.proofs.Tests.{test, not-both}
 use Rattle.instance.specs.Limits.{max-vertices, no-arc, cells, cut-words}
 use Rattle.instance.specs.Cuts.{Cut, cuts-from}
+use Rattle.contraction.specs.Groups.{Lowered}
 use Rattle.contraction.specs.Trees.{none-left, more, Proper}
-use Rattle.contraction.proofs.Lowering.{lowered-none}
+use Rattle.contraction.proofs.Lowering.{lowered-none, lowered-there}
 use Rattle.contraction.proofs.Charging.{entering, enters-no, lowered-charge, charge-tree}
 use Rattle.contraction.proofs.SetBits.{inside-some}
 use Rattle.edmonds.specs.Cells.{at, cost}
 use Rattle.edmonds.specs.Entering.{Cheapest}
 use Rattle.edmonds.specs.Lower.{Affords, Lowered-cells, low}
-use Rattle.edmonds.specs.Charge.{Members, Charged-group}
+use Rattle.edmonds.specs.Charge.{Members, Closed, Charged-group}
 use Rattle.edmonds.proofs.LowerLaws.{low-in, low-out}
 use Rattle.edmonds.proofs.CutLaws.{no-cuts, one-cut}
+
+-- a set that no arc enters was one before the arcs were lowered
+pub closed-before : {n root : ℕ} {ws ws′ : List ℕ} {cs : List Cut} {s : ℕ} → Lowered n (cost ws) (cost ws′) cs → Closed n root ws′ s → Closed n root ws s
+closed-before lo c = record { proper = c .proper; shut = λ t h l m th. c .shut t h l m (lowered-there lo t h l m th) }
 
 -- the vertices of a group other than the root's
 pub group-proper : {ls : List ℕ} {n g s : ℕ} → Members ls g n s → (root : ℕ) → root < n → at ls root ≢ g → (v : ℕ) → v < n → at ls v ≡ g → Proper n root s

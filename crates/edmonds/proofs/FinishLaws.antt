@@ -27,7 +27,7 @@ use Rattle.edmonds.specs.Charge.{Closed}
 use Rattle.edmonds.specs.Level.{Solved}
 use Rattle.edmonds.specs.Planned.{Weights, reduced-matrix, Minimum, Planned-matrix}
 use Rattle.edmonds.proofs.CutLaws.{cuts-length, cuts-begun}
-use Rattle.edmonds.proofs.LevelLaws.{closed-before}
+use Rattle.edmonds.proofs.ChargeLaws.{closed-before}
 use Rattle.edmonds.proofs.FirstCharges.{Begun, all-few}
 
 -- lists that agree from a place on

@@ -7,7 +7,8 @@ pub mod ChargeLaws
 pub mod FillLaws
 pub mod SearchLoop
 pub mod EntryLaws
-pub mod LevelLaws
+pub mod PlainLevel
+pub mod CycleLevel
 pub mod FirstCharges
 pub mod FinishLaws
 pub mod MatrixLaws

@@ -7,8 +7,7 @@ use Prim.Native.Nat.{ℕ, _+_, _*_, _-_, _≤_, _<_}
 use lib.ListN.{length, replicate}
 use Rattle.instance.specs.Limits.{max-vertices, no-parent, cells, cut-words}
 use Rattle.instance.specs.Cuts.{cuts-from}
-use Rattle.contraction.specs.Counting.{groups}
-use Rattle.contraction.specs.Groups.{Labels, Chosen, Lowered}
+use Rattle.contraction.specs.Groups.{Labels, Chosen, Lowered, groups}
 use Rattle.contraction.specs.Trees.{Each, Tree, Fine}
 use Rattle.edmonds.specs.Cells.{at, cost}
 use Rattle.edmonds.specs.Charge.{Closed}

@@ -3,3 +3,4 @@ pub mod WorkedCases
 pub mod Edges
 pub mod WorkedValidity
 pub mod SameInstances
+pub mod LimitLaws

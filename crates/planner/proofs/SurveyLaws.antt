@@ -14,7 +14,7 @@ use Rattle.base.proofs.Tests.{test, and-left, and-right}
 use Rattle.base.proofs.BoundedLaws.{all-at}
 use Rattle.base.proofs.ListLaws.{length-tabulate, getD-tabulate, default}
 use Rattle.instance.specs.Limits.{max-vertices, max-weight, max-budget, no-arc, no-parent, cells, cut-words}
-use Rattle.instance.specs.Instance.{Instance, cell, weight, weight-at, mark, mark-at, can-be-arc, is-arc}
+use Rattle.instance.specs.Instance.{Instance, cell, weight, weight-at, mark, mark-at, can-be-arc, is-arc, instance-with}
 use Rattle.instance.specs.Arborescence.{is-pinned, other-pinned, remaining, is-arborescence, total}
 use Rattle.instance.specs.Cuts.{Cut, cuts-from, cuts-in, values, Feasible, Proves, No-entry, reduced-cost}
 use Rattle.instance.specs.Matrix.{matrix, matrix-where, unmarked}
@@ -25,7 +25,6 @@ use Rattle.edmonds.proofs.MatrixLaws.{reduced-arc}
 use Rattle.theory.proofs.Restriction.{matrix-arborescence, matrix-total, matrix-proves, matrix-no-entry}
 use Rattle.theory.proofs.Optimality.{proved-plan, proved-over, shut-outcome}
 use Rattle.edmonds.specs.Planned.{Weights, reduced-matrix, Minimum, Planned-matrix}
-use Rattle.states.specs.Fields.{fields}
 use Rattle.states.specs.Tree.{Matrix-ok, Matrix-tree}
 use Rattle.states.specs.Judge.{Reduced, Fitting-plan}
 use Rattle.states.specs.Table.{Usable-table}
@@ -64,7 +63,7 @@ ranges s v =
 
 -- THE MATRIX
 -- it does not read the budget
-pub matrix-budget : (n r b : ℕ) (ws ms : List ℕ) → matrix (fields n r 0 ws ms) ≡ matrix (fields n r b ws ms)
+pub matrix-budget : (n r b : ℕ) (ws ms : List ℕ) → matrix (instance-with n r 0 ws ms) ≡ matrix (instance-with n r b ws ms)
 unfolding matrix matrix-where remaining other-pinned is-pinned is-arc weight mark
 matrix-budget n r b ws ms = refl
 
@@ -182,7 +181,7 @@ module _ (s : Instance) (small : s .n ≤ 32) (reduced words ps : List ℕ) (fou
         }
 
     pub plan-survey : (v : ℕ) (used : List ℕ) → v ≡ total level (take (s .n) ps) → v ≤ s .budget →
-        Usable-table (fields (s .n) (s .root) (s .budget) (matrix s) []) used → Surveys s (record { view = Plan v k; parents = ps; cuts = words; used = used })
+        Usable-table (instance-with (s .n) (s .root) (s .budget) (matrix s) []) used → Surveys s (record { view = Plan v k; parents = ps; cuts = words; used = used })
     unfolding Parents-shown Cuts-shown
     plan-survey v used e within table =
         let q : v ≡ total s (take (s .n) ps) = e ∙ same-total in

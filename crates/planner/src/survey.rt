@@ -3,7 +3,7 @@ ghost use mathlib.Core.Path.{_≡_};
 ghost use mathlib.Core.Bool.{true};
 ghost use lib.ListN.{length, set as set-at, replicate};
 ghost use Rattle.instance.specs.Valid.{valid-instance};
-ghost use Rattle.states.specs.Fields.{fields};
+ghost use Rattle.instance.specs.Instance.{instance-with};
 ghost use Rattle.planner.specs.Survey.{Surveys};
 use crate::View;
 use instance::Vertex;
@@ -39,8 +39,8 @@ pub fn plan_instance<'a>(
     root: u32,
     budget: u32,
 ) -> Survey
-    requires { ⌜ (valid-instance (fields n root budget (now weights) (now marks)) ≡ true) × (length (now weights) ≡ 1024) × (length (now marks) ≡ 1024) ⌝ }
-    ensures { λ r. ⌜ Surveys (fields n root budget (now (weights .entry)) (now (marks .entry))) r ⌝ }
+    requires { ⌜ (valid-instance (instance-with n root budget (now weights) (now marks)) ≡ true) × (length (now weights) ≡ 1024) × (length (now marks) ≡ 1024) ⌝ }
+    ensures { λ r. ⌜ Surveys (instance-with n root budget (now (weights .entry)) (now (marks .entry))) r ⌝ }
 {
     let m = states::matrix::remaining_matrix(weights, marks, n, root);
     let mut reduced = m;

@@ -16,7 +16,7 @@ use Rattle.contraction.proofs.Unmarked.{arc-remaining}
 use Rattle.states.specs.Walks.{Rooted, Below, Avoids, Way, start, onward}
 use Rattle.states.specs.Tree.{Matrix-tree}
 use Rattle.states.specs.Exchange.{Detour, Below-flag, Below-table, Least-outside, Increase, Increases, Path-least, Detours}
-use Rattle.states.proofs.Filling.{filled-none, filled-more}
+use Rattle.base.proofs.FillingLaws.{filled-none, filled-more}
 use Rattle.states.proofs.WalkLaws.{below-avoids, way-below, root-avoids}
 use Rattle.states.proofs.ExchangeLaws.{exchange, exchange-total, exchange-uses, exchange-two, exchange-two-total, exchange-two-uses}
 use Rattle.states.proofs.TreeLaws.{tree-rooted}

@@ -27,7 +27,7 @@ use Rattle.theory.proofs.Forced.{forced-arborescence}
 use Rattle.edmonds.specs.Planned.{Planned-matrix}
 use Rattle.states.specs.Tree.{Matrix-ok}
 use Rattle.states.specs.Judge.{taken-out, Forced-matrix, Forced-plan}
-use Rattle.states.proofs.Filling.{ltb-more}
+use Rattle.base.proofs.FillingLaws.{ltb-more}
 
 stays-in : (a b : Bool) → not a || b ≡ true → a && not b ≡ false
 stays-in true true e = refl

@@ -10,7 +10,7 @@ use lib.ListN.{getD, take}
 use borrow.Author.Tests.{eq-eqb, ne-eqb}
 use Rattle.base.proofs.Tests.{not-both, is-false}
 use Rattle.instance.specs.Limits.{no-arc}
-use Rattle.instance.specs.Instance.{Instance, cell, is-arc, weight}
+use Rattle.instance.specs.Instance.{Instance, cell, is-arc, weight, instance-with}
 use Rattle.instance.specs.Arborescence.{remaining, parent, is-arborescence, total, uses}
 use Rattle.instance.specs.Cuts.{reduced-cost}
 use Rattle.instance.specs.Matrix.{unmarked}
@@ -22,7 +22,6 @@ use Rattle.theory.proofs.SameArcs.{same-back, same-feasible}
 use Rattle.theory.proofs.Restriction.{unmarked-remaining}
 use Rattle.theory.proofs.Usable.{usable-some, usable-none, lost-unusable, reduced-unusable}
 use Rattle.contraction.proofs.Unmarked.{arc-remaining}
-use Rattle.states.specs.Fields.{fields}
 use Rattle.states.specs.Tree.{Matrix-ok}
 use Rattle.states.specs.Exchange.{Detour}
 use Rattle.states.specs.Judge.{Forced-plan, Reduced, Upper-bound}
@@ -57,7 +56,7 @@ detour-bound s ps t h rest d k e =
 
 module _ (n root b : ℕ) (m : List ℕ) where
   abbrev s : Instance
-  s = fields n root b m []
+  s = instance-with n root b m []
 
   abbrev on : Instance
   on = unmarked n root m

@@ -6,7 +6,7 @@ use mathlib.Core.Logic.{_↔_}
 use Prim.Native.Nat.{ℕ, _≤_}
 use native.Mathlib.Omega.{arith}
 use Rattle.base.proofs.Tests.{same-test}
-use Rattle.instance.specs.Instance.{Instance, is-arc, weight, mark}
+use Rattle.instance.specs.Instance.{Instance, is-arc, weight, mark, instance-with}
 use Rattle.instance.specs.Arborescence.{is-pinned, other-pinned, remaining, is-arborescence, total}
 use Rattle.instance.specs.Matrix.{unmarked, matrix}
 use Rattle.instance.specs.States.{fits}
@@ -15,7 +15,6 @@ use Rattle.theory.proofs.StateLaws.{fits-arborescence, fits-total, make-fits}
 use Rattle.theory.proofs.SameArcs.{Same-arcs, same-back, same-arborescence, same-total}
 use Rattle.theory.proofs.Usable.{usable-some}
 use Rattle.theory.proofs.Restriction.{matrix-same}
-use Rattle.states.specs.Fields.{fields}
 
 pub same-on : (a b c : Instance) → Same-arcs a b → Same-arcs b c → Same-arcs a c
 same-on a b c e f =
@@ -42,25 +41,25 @@ same-usable a b e f t h = same-test (usable a t h) (usable b t h) (usable-into a
 
 -- THE LEVEL OF THE MATRIX
 module _ (n r b : ℕ) (m : List ℕ) where
-  pub level-same : Same-arcs (fields n r b m []) (unmarked n r m)
+  pub level-same : Same-arcs (instance-with n r b m []) (unmarked n r m)
   unfolding unmarked remaining is-arc other-pinned is-pinned mark weight
   level-same = record { vertices = refl; roots = refl; arcs = λ t h. refl; weights = λ t h _. refl }
 
-  pub level-remaining : (t h : ℕ) → remaining (fields n r b m []) t h ≡ remaining (unmarked n r m) t h
+  pub level-remaining : (t h : ℕ) → remaining (instance-with n r b m []) t h ≡ remaining (unmarked n r m) t h
   level-remaining = level-same .arcs
 
-  pub level-arborescence : (ps : List ℕ) → (is-arborescence (fields n r b m []) ps ≡ true) ↔ (is-arborescence (unmarked n r m) ps ≡ true)
+  pub level-arborescence : (ps : List ℕ) → (is-arborescence (instance-with n r b m []) ps ≡ true) ↔ (is-arborescence (unmarked n r m) ps ≡ true)
   level-arborescence ps = (
-    same-arborescence (fields n r b m []) (unmarked n r m) level-same ps,
-    same-arborescence (unmarked n r m) (fields n r b m []) (same-back (fields n r b m []) (unmarked n r m) level-same) ps,
+    same-arborescence (instance-with n r b m []) (unmarked n r m) level-same ps,
+    same-arborescence (unmarked n r m) (instance-with n r b m []) (same-back (instance-with n r b m []) (unmarked n r m) level-same) ps,
   )
 
-  pub level-total : (ps : List ℕ) → is-arborescence (unmarked n r m) ps ≡ true → total (fields n r b m []) ps ≡ total (unmarked n r m) ps
-  level-total ps a = same-total (fields n r b m []) (unmarked n r m) level-same ps (level-arborescence ps .1 a)
+  pub level-total : (ps : List ℕ) → is-arborescence (unmarked n r m) ps ≡ true → total (instance-with n r b m []) ps ≡ total (unmarked n r m) ps
+  level-total ps a = same-total (instance-with n r b m []) (unmarked n r m) level-same ps (level-arborescence ps .1 a)
 
 -- USABLE IN THE MATRIX IS USABLE
-pub matrix-usable : (s : Instance) → s .n ≤ 32 → (t h : ℕ) → usable (fields (s .n) (s .root) (s .budget) (matrix s) []) t h ≡ usable s t h
+pub matrix-usable : (s : Instance) → s .n ≤ 32 → (t h : ℕ) → usable (instance-with (s .n) (s .root) (s .budget) (matrix s) []) t h ≡ usable s t h
 matrix-usable s small =
-    let level = fields (s .n) (s .root) (s .budget) (matrix s) [] in
+    let level = instance-with (s .n) (s .root) (s .budget) (matrix s) [] in
     let whole = unmarked (s .n) (s .root) (matrix s) in
     same-usable level s (same-on level whole s (level-same (s .n) (s .root) (s .budget) (matrix s)) (matrix-same s small)) refl

@@ -1,5 +1,4 @@
 -- Laws of matrices, trees, exchanges and tables, and what makes an arc usable. Assumes nothing.
-pub mod Filling
 pub mod CellLaws
 pub mod PinLaws
 pub mod MatrixLaws

@@ -15,7 +15,7 @@ use Rattle.instance.specs.Limits.{no-arc, banned}
 use Rattle.instance.specs.Instance.{Instance, can-be-arc, is-arc, weight, mark}
 use Rattle.instance.specs.Arborescence.{is-pinned, other-pinned, remaining}
 use Rattle.states.specs.Pins.{Pins, Pin-table, allows}
-use Rattle.states.proofs.Filling.{filled-none, filled-more}
+use Rattle.base.proofs.FillingLaws.{filled-none, filled-more}
 
 allows-none : (t : ℕ) → allows 32 t ≡ true
 unfolding allows

@@ -14,21 +14,20 @@ use Rattle.base.proofs.Tests.{test, and-left, and-right}
 use Rattle.base.proofs.BoundedLaws.{all-at}
 use Rattle.base.proofs.ListLaws.{default, length-tabulate, getD-tabulate}
 use Rattle.instance.specs.Limits.{max-vertices, max-weight, max-budget, no-arc, free, banned, cells}
-use Rattle.instance.specs.Instance.{Instance, cell, weight-at, mark-at, can-be-arc, is-arc, weight, mark}
+use Rattle.instance.specs.Instance.{Instance, cell, weight-at, mark-at, can-be-arc, is-arc, weight, mark, instance-with}
 use Rattle.instance.specs.Arborescence.{is-pinned, other-pinned, remaining, total}
 use Rattle.instance.specs.Cuts.{cuts-in}
 use Rattle.instance.specs.Matrix.{matrix, matrix-where, unmarked}
 use Rattle.instance.specs.Valid.{cell-ok, cell-valid, header-valid, valid-instance}
 use Rattle.edmonds.specs.Planned.{Planned-matrix}
 use Rattle.edmonds.proofs.MatrixLaws.{reduced-arc}
-use Rattle.states.specs.Fields.{fields}
 use Rattle.states.specs.Tree.{Matrix-ok}
 use Rattle.states.specs.Judge.{Fitting-plan}
 use Rattle.states.proofs.CellLaws.{unmarked-ends}
 use Rattle.states.proofs.MatrixLaws.{matrix-cell, matrix-cells}
 
 -- the matrix does not depend on the budget
-pub matrix-budget : (n r b : ℕ) (ws ms : List ℕ) → matrix (fields n r b ws ms) ≡ matrix (fields n r 0 ws ms)
+pub matrix-budget : (n r b : ℕ) (ws ms : List ℕ) → matrix (instance-with n r b ws ms) ≡ matrix (instance-with n r 0 ws ms)
 unfolding matrix matrix-where remaining is-arc other-pinned is-pinned weight mark
 matrix-budget n r b ws ms = refl
 

@@ -11,7 +11,7 @@ use Rattle.base.specs.Bounded.{any-below}
 use Rattle.base.specs.Lists.{tabulate}
 use Rattle.base.proofs.ListLaws.{tabulate-is, length-tabulate, getD-tabulate}
 use Rattle.instance.specs.Limits.{cells}
-use Rattle.instance.specs.Instance.{Instance, cell, is-arc}
+use Rattle.instance.specs.Instance.{Instance, cell, is-arc, instance-with}
 use Rattle.instance.specs.Cuts.{Cut, values, Feasible, No-entry}
 use Rattle.instance.specs.Matrix.{unmarked, matrix}
 use Rattle.instance.specs.States.{fits, state, states}
@@ -19,7 +19,6 @@ use Rattle.theory.specs.Usable.{usable}
 use Rattle.theory.proofs.StateLaws.{fits-arborescence, fits-total}
 use Rattle.theory.proofs.Duality.{weak-duality, no-entry}
 use Rattle.theory.proofs.Usable.{usable-none, state-usable}
-use Rattle.states.specs.Fields.{fields}
 use Rattle.states.specs.Table.{is-used, Usable-table, state-by}
 use Rattle.states.proofs.CellLaws.{weight-read, dense-tail, dense-head}
 use Rattle.states.proofs.LevelLaws.{level-arborescence, level-total, matrix-usable}
@@ -31,7 +30,7 @@ any-same (suc k) P Q e = rw (e k (omega arith), any-same k P Q (λ i l. e i (ome
 
 -- THE STATES
 module _ (s : Instance) (small : s .n ≤ 32) (size : length (s .weights) ≡ cells) (used : List ℕ)
-    (k : Usable-table (fields (s .n) (s .root) (s .budget) (matrix s) []) used) where
+    (k : Usable-table (instance-with (s .n) (s .root) (s .budget) (matrix s) []) used) where
   says : (t h : ℕ) → t < s .n → h < s .n → is-used used t h ≡ usable s t h
   says t h l m = k .exact t h l m ∙ matrix-usable s small t h
 
@@ -65,7 +64,7 @@ empty-table s small u =
 
 module _ (n root b : ℕ) (m : List ℕ) (small : n ≤ 32) where
   abbrev s : Instance
-  s = fields n root b m []
+  s = instance-with n root b m []
 
   pub over-table : (cs : List Cut) → Feasible (unmarked n root m) cs → b < values cs → Usable-table s (replicate cells 0)
   over-table cs f past =

@@ -11,17 +11,16 @@ use lib.Dec.{ltb, eqb}
 use lib.ListN.{length, getD, set, length-set}
 use lib.Seq.{getD-set-same, getD-set-other}
 use borrow.Author.Tests.{lt-ltb, le-ltb, eqb-true, eq-eqb, ne-eqb, not-true}
-use Rattle.base.specs.Bounded.{any-below, sum-below}
+use Rattle.base.specs.Bounded.{any-below, sum-below, count-below}
 use Rattle.base.proofs.Tests.{test, not-both, and-left, and-right, and-both, and-false-right}
 use Rattle.base.proofs.BoundedLaws.{any-found, any-intro}
 use Rattle.instance.specs.Limits.{no-arc, cells}
 use Rattle.instance.specs.Instance.{cell, can-be-arc}
 use Rattle.instance.specs.Arborescence.{parent, uses}
 use Rattle.theory.proofs.ArborescenceLaws.{ends}
-use Rattle.contraction.specs.Counting.{count-below}
-use Rattle.contraction.proofs.CountingLaws.{count-more, count-one, sum-one}
+use Rattle.base.proofs.CountingLaws.{count-more, count-one, sum-one}
 use Rattle.states.specs.Table.{is-used, in-tree, Entered, Counts, state-by}
-use Rattle.states.proofs.Filling.{ltb-more, filled-none, filled-more}
+use Rattle.base.proofs.FillingLaws.{ltb-more, filled-none, filled-more}
 
 -- ENTERING AN ARBORESCENCE
 module _ (root : ℕ) (ps : List ℕ) where

@@ -1,5 +1,4 @@
 -- What the contracts cite. Assumes nothing.
-pub mod Fields
 pub mod Pins
 pub mod Walks
 pub mod Table

@@ -5,12 +5,11 @@ use mathlib.Core.List.{List}
 use Prim.Native.Nat.{ℕ, _/_, _%_, _<_}
 use lib.Dec.{ltb, eqb}
 use lib.ListN.{length, getD}
-use Rattle.base.specs.Bounded.{any-below}
+use Rattle.base.specs.Bounded.{any-below, count-below}
 use Rattle.instance.specs.Limits.{no-arc, cells}
 use Rattle.instance.specs.Instance.{Instance, cell, can-be-arc}
 use Rattle.instance.specs.Arborescence.{uses}
 use Rattle.theory.specs.Usable.{usable}
-use Rattle.contraction.specs.Counting.{count-below}
 
 abbrev pub is-used : (used : List ℕ) → (tail head : ℕ) → Bool
 is-used us t h = eqb (getD us (cell t h) 0) 1

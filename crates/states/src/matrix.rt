@@ -5,10 +5,9 @@ ghost use Prim.Native.Nat.{_+_, _*_, _≤_, _<_};
 ghost use lib.Dec.{eqb};
 ghost use lib.ListN.{length};
 ghost use Rattle.instance.specs.Limits.{no-arc, banned};
-ghost use Rattle.instance.specs.Instance.{can-be-arc};
+ghost use Rattle.instance.specs.Instance.{can-be-arc, instance-with};
 ghost use Rattle.instance.specs.Arborescence.{is-pinned as pinned-arc};
 ghost use Rattle.instance.specs.Matrix.{matrix};
-ghost use Rattle.states.specs.Fields.{fields};
 ghost use Rattle.states.specs.Pins.{Pins, Pin-table, allows};
 use instance::limits::BANNED;
 use instance::limits::NO_ARC;
@@ -28,7 +27,7 @@ fn is_pinned<'a>(
     head: u32,
 ) -> bool
     requires { ⌜ (n ≤ 32) × (length (now weights) ≡ 1024) × (length (now marks) ≡ 1024) ⌝ }
-    ensures { λ r. ⌜ r ≡ pinned-arc (fields n root 0 (now (weights .entry)) (now (marks .entry))) tail head ⌝ }
+    ensures { λ r. ⌜ r ≡ pinned-arc (instance-with n root 0 (now (weights .entry)) (now (marks .entry))) tail head ⌝ }
 {
     if !instance::can_be_arc(n, root, tail, head) {
         return false;
@@ -49,7 +48,7 @@ fn pins_into<'a>(
     head: u32,
 ) -> u32
     requires { ⌜ (n ≤ 32) × (length (now weights) ≡ 1024) × (length (now marks) ≡ 1024) ⌝ }
-    ensures { λ r. ⌜ Pins (fields n root 0 (now (weights .entry)) (now (marks .entry))) head n r ⌝ }
+    ensures { λ r. ⌜ Pins (instance-with n root 0 (now (weights .entry)) (now (marks .entry))) head n r ⌝ }
 {
     let mut pin = NO_PIN;
     let mut g: u32 = 0;
@@ -68,7 +67,7 @@ fn pins_into<'a>(
 
 fn pin_table<'a>(weights: &'a [u32; 1024], marks: &'a [u8; 1024], n: u32, root: u32) -> [u32; 32]
     requires { ⌜ (n ≤ 32) × (length (now weights) ≡ 1024) × (length (now marks) ≡ 1024) ⌝ }
-    ensures { λ r. ⌜ Pin-table (fields n root 0 (now (weights .entry)) (now (marks .entry))) n r ⌝ }
+    ensures { λ r. ⌜ Pin-table (instance-with n root 0 (now (weights .entry)) (now (marks .entry))) n r ⌝ }
 {
     let mut table = [NO_PIN; 32];
     let mut head: u32 = 0;
@@ -106,7 +105,7 @@ pub fn remaining_matrix<'a>(
     root: u32,
 ) -> [u32; 1024]
     requires { ⌜ (n ≤ 32) × (length (now weights) ≡ 1024) × (length (now marks) ≡ 1024) ⌝ }
-    ensures { λ r. ⌜ r ≡ matrix (fields n root 0 (now (weights .entry)) (now (marks .entry))) ⌝ }
+    ensures { λ r. ⌜ r ≡ matrix (instance-with n root 0 (now (weights .entry)) (now (marks .entry))) ⌝ }
 {
     let pins = pin_table(weights, marks, n, root);
     let mut w = [NO_ARC; 1024];

@@ -9,7 +9,7 @@ ghost use lib.ListN.{length, drop};
 ghost use Rattle.base.specs.Lists.{tabulate};
 ghost use Rattle.instance.specs.Limits.{no-arc};
 ghost use Rattle.instance.specs.Instance.{can-be-arc};
-ghost use Rattle.contraction.specs.Counting.{count-below};
+ghost use Rattle.base.specs.Bounded.{count-below};
 ghost use Rattle.states.specs.Table.{is-used, Counts, state-by};
 use instance::limits::NO_ARC;
 

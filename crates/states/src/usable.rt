@@ -7,7 +7,7 @@ ghost use Prim.Native.Nat.{_+_, _*_, _≤_, _<_};
 ghost use Rattle.instance.specs.Limits.{no-arc, max-budget};
 ghost use Rattle.instance.specs.Arborescence.{remaining};
 ghost use Rattle.instance.specs.Matrix.{unmarked};
-ghost use Rattle.states.specs.Fields.{fields};
+ghost use Rattle.instance.specs.Instance.{instance-with};
 ghost use Rattle.states.specs.Tree.{Matrix-ok};
 ghost use Rattle.states.specs.Table.{Usable-table};
 ghost use Rattle.states.specs.Judge.{Fitting-plan, Candidate, Sound, Judged, Judged-head};
@@ -27,8 +27,8 @@ fn judge_by_planning(
     head: u32,
     used: &mut [u8; 1024],
 )
-    requires { ⌜ Matrix-ok n root (now m) × (remaining (unmarked n root (now m)) tail head ≡ true) × Sound (fields n root budget (now m) []) (now used) ⌝ }
-    ensures { λ _. ⌜ Judged (fields n root budget (now (m .entry)) []) tail head (now (used .entry)) (now (used .exit)) ⌝ }
+    requires { ⌜ Matrix-ok n root (now m) × (remaining (unmarked n root (now m)) tail head ≡ true) × Sound (instance-with n root budget (now m) []) (now used) ⌝ }
+    ensures { λ _. ⌜ Judged (instance-with n root budget (now (m .entry)) []) tail head (now (used .entry)) (now (used .exit)) ⌝ }
 {
     let planned = plan_with(m, n, root, tail, head);
     let parents = planned.parents;
@@ -67,8 +67,8 @@ fn judge_arc(
     head: u32,
     used: &mut [u8; 1024],
 )
-    requires { ⌜ Candidate n root (now m) (now reduced) total rest detour tail head × Sound (fields n root budget (now m) []) (now used) ⌝ }
-    ensures { λ _. ⌜ Judged (fields n root budget (now (m .entry)) []) tail head (now (used .entry)) (now (used .exit)) ⌝ }
+    requires { ⌜ Candidate n root (now m) (now reduced) total rest detour tail head × Sound (instance-with n root budget (now m) []) (now used) ⌝ }
+    ensures { λ _. ⌜ Judged (instance-with n root budget (now (m .entry)) []) tail head (now (used .entry)) (now (used .exit)) ⌝ }
 {
     let i = (32 * tail + head) as usize;
     if used[i] == 1 {
@@ -104,8 +104,8 @@ fn judge_head(
     head: u32,
     used: &mut [u8; 1024],
 )
-    requires { ⌜ Fitting-plan n root (now m) (now reduced) (now parents) total budget × (head < n) × Sound (fields n root budget (now m) []) (now used) ⌝ }
-    ensures { λ _. ⌜ Judged-head (fields n root budget (now (m .entry)) []) n head (now (used .entry)) (now (used .exit)) ⌝ }
+    requires { ⌜ Fitting-plan n root (now m) (now reduced) (now parents) total budget × (head < n) × Sound (instance-with n root budget (now m) []) (now used) ⌝ }
+    ensures { λ _. ⌜ Judged-head (instance-with n root budget (now (m .entry)) []) n head (now (used .entry)) (now (used .exit)) ⌝ }
 {
     if head == root {
         return;
@@ -143,7 +143,7 @@ pub fn usable_arcs(
     budget: u32,
 ) -> [u8; 1024]
     requires { ⌜ Fitting-plan n root (now m) (now reduced) (now parents) total budget ⌝ }
-    ensures { λ r. ⌜ Usable-table (fields n root budget (now (m .entry)) []) r ⌝ }
+    ensures { λ r. ⌜ Usable-table (instance-with n root budget (now (m .entry)) []) r ⌝ }
 {
     let mut used = [0u8; 1024];
     enter_tree(parents, n, root, &mut used);

@@ -5,7 +5,7 @@ use native.Mathlib.Omega.{arith}
 use borrow.Author.Needs.{needs}
 use Rattle.board.specs.Model.{undone, refused, record-ok}
 use Rattle.board.specs.ModelOf.{model-of, instance-of, history-of}
-use Rattle.board.proofs.AllOfLaws.{all-of-first}
+use Rattle.base.proofs.AllOfLaws.{all-of-first}
 use Rattle.board.proofs.ValidLaws.{valid-parts}
 use Rattle.board.proofs.BoardLaws.{length-history, history-none, history-step}
 use Rattle.board.proofs.commands.undo_latest.Statement.{statement}

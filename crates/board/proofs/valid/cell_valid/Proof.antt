@@ -2,7 +2,7 @@
 use mathlib.Core.Path.{sym, _∙_}
 use native.Mathlib.Omega.{arith}
 use borrow.Author.Needs.{needs}
-use Rattle.board.specs.ModelOf.{instance-with}
+use Rattle.instance.specs.Instance.{instance-with}
 use Rattle.board.proofs.ArcLaws.{cell-read, cell-passed}
 use Rattle.board.proofs.valid.cell_valid.Statement.{statement}
 use Rattle.board.proofs.valid.cell_valid.Tie as tie

@@ -6,7 +6,7 @@ use borrow.Author.Tests.{not-true, not-false}
 use Rattle.base.specs.Bounded.{all-below}
 use Rattle.base.proofs.BoundedLaws.{all-none, all-fail, all-pass}
 use Rattle.instance.specs.Valid.{cell-valid}
-use Rattle.board.specs.ModelOf.{instance-with}
+use Rattle.instance.specs.Instance.{instance-with}
 use Rattle.board.proofs.valid.cells_valid.Statement.{statement}
 use Rattle.board.proofs.valid.cells_valid.Tie as tie
 

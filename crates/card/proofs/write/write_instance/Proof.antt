@@ -5,7 +5,7 @@ use lib.Dec.{ltb}
 use lib.ListN.{length}
 use borrow.Author.Tests.{lt-ltb}
 use borrow.Author.Needs.{needs}
-use Rattle.bits.proofs.AllOf.{all-of-intro}
+use Rattle.base.proofs.AllOfLaws.{all-of-intro}
 use Rattle.card.specs.Card.{bytes-needed}
 use Rattle.card.proofs.WritingLaws.{too-short, header-room, cells-room, filling-room, all-written}
 use Rattle.card.proofs.write.write_instance.Statement.{statement}

@@ -1,4 +1,4 @@
--- `edmonds::plan::plan_groups` meets its contract: one level by the laws of LevelLaws, one law for each way to return. The measure is the
+-- `edmonds::plan::plan_groups` meets its contract: one level by the laws of PlainLevel and CycleLevel, one law for each way to return. The measure is the
 -- bound on the number of groups. Assumes nothing.
 use Prim.Native.Nat.{ℕ, _<_}
 use native.Mathlib.Omega.{arith}
@@ -6,7 +6,8 @@ use borrow.Author.Needs.{needs}
 use borrow.Author.Tests.{not-true, not-false}
 use borrow.Fn.Kinds.{In}
 use borrow.Fn.PlainCycle.{Measures, is, falls, and}
-use Rattle.edmonds.proofs.LevelLaws.{searchable, solved-plain, three, stopped, ready, none-below, entered, expands}
+use Rattle.edmonds.proofs.PlainLevel.{searchable, solved-plain}
+use Rattle.edmonds.proofs.CycleLevel.{three, stopped, ready, none-below, entered, expands}
 use Rattle.edmonds.proofs.plan.plan_groups.Reads as plan
 use Rattle.edmonds.proofs.plan.plan_groups.Kinds as kinds
 use Rattle.edmonds.proofs.plan.+plan_groups.Lts-plan_groups as lts

@@ -7,11 +7,10 @@ use native.Mathlib.Omega.{arith}
 use lib.ListN.{length, take, replicate}
 use borrow.Author.Needs.{needs}
 use borrow.Author.Tests.{not-true, not-false}
-use Rattle.instance.specs.Instance.{Instance}
+use Rattle.instance.specs.Instance.{Instance, instance-with}
 use Rattle.instance.specs.Arborescence.{total}
 use Rattle.instance.specs.Matrix.{matrix, unmarked}
 use Rattle.edmonds.specs.Planned.{Weights, Planned-matrix}
-use Rattle.states.specs.Fields.{fields}
 use Rattle.states.specs.Judge.{Fitting-plan}
 use Rattle.states.specs.Table.{Usable-table}
 use Rattle.states.specs.Tree.{Matrix-tree}
@@ -23,7 +22,7 @@ use Rattle.planner.proofs.survey.plan_instance.Tie as tie
 
 -- AT THE START: the instance and its ranges
 abbrev inst : tie.Start → Instance
-inst c = fields (c .args .n) (c .args .root) (c .args .budget) (c .args .weights .now) (c .args .marks .now)
+inst c = instance-with (c .args .n) (c .args .root) (c .args .budget) (c .args .weights .now) (c .args .marks .now)
 
 in-range : (c : tie.Start) → Ranges (inst c)
 in-range c = ranges (inst c) (c .pre .0)
@@ -135,7 +134,7 @@ returns-3 c =
     let e = found-at (k .before) in
     let s = inst-of e in
     plan-survey s (in-range-of e .n-high) _ _ _ _ _ _ (planned (after e)) (found e) _ _ (total-is (k .before)) (k .if2 .left)
-    (subst (λ (m : List ℕ). Usable-table (fields (s .n) (s .root) (s .budget) m []) (c .usable-arcs .result)) (sym (same-matrix e)) (c .usable-arcs .ensures))
+    (subst (λ (m : List ℕ). Usable-table (instance-with (s .n) (s .root) (s .budget) m []) (c .usable-arcs .result)) (sym (same-matrix e)) (c .usable-arcs .ensures))
 
 pub plan-instance-spec : {M : Type 1} → statement M
 plan-instance-spec =

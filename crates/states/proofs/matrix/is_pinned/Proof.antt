@@ -5,9 +5,8 @@ use Prim.Native.Nat.{_+_, _*_, _<_}
 use native.Mathlib.Omega.{arith}
 use borrow.Author.Tests.{not-true, not-false}
 use borrow.Author.Needs.{needs}
-use Rattle.instance.specs.Instance.{mark, can-be-arc, is-arc}
+use Rattle.instance.specs.Instance.{mark, can-be-arc, is-arc, instance-with}
 use Rattle.instance.specs.Arborescence.{is-pinned as pinned-arc}
-use Rattle.states.specs.Fields.{fields}
 use Rattle.states.proofs.CellLaws.{cell-within, weight-read, absent-unpinned, present-pinned}
 use Rattle.states.proofs.matrix.is_pinned.Statement.{statement}
 use Rattle.states.proofs.matrix.is_pinned.Tie as tie
@@ -45,7 +44,7 @@ unfolding mark
 returns-2 c =
     let b = c .before .before in
     let a = b .before .before .args in
-    let s = fields (a .n) (a .root) 0 (a .weights .now) (a .marks .now) in
+    let s = instance-with (a .n) (a .root) 0 (a .weights .now) (a .marks .now) in
     sym (absent-unpinned s (a .tail) (a .head) (sym (weight-read s (a .tail) (a .head) (b .before .before .pre .1) (within b)) ∙ c .if2 .taken))
 
 element-copy-out-result : tie.Need-element-copy-out-result
@@ -56,7 +55,7 @@ unfolding mark
 returns-3 c =
     let b = c .before .before .before in
     let a = b .before .before .args in
-    let s = fields (a .n) (a .root) 0 (a .weights .now) (a .marks .now) in
+    let s = instance-with (a .n) (a .root) 0 (a .weights .now) (a .marks .now) in
     sym
     (present-pinned s (a .tail) (a .head) (arc b)
     (λ e. c .before .if2 .left (weight-read s (a .tail) (a .head) (b .before .before .pre .1) (within b) ∙ e)))

@@ -3,7 +3,7 @@ use mathlib.Core.Path.{_≡_, refl}
 use Prim.Native.Nat.{_-_, _≤_}
 use native.Mathlib.Omega.{arith}
 use lib.ListN.{length, length-set}
-use Rattle.states.specs.Fields.{fields}
+use Rattle.instance.specs.Instance.{instance-with}
 use Rattle.states.specs.Pins.{Pin-table}
 use Rattle.states.proofs.PinLaws.{table-none, table-more}
 use Rattle.states.proofs.matrix.pin_table.Statement.{statement}
@@ -11,7 +11,7 @@ use Rattle.states.proofs.matrix.pin_table.Tie as tie
 
 abbrev Inv-loop : tie.InvT-loop
 Inv-loop weights marks n root table₀ head₀ table head =
-    (head ≤ n) × (length table ≡ 32) × Pin-table (fields n root 0 weights marks) head table
+    (head ≤ n) × (length table ≡ 32) × Pin-table (instance-with n root 0 weights marks) head table
 
 abbrev μ-loop : tie.MeasureT-loop
 μ-loop weights marks n root table₀ head₀ table head = n - head

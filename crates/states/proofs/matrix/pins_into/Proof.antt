@@ -3,14 +3,14 @@ use mathlib.Core.Path.{_≡_, sym, _∙_}
 use mathlib.Core.Logic.{⊎-elim}
 use Prim.Native.Nat.{_<_, _-_, _≤_}
 use native.Mathlib.Omega.{arith}
-use Rattle.states.specs.Fields.{fields}
+use Rattle.instance.specs.Instance.{instance-with}
 use Rattle.states.specs.Pins.{Pins}
 use Rattle.states.proofs.PinLaws.{pins-none, pins-pass, pins-first, pins-again}
 use Rattle.states.proofs.matrix.pins_into.Statement.{statement}
 use Rattle.states.proofs.matrix.pins_into.Tie as tie
 
 abbrev Inv-loop : tie.InvT-loop
-Inv-loop weights marks n root head pin₀ g₀ pin g = (g ≤ n) × Pins (fields n root 0 weights marks) head g pin
+Inv-loop weights marks n root head pin₀ g₀ pin g = (g ≤ n) × Pins (instance-with n root 0 weights marks) head g pin
 
 abbrev μ-loop : tie.MeasureT-loop
 μ-loop weights marks n root head pin₀ g₀ pin g = n - g

@@ -5,14 +5,14 @@ use native.Mathlib.Omega.{arith}
 use lib.ListN.{getD, replicate, length, take, length-set}
 use Rattle.base.specs.Lists.{tabulate}
 use Rattle.base.proofs.ListLaws.{tabulate-none, tabulate-store, tabulate-whole}
-use Rattle.states.specs.Fields.{fields}
+use Rattle.instance.specs.Instance.{instance-with}
 use Rattle.states.proofs.MatrixLaws.{matrix-cell, matrix-cells, cell-judged}
 use Rattle.states.proofs.matrix.remaining_matrix.Statement.{statement}
 use Rattle.states.proofs.matrix.remaining_matrix.Tie as tie
 
 abbrev Inv-loop : tie.InvT-loop
 Inv-loop weights marks n root pins w₀ i₀ w i =
-    (i ≤ 1024) × (length w ≡ 1024) × (take i w ≡ tabulate i (matrix-cell (fields n root 0 weights marks)))
+    (i ≤ 1024) × (length w ≡ 1024) × (take i w ≡ tabulate i (matrix-cell (instance-with n root 0 weights marks)))
 
 abbrev μ-loop : tie.MeasureT-loop
 μ-loop weights marks n root pins w₀ i₀ w i = 1024 - i
@@ -63,7 +63,7 @@ loop-again : tie.Need-loop-again Inv-loop μ-loop
 loop-again c =
     let l = c .before .before .before .before in
     let a = l .before .before .args in
-    let s = fields (a .n) (a .root) 0 (a .weights .now) (a .marks .now) in
+    let s = instance-with (a .n) (a .root) 0 (a .weights .now) (a .marks .now) in
     let i = l .loop .i in
     let p = getD (l .before .pin-table .result) (i % 32) 0 in (
       omega arith,

@@ -5,8 +5,7 @@ use mathlib.Core.Logic.{⊎-elim}
 use Prim.Native.Nat.{ℕ, _-_, _≤_}
 use native.Mathlib.Omega.{arith}
 use borrow.Author.Tests.{eq-eqb, ne-eqb}
-use Rattle.base.specs.Bounded.{sum-below}
-use Rattle.contraction.specs.Counting.{count-below}
+use Rattle.base.specs.Bounded.{sum-below, count-below}
 use Rattle.states.specs.Table.{is-used}
 use Rattle.states.proofs.TableLaws.{count-step}
 use Rattle.states.proofs.show.used_into.Statement.{statement}

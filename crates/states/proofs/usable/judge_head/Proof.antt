@@ -4,8 +4,7 @@ use mathlib.Core.List.{[]}
 use Prim.Native.Nat.{_-_, _≤_, _<_}
 use native.Mathlib.Omega.{arith}
 use lib.ListN.{getD}
-use Rattle.instance.specs.Instance.{cell}
-use Rattle.states.specs.Fields.{fields}
+use Rattle.instance.specs.Instance.{cell, instance-with}
 use Rattle.states.specs.Judge.{Judged-head}
 use Rattle.states.proofs.TreeLaws.{tail-below, own-weight, own-most}
 use Rattle.states.proofs.JudgeLaws.{unusable-root, detour-bound}
@@ -15,7 +14,7 @@ use Rattle.states.proofs.usable.judge_head.Tie as tie
 
 abbrev Inv-loop : tie.InvT-loop
 Inv-loop m reduced parents n root total budget head used₀ detour tail rest t₀ used t =
-    (t ≤ n) × Judged-head (fields n root budget m []) t head used₀ used
+    (t ≤ n) × Judged-head (instance-with n root budget m []) t head used₀ used
 
 abbrev μ-loop : tie.MeasureT-loop
 μ-loop m reduced parents n root total budget head used₀ detour tail rest t₀ used t = n - t

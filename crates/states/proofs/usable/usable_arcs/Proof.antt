@@ -4,7 +4,7 @@ use mathlib.Core.List.{[]}
 use Prim.Native.Nat.{_-_, _≤_}
 use native.Mathlib.Omega.{arith}
 use lib.ListN.{replicate, take}
-use Rattle.states.specs.Fields.{fields}
+use Rattle.instance.specs.Instance.{instance-with}
 use Rattle.states.specs.Judge.{Judged-all}
 use Rattle.states.proofs.TreeLaws.{tree-rooted}
 use Rattle.states.proofs.JudgeLaws.{usable-tree}
@@ -14,7 +14,7 @@ use Rattle.states.proofs.usable.usable_arcs.Tie as tie
 
 abbrev Inv-loop : tie.InvT-loop
 Inv-loop m reduced parents n root total budget used₀ head₀ used head =
-    (head ≤ n) × Judged-all (fields n root budget m []) head used
+    (head ≤ n) × Judged-all (instance-with n root budget m []) head used
 
 abbrev μ-loop : tie.MeasureT-loop
 μ-loop m reduced parents n root total budget used₀ head₀ used head = n - head

@@ -1,71 +1,37 @@
--- One level of planning: with no cycle it is solved; with one, the contracted level is ready, and what solves it solves this level, once
--- the cycle is expanded. Assumes nothing.
+-- A level of planning with a cycle: the contracted level is ready, and what solves it solves this level, once the cycle is expanded.
+-- Assumes nothing.
 use mathlib.Core.Path.{_≡_, refl, sym, _∙_, subst}
 use mathlib.Core.Bool.{Bool, true, false}
-use mathlib.Core.List.{List, [], _++_}
+use mathlib.Core.List.{List, _++_}
 use mathlib.Core.Logic.{_≢_, _⊎_, inl, inr, ⊎-elim}
 use Prim.Native.Nat.{ℕ, _+_, _*_, _-_, _≤_, _<_}
 use native.Mathlib.Omega.{arith}
 use lib.Dec.{eqb}
-use lib.ListN.{length, set, length-set, replicate}
+use lib.ListN.{set, length-set, replicate}
 use lib.Seq.{getD-set-same, getD-set-other}
 use borrow.Author.Tests.{eq-eqb, ne-eqb, eqb-true, eqb-false}
 use Rattle.base.proofs.Tests.{test, not-both}
-use Rattle.instance.specs.Limits.{max-vertices, no-parent, cut-words}
+use Rattle.instance.specs.Limits.{max-vertices, no-parent}
 use Rattle.instance.specs.Cuts.{Cut, cuts-from}
-use Rattle.contraction.specs.Counting.{groups}
-use Rattle.contraction.specs.Groups.{Labels, Group, Chosen, Cycle, Lowered, contracted, expanded, own-arcs}
-use Rattle.contraction.specs.Trees.{Each, none-left, Reached, here, step, Tree, Fine}
-use Rattle.contraction.proofs.CountingLaws.{count-more, count-one}
+use Rattle.contraction.specs.Groups.{Labels, Group, Chosen, Cycle, Lowered, contracted, expanded, groups}
+use Rattle.contraction.specs.Trees.{Each, Reached, here, step, Tree, Fine}
+use Rattle.base.proofs.CountingLaws.{count-more, count-one}
 use Rattle.contraction.proofs.EachLaws.{each-append, tree-same}
-use Rattle.contraction.proofs.Lowering.{lowered-none, lowered-twice, lowered-there, chosen-lowered}
-use Rattle.contraction.proofs.NoCycle.{own-tree}
+use Rattle.contraction.proofs.Lowering.{lowered-twice, chosen-lowered}
 use Rattle.contraction.proofs.Expansion.{expand-tree}
 use Rattle.contraction.proofs.SearchLaws as search-laws
 use Rattle.edmonds.specs.Cells.{at, cost}
-use Rattle.edmonds.specs.Charge.{Enters, Closed, Charged-group}
-use Rattle.edmonds.specs.Cycle.{Searchable, Met, No-cycle, on-cycle, Contracted, Own-arcs, Entry, Entered, Expanded}
+use Rattle.edmonds.specs.Charge.{Enters, Charged-group}
+use Rattle.edmonds.specs.Cycle.{Met, on-cycle, Contracted, Entry, Entered, Expanded}
 use Rattle.edmonds.specs.Level.{Ready, Solution, Solved}
-use Rattle.edmonds.proofs.CutLaws.{no-cuts, cuts-joined}
-
--- a set that no arc enters was one before the arcs were lowered
-pub closed-before : {n root : ℕ} {ws ws′ : List ℕ} {cs : List Cut} {s : ℕ} → Lowered n (cost ws) (cost ws′) cs → Closed n root ws′ s → Closed n root ws s
-closed-before lo c = record { proper = c .proper; shut = λ t h l m th. c .shut t h l m (lowered-there lo t h l m th) }
+use Rattle.edmonds.proofs.CutLaws.{cuts-joined}
+use Rattle.edmonds.proofs.ChargeLaws.{closed-before}
 
 module _ {ws ls tails heads : List ℕ} {n root left : ℕ} (r : Ready ws ls tails heads n root left) where
-  pub searchable : Searchable ls tails n root
-  searchable = record { small = r .small; labels = r .labels; arc = λ g gr. r .chosen .tail-below g gr }
-
   root-below : root < n
   root-below = r .labels .root-below
 
-  pub solved-plain : {cuts ps : List ℕ} {k : ℕ} → length cuts ≡ cut-words → No-cycle ls tails n root → Own-arcs ls tails heads n root ps
-      → Solved ws ws ls n root left cuts cuts k true ps k 0
-  solved-plain {cuts} {ps} {k} size nc own =
-      let e = no-cuts k cuts in
-      let sm = r .small in
-      let t = own-tree n root (cost ws) (at ls) (at tails) (at heads) (r .labels) (r .chosen) (omega arith) nc in
-      record {
-        size = r .size;
-        cuts-size = size;
-        parents-size = own .size;
-        solution =
-            λ _.
-            record {
-              tree = rw e (tree-same n root (cost ws) (at ls) (at ls) (own-arcs root (at ls) (at tails) (at heads)) (at ps) root-below (λ v l. refl) (own .is) [] t);
-              lowered = rw e (lowered-none n (cost ws));
-              fine = rw e none-left;
-              least = omega arith;
-              most = omega (arith, r .two);
-              frame = λ i why. refl;
-              root-none = own .is root root-below ∙ rw (eq-eqb (at ls root) (at ls root) refl);
-            };
-        no-set = λ _. refl;
-        closed = λ x. absurd (not-both true refl x);
-        none = λ x. absurd (not-both true refl x);
-      }
-
-  -- A CYCLE AT v, contracted to the labels lc
+  -- a cycle at v, contracted to the labels lc
   module _ {stamp : List ℕ} {v : ℕ} (mt : Met ls tails stamp n root v) {lc : List ℕ} (ct : Contracted ls stamp n v lc) where
     abbrev on : ℕ → Bool
     on = on-cycle stamp v

@@ -1,11 +1,11 @@
--- A test of every element, of a list put together or cut. Assumes nothing.
+-- A test of every element of a list: of a list put together or cut, by another test, by index. Assumes nothing.
 use mathlib.Core.Path.{_≡_, refl}
 use mathlib.Core.Bool.{Bool, true}
 use mathlib.Core.List.{List, [], _∷_, _++_}
 use Prim.Native.Nat.{ℕ, zero, suc}
 use lib.ListN.{getD, take, drop}
 use Rattle.base.specs.Lists.{all-of}
 use Rattle.base.proofs.Tests.{and-left, and-right, and-both}
 
 module _ {A : Type 0} (q : A → Bool) where
   pub all-of-append : (xs ys : List A) → all-of q xs ≡ true → all-of q ys ≡ true → all-of q (xs ++ ys) ≡ true
@@ -32,3 +32,21 @@ module _ {A : Type 0} (q : A → Bool) where
   unfolding all-of
   all-of-intro d [] h = refl
   all-of-intro d (x ∷ xs) h = and-both (q x) (all-of q xs) (h 0) (all-of-intro d xs (λ i. h (suc i)))
+
+module _ {A : Type 0} where
+  pub all-of-eq : (p q : A → Bool) → ((x : A) → p x ≡ q x) → (xs : List A) → all-of p xs ≡ all-of q xs
+  unfolding all-of
+  all-of-eq p q h [] = refl
+  all-of-eq p q h (x ∷ xs) = rw (h x, all-of-eq p q h xs)
+
+  pub all-of-first : (q : A → Bool) (x : A) (xs : List A) → all-of q (x ∷ xs) ≡ true → q x ≡ true
+  unfolding all-of
+  all-of-first q x xs e = and-left (q x) (all-of q xs) e
+
+  pub all-of-rest : (q : A → Bool) (x : A) (xs : List A) → all-of q (x ∷ xs) ≡ true → all-of q xs ≡ true
+  unfolding all-of
+  all-of-rest q x xs e = and-right (q x) (all-of q xs) e
+
+  pub all-of-more : (q : A → Bool) (x : A) (xs : List A) → q x ≡ true → all-of q xs ≡ true → all-of q (x ∷ xs) ≡ true
+  unfolding all-of
+  all-of-more q x xs h e = rw (h, e)
