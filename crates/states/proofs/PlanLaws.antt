@@ -6,19 +6,18 @@ use mathlib.Core.List.{List}
 use mathlib.Core.Logic.{⊎-elim}
 use Prim.Native.Nat.{ℕ, _/_, _%_, _≤_, _<_}
 use native.Mathlib.Omega.{arith}
-use lib.Dec.{ltb, leb, eqb}
+use lib.Dec.{eqb}
 use lib.ListN.{length, getD, take}
-use borrow.Author.Tests.{ltb-true, leb-true, eqb-true}
-use Rattle.base.specs.Bounded.{all-below}
-use Rattle.base.proofs.Tests.{test, and-left, and-right}
+use Rattle.base.proofs.Tests.{test, and-left}
 use Rattle.base.proofs.BoundedLaws.{all-at}
 use Rattle.base.proofs.ListLaws.{default, length-tabulate, getD-tabulate}
-use Rattle.instance.specs.Limits.{max-vertices, max-weight, max-budget, no-arc, free, banned, cells}
+use Rattle.instance.specs.Limits.{max-budget, no-arc, banned, cells}
 use Rattle.instance.specs.Instance.{Instance, cell, weight-at, mark-at, can-be-arc, is-arc, weight, mark, instance-with}
 use Rattle.instance.specs.Arborescence.{is-pinned, other-pinned, remaining, total}
 use Rattle.instance.specs.Cuts.{cuts-in}
 use Rattle.instance.specs.Matrix.{matrix, matrix-where, unmarked}
-use Rattle.instance.specs.Valid.{cell-ok, cell-valid, header-valid, valid-instance}
+use Rattle.instance.specs.Valid.{cell-valid, valid-instance}
+use Rattle.instance.proofs.ValidLaws.{weight-fits, valid-small, valid-root, valid-cells}
 use Rattle.edmonds.specs.Planned.{Planned-matrix}
 use Rattle.edmonds.proofs.MatrixLaws.{reduced-arc}
 use Rattle.states.specs.Tree.{Matrix-ok}
@@ -32,37 +31,7 @@ unfolding matrix matrix-where remaining is-arc other-pinned is-pinned weight mar
 matrix-budget n r b ws ms = refl
 
 -- THE MATRIX OF A VALID INSTANCE
-weight-fits : (w m : ℕ) → cell-ok w m ≡ true → w ≤ no-arc
-unfolding cell-ok
-weight-fits w m e =
-    ⊎-elim (λ (b : leb w max-weight ≡ true). let l = leb-true w max-weight b in omega arith)
-    (λ (b : leb w max-weight ≡ false).
-    let z = eqb-true w no-arc (and-left (eqb w no-arc) (eqb m free) (rw b at e)) in
-    omega arith)
-    (test (leb w max-weight))
-
 module _ (s : Instance) (v : valid-instance s ≡ true) where
-  header : header-valid (s .n) (s .root) (s .budget) ≡ true
-  unfolding valid-instance
-  header = and-left (header-valid (s .n) (s .root) (s .budget)) (all-below cells (cell-valid s)) v
-
-  pub valid-small : s .n ≤ max-vertices
-  unfolding header-valid
-  valid-small =
-      leb-true (s .n) max-vertices
-      (and-right (leb 1 (s .n)) (leb (s .n) max-vertices)
-      (and-left (leb 1 (s .n) && leb (s .n) max-vertices) (ltb (s .root) (s .n) && leb (s .budget) max-budget) header))
-
-  bounds : ltb (s .root) (s .n) && leb (s .budget) max-budget ≡ true
-  unfolding header-valid
-  bounds = and-right (leb 1 (s .n) && leb (s .n) max-vertices) (ltb (s .root) (s .n) && leb (s .budget) max-budget) header
-
-  pub valid-root : s .root < s .n
-  valid-root = ltb-true (s .root) (s .n) (and-left (ltb (s .root) (s .n)) (leb (s .budget) max-budget) bounds)
-
-  pub valid-budget : s .budget ≤ max-budget
-  valid-budget = leb-true (s .budget) max-budget (and-right (ltb (s .root) (s .n)) (leb (s .budget) max-budget) bounds)
-
   remains-valid : (i : ℕ) → i < cells → remaining s (i / 32) (i % 32) ≡ true → weight-at s i ≤ no-arc
   unfolding valid-instance cell-valid remaining is-arc
   remains-valid i l r =
@@ -70,7 +39,7 @@ module _ (s : Instance) (v : valid-instance s ≡ true) where
       let h = i % 32 in
       let arc = and-left (can-be-arc (s .n) (s .root) t h && not (eqb (weight s t h) no-arc)) (not (eqb (mark s t h) banned) && not (other-pinned s t h)) r in
       let can = and-left (can-be-arc (s .n) (s .root) t h) (not (eqb (weight s t h) no-arc)) arc in
-      let ok = all-at cells (cell-valid s) i l (and-right (header-valid (s .n) (s .root) (s .budget)) (all-below cells (cell-valid s)) v) in
+      let ok = all-at cells (cell-valid s) i l (valid-cells s v) in
       weight-fits (weight-at s i) (mark-at s i) (rw can at ok)
 
   cell-fits : (i : ℕ) → i < cells → matrix-cell s i ≤ no-arc
@@ -81,8 +50,8 @@ module _ (s : Instance) (v : valid-instance s ≡ true) where
   pub valid-matrix : Matrix-ok (s .n) (s .root) (matrix s)
   valid-matrix =
       record {
-        small = valid-small;
-        root-below = valid-root;
+        small = valid-small s v;
+        root-below = valid-root s v;
         size = ap length (matrix-cells s) ∙ length-tabulate cells (matrix-cell s);
         bounded = λ i l. rw (matrix-cells s, getD-tabulate cells (matrix-cell s) i no-arc l) (cell-fits i l);
       }

@@ -11,21 +11,23 @@ use Rattle.instance.specs.Instance.{Instance, instance-with}
 use Rattle.instance.specs.Arborescence.{total}
 use Rattle.instance.specs.Matrix.{matrix, unmarked}
 use Rattle.edmonds.specs.Planned.{Weights, Planned-matrix}
+use Rattle.instance.proofs.ValidLaws.{valid-budget}
 use Rattle.states.specs.Judge.{Fitting-plan}
 use Rattle.states.specs.Table.{Usable-table}
-use Rattle.states.specs.Tree.{Matrix-tree}
+use Rattle.states.specs.Tree.{Matrix-ok, Matrix-tree}
+use Rattle.states.proofs.PlanLaws.{matrix-budget, valid-matrix, planned-fitting}
 use Rattle.planner.specs.declared.survey.Survey.{Survey}
 use Rattle.planner.specs.Survey.{Surveys}
-use Rattle.planner.proofs.SurveyLaws.{Ranges, ranges, matrix-budget, matrix-size, matrix-weights, none-survey, level-tree, over-survey, fitting-plan, plan-survey}
+use Rattle.planner.proofs.SurveyLaws.{none-survey, level-tree, over-survey, plan-survey}
 use Rattle.planner.proofs.survey.plan_instance.Statement.{statement}
 use Rattle.planner.proofs.survey.plan_instance.Tie as tie
 
--- AT THE START: the instance and its ranges
+-- AT THE START: the instance, and its matrix can be planned
 abbrev inst : tie.Start → Instance
 inst c = instance-with (c .args .n) (c .args .root) (c .args .budget) (c .args .weights .now) (c .args .marks .now)
 
-in-range : (c : tie.Start) → Ranges (inst c)
-in-range c = ranges (inst c) (c .pre .0)
+ok : (c : tie.Start) → Matrix-ok (inst c .n) (inst c .root) (matrix (inst c))
+ok c = valid-matrix (inst c) (c .pre .0)
 
 -- AFTER THE MATRIX IS MADE
 abbrev made : (c : tie.After-remaining-matrix) → List ℕ
@@ -34,7 +36,7 @@ made c = c .remaining-matrix .result
 made-is : (c : tie.After-remaining-matrix) → made c ≡ matrix (inst (c .before))
 made-is c =
     let a = c .before .args in
-    c .remaining-matrix .ensures ∙ matrix-budget (a .n) (a .root) (a .budget) (a .weights .now) (a .marks .now)
+    c .remaining-matrix .ensures ∙ sym (matrix-budget (a .n) (a .root) (a .budget) (a .weights .now) (a .marks .now))
 
 -- AFTER PLANNING
 abbrev start-of : tie.After-plan-matrix → tie.Start
@@ -51,18 +53,13 @@ planned c =
     (made-is (c .before .before .before)) (c .plan-matrix .ensures)
 
 remaining-matrix-requires : tie.Need-remaining-matrix-requires
-remaining-matrix-requires c κs = (in-range c .n-high, c .pre .1, c .pre .2)
+remaining-matrix-requires c κs = (ok c .small, c .pre .1, c .pre .2)
 
 plan-matrix-requires : tie.Need-plan-matrix-requires
 plan-matrix-requires c κs =
-    let r = in-range (c .before .before .before) in
-    let e = made-is (c .before .before) in (
-      ap length e ∙ matrix-size (inst (c .before .before .before)),
-      refl,
-      r .n-high,
-      r .root-in,
-      subst Weights (sym e) (matrix-weights (inst (c .before .before .before)) (r .cells-ok)),
-    )
+    let o = ok (c .before .before .before) in
+    let e = made-is (c .before .before) in
+    (ap length e ∙ o .size, refl, o .small, o .root-below, subst Weights (sym e) (o .bounded))
 
 no-tree-requires : tie.Need-no-tree-requires
 no-tree-requires c κs = search needs
@@ -72,7 +69,7 @@ returns c =
     let p = c .before .before .before in
     let s = inst (start-of p) in
     subst (Surveys s) (sym (c .no-tree .ensures))
-    (none-survey s (in-range (start-of p) .n-high) _ _ _ _ _ _ (planned p) (not-true (p .plan-matrix .result .found) (c .before .if1 .taken)))
+    (none-survey s (ok (start-of p) .small) _ _ _ _ _ _ (planned p) (not-true (p .plan-matrix .result .found) (c .before .if1 .taken)))
 
 -- AN ARBORESCENCE IS FOUND
 abbrev after : tie.Else1 → tie.After-plan-matrix
@@ -90,16 +87,16 @@ made-of c = made (after c .before .before .before)
 same-matrix : (c : tie.Else1) → matrix (inst-of c) ≡ made-of c
 same-matrix c = sym (made-is (after c .before .before .before))
 
-in-range-of : (c : tie.Else1) → Ranges (inst-of c)
-in-range-of c = in-range (start-of (after c))
+ok-of : (c : tie.Else1) → Matrix-ok (inst-of c .n) (inst-of c .root) (matrix (inst-of c))
+ok-of c = ok (start-of (after c))
 
 tree-total-requires : tie.Need-tree-total-requires
 tree-total-requires c κs =
     let e = c .before .before .before in
     let s = inst-of e in
-    let r = in-range-of e in
+    let o = ok-of e in
     subst (λ (m : List ℕ). Matrix-tree (s .n) (s .root) m (after e .plan-matrix .result .parents)) (same-matrix e)
-    (level-tree s (r .n-high) _ _ _ _ _ _ (planned (after e)) (found e) (r .root-in) (matrix-weights s (r .cells-ok)))
+    (level-tree s (o .small) _ _ _ _ _ _ (planned (after e)) (found e) o)
 
 -- AFTER ITS TOTAL
 abbrev found-at : tie.After-tree-total → tie.Else1
@@ -117,23 +114,23 @@ total-is c =
 returns-2 : tie.Need-returns-2
 returns-2 c =
     let e = found-at (c .before) in
-    over-survey (inst-of e) (in-range-of e .n-high) _ _ _ _ _ _ (planned (after e)) (found e) _ (total-is (c .before)) (c .if2 .taken)
+    over-survey (inst-of e) (ok-of e .small) _ _ _ _ _ _ (planned (after e)) (found e) _ (total-is (c .before)) (c .if2 .taken)
 
 usable-arcs-requires : tie.Need-usable-arcs-requires
 usable-arcs-requires c κs =
     let k = c .before .before .before in
     let e = found-at (k .before) in
     let s = inst-of e in
-    let r = in-range-of e in
+    let most = valid-budget s (start-of (after e) .pre .0) in
     subst (λ (m : List ℕ). Fitting-plan (s .n) (s .root) m (after e .plan-matrix .last .0) (after e .plan-matrix .result .parents) (k .before .tree-total .result) (s .budget)) (same-matrix e)
-    (fitting-plan s (r .n-high) _ _ _ _ _ _ (planned (after e)) (found e) _ (r .root-in) (matrix-weights s (r .cells-ok)) (total-is (k .before)) (k .if2 .left) (r .budget-in))
+    (planned-fitting (s .n) (s .root) _ _ _ _ _ _ _ _ _ _ (ok-of e) (planned (after e)) (found e) (total-is (k .before)) (k .if2 .left) most)
 
 returns-3 : tie.Need-returns-3
 returns-3 c =
     let k = c .before .before .before .before in
     let e = found-at (k .before) in
     let s = inst-of e in
-    plan-survey s (in-range-of e .n-high) _ _ _ _ _ _ (planned (after e)) (found e) _ _ (total-is (k .before)) (k .if2 .left)
+    plan-survey s (ok-of e .small) _ _ _ _ _ _ (planned (after e)) (found e) _ _ (total-is (k .before)) (k .if2 .left)
     (subst (λ (m : List ℕ). Usable-table (instance-with (s .n) (s .root) (s .budget) m []) (c .usable-arcs .result)) (sym (same-matrix e)) (c .usable-arcs .ensures))
 
 pub plan-instance-spec : {M : Type 1} → statement M
