@@ -1,4 +1,4 @@
--- Document 01's texts, computed; laws of decimals and of writing.
+-- Document 01's texts, computed; laws of decimals, of writing and of the report on a card.
 pub mod WorkedTexts
 pub mod DecimalLaws
 pub mod Writing
@@ -8,3 +8,5 @@ pub mod TextLaws
 pub mod BufferLaws
 pub mod LengthLaws
 pub mod RoomLaws
+pub mod ReportLaws
+pub mod LongCards

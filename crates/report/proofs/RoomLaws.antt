@@ -31,9 +31,9 @@ module _ (s : Instance) (valid : valid-instance s ≡ true) where
   abbrev Head : Bool
   Head = header-valid (s .n) (s .root) (s .budget)
 
-  head : (s .n ≤ 32) × (s .root < s .n) × (s .budget ≤ max-budget)
+  pub header-facts : (s .n ≤ 32) × (s .root < s .n) × (s .budget ≤ max-budget)
   unfolding valid-instance header-valid
-  head =
+  header-facts =
       let ok = and-left Head (all-below cells (cell-valid s)) valid in
       let sizes = and-left (leb 1 (s .n) && leb (s .n) max-vertices) (ltb (s .root) (s .n) && leb (s .budget) max-budget) ok in
       let rest = and-right (leb 1 (s .n) && leb (s .n) max-vertices) (ltb (s .root) (s .n) && leb (s .budget) max-budget) ok in (
@@ -55,7 +55,7 @@ module _ (s : Instance) (valid : valid-instance s ≡ true) where
   unfolding valid-instance cell-valid weight is-arc
   arc-light t h a =
       let below = arc-ends s t h a in
-      let n = head .0 in
+      let n = header-facts .0 in
       let all = and-right Head (all-below cells (cell-valid s)) valid in
       let ok = all-at cells (cell-valid s) (cell t h) (omega (arith, below .tail-below, below .head-below)) all in
       let et : cell t h / 32 ≡ t = omega (arith, below .head-below) in
@@ -67,8 +67,8 @@ module _ (s : Instance) (valid : valid-instance s ≡ true) where
   total-light : (ps : List ℕ) → is-arborescence s ps ≡ true → total s ps ≤ max-budget
   unfolding total
   total-light ps a =
-      let n = head .0 in
-      let room = sum-room (s .n) taken (λ v. max-weight) each (s .root) (head .1) in
+      let n = header-facts .0 in
+      let room = sum-room (s .n) taken (λ v. max-weight) each (s .root) (header-facts .1) in
       let more = sum-longer (λ v. max-weight) (s .n) 32 n in
       omega (arith, at-root, whole)
     where
@@ -106,13 +106,13 @@ module _ (s : Instance) (valid : valid-instance s ≡ true) where
   short : (ps : List ℕ) → is-arborescence s ps ≡ true → Short-feeds (s .n) (s .root) ps (weight s)
   short ps a v l other =
       let arc = remaining-arc s (parent ps v) v (joined s ps a v l (ne-eqb _ _ other) .arc) in
-      let n = head .0 in
+      let n = header-facts .0 in
       (omega (arith, arc-ends s (parent ps v) v arc .tail-below), omega (arith, arc-light (parent ps v) v arc))
 
   pub report-length : (ps : List ℕ) → ((v : ℕ) → outcome s ≡ plan v → is-arborescence s ps ≡ true) → length (report-text s (outcome s) ps) ≤ max-text
   unfolding report-text
   report-length ps a =
-      let b = head .2 in
+      let b = header-facts .2 in
       let t = outcome-light in
-      text-length (s .n) (s .root) (s .budget) (outcome s) ps (states s) (weight s) (head .0) (head .1) (omega arith) (omega arith)
+      text-length (s .n) (s .root) (s .budget) (outcome s) ps (states s) (weight s) (header-facts .0) (header-facts .1) (omega arith) (omega arith)
       (λ v e. short ps (a v e)) digits

@@ -2,3 +2,4 @@
 pub mod Text
 pub mod Written
 pub mod Found
+pub mod Reports
