@@ -6,7 +6,7 @@ use Prim.Native.Nat.{ℕ, _*_, _≤_, _<_}
 use native.Mathlib.Omega.{arith}
 use native.Mathlib.Nat.{mul-le-mul}
 use borrow.Author.Tests.{le-ltb, lt-ltb, eq-eqb, ne-eqb}
-use lib.Dec.{ltb}
+use lib.Dec.{ltb, eqb}
 use lib.ListN.{length, take, drop, length-append}
 use lib.Seq.{take-at}
 use Rattle.base.proofs.Tests.{or-both-false}
@@ -29,6 +29,7 @@ use Rattle.planner.proofs.LookLaws.{valid-fields}
 use Rattle.planner.proofs.CallSteps.{looks-valid}
 use Rattle.planner.proofs.OpenLaws.{opened-answer, opened-starts}
 use Rattle.report.specs.declared.Found.{Found}
+use Rattle.report.specs.declared.Reported.{Reported}
 use Rattle.report.specs.Text.{text, report-text, refused-text, max-text}
 use Rattle.report.specs.Found.{outcome-of, weight-in}
 use Rattle.report.specs.Written.{Filled}
@@ -162,3 +163,18 @@ unfolding Reports Reports-by
 card-reported ws old new o r h q a f =
     let z = sym (opened-answer ws o q) ∙ a in
     rw (le-ltb _ _ h, eq-eqb _ _ z) (record { answer = refl; reports = rw (opened-instance ws o q z) at f })
+
+-- THE LENGTH that is answered lies within the buffer
+filled-within : {old text new : List ℕ} {r : ℕ} → Filled old text new r → r ≤ length new
+filled-within {old} {text} f =
+    let l = ap length (f .buffer) ∙ length-append text (drop (length text) old) in
+    omega (arith, f .place)
+
+pub reported-within : (ws old new : List ℕ) (r : Reported) → Reports ws old new r → r .length ≤ length new
+unfolding Reports Reports-by
+reported-within ws old new r = go (ltb (length old) max-text) (eqb (card-refusal ws) 0)
+  where
+    go : (t u : Bool) → Reports-by t u ws old new r → r .length ≤ length new
+    go true u x = let z = ap (λ (y : Reported). y .length) (x .result) in omega arith
+    go false false x = filled-within (x .text)
+    go false true x = filled-within (x .reports .text)
