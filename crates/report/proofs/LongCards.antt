@@ -16,7 +16,7 @@ use Rattle.instance.specs.Limits.{max-vertices}
 use Rattle.card.specs.Card.{n-in, bytes-needed, card-refusal}
 use Rattle.card.proofs.ReadingLaws.{length-known}
 use Rattle.report.specs.declared.Reported.{Reported}
-use Rattle.report.specs.Text.{max-text}
+use Rattle.report_text.specs.Text.{max-text}
 use Rattle.report.specs.Reports.{Reports-refusal, Reports-by, Reports}
 
 -- "n = 32 takes 2,648"

@@ -28,15 +28,15 @@ use Rattle.planner.specs.Look.{Buffers, view, pairs, too-short, Parents-shown, 
 use Rattle.planner.proofs.LookLaws.{valid-fields}
 use Rattle.planner.proofs.CallSteps.{looks-valid}
 use Rattle.planner.proofs.OpenLaws.{opened-answer, opened-starts}
-use Rattle.report.specs.declared.Found.{Found}
+use Rattle.report_text.specs.declared.Found.{Found}
 use Rattle.report.specs.declared.Reported.{Reported}
-use Rattle.report.specs.Text.{text, report-text, refused-text, max-text}
-use Rattle.report.specs.Found.{outcome-of, weight-in}
-use Rattle.report.specs.Written.{Filled}
+use Rattle.report_text.specs.Text.{text, report-text, refused-text, max-text}
+use Rattle.report_text.specs.Found.{outcome-of, weight-in}
+use Rattle.report_text.specs.Written.{Filled}
 use Rattle.report.specs.Reports.{found-in, Reports-instance, Reports-by, Reports}
-use Rattle.report.proofs.BufferLaws.{text-of-instance}
-use Rattle.report.proofs.LengthLaws.{refused-length}
-use Rattle.report.proofs.RoomLaws.{header-facts, report-length}
+use Rattle.report_text.proofs.BufferLaws.{text-of-instance}
+use Rattle.report_text.proofs.LengthLaws.{refused-length}
+use Rattle.report_text.proofs.RoomLaws.{header-facts, report-length}
 
 -- WHAT A LOOK FOUND
 found-outcome : (o : Outcome) (k : ℕ) → outcome-of (found-in (view o k)) ≡ o

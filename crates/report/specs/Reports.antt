@@ -12,11 +12,11 @@ use Rattle.card.specs.Card.{card-refusal, instance-in}
 use Rattle.planner.specs.Look.{Parents-shown}
 use Rattle.planner.specs.declared.View.{View}
 use Rattle.planner.specs.declared.View.the-variants as views
-use Rattle.report.specs.declared.Found.{Found}
-use Rattle.report.specs.declared.Found.the-variants.{Plan, Over, NoTree}
+use Rattle.report_text.specs.declared.Found.{Found}
+use Rattle.report_text.specs.declared.Found.the-variants.{Plan, Over, NoTree}
 use Rattle.report.specs.declared.Reported.{Reported}
-use Rattle.report.specs.Text.{report-text, refused-text, max-text}
-use Rattle.report.specs.Written.{Filled}
+use Rattle.report_text.specs.Text.{report-text, refused-text, max-text}
+use Rattle.report_text.specs.Written.{Filled}
 
 -- "one of: plan with its total; over with the cheapest total; none; or a refusal"; a look that is refused finds nothing
 unfoldable pub found-in : View → Found

@@ -5,17 +5,17 @@ ghost use Prim.Native.Nat.{_≤_};
 ghost use lib.ListN.{length};
 ghost use Rattle.board.specs.Model.{valid};
 ghost use Rattle.board.specs.ModelOf.{model-of, instance-of};
-ghost use Rattle.report.specs.Text.{max-text};
+ghost use Rattle.report_text.specs.Text.{max-text};
 ghost use Rattle.report.specs.Reports.{found-in, Reports-instance, Reports};
-use crate::Found;
 use crate::Reported;
-use crate::whole::MAX_TEXT;
-use crate::whole::write_refusal;
-use crate::whole::write_report;
 use board::Board;
 use planner::View;
 use planner::look;
 use planner::open_card;
+use report_text::Found;
+use report_text::MAX_TEXT;
+use report_text::write_refusal;
+use report_text::write_report;
 
 // What a look found; a look that is refused finds nothing.
 fn found_in(view: View) -> Found
