@@ -11,7 +11,7 @@ use Rattle.instance.specs.Arborescence.{is-pinned, other-pinned, remaining, rea
 use Rattle.instance.specs.Candidates.{prefixed, choices, candidates-from, candidates, arborescences, lesser, least-total, cheapest}
 use Rattle.instance.specs.States.{outcome-at, outcome, fits, fitting, state-over, states}
 use Rattle.instance.proofs.WorkedCases.{arc, filled, instance-of, instance-q}
-use Rattle.report.specs.Text.{codes, decimal-in, decimal, field, line, join-below, header-line, outcome-line, feed-line, row-line, feed-at, feed-lines, row-lines, text, report-text, refused-text}
+use Rattle.report_text.specs.Text.{codes, decimal-in, decimal, field, line, join-below, header-line, outcome-line, feed-line, row-line, feed-at, feed-lines, row-lines, text, report-text, refused-text}
 
 unfoldable pub reported : Instance → (parents : List ℕ) → List ℕ
 reported s ps = report-text s (outcome s) ps

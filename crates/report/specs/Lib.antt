@@ -1,4 +1,2 @@
--- The text of a report, and what the functions that write it leave in a buffer.
-pub mod Text
-pub mod Written
-pub mod Found
+-- What is reported of a card.
+pub mod Reports

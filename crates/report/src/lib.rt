@@ -1,19 +1,11 @@
-// The text that the planner prints, written into a caller's buffer.
-//
-// A function `put_..` writes one piece of the text from the place `at` on and returns the place after it; it requires that there is room.
-mod feeds;
-mod lines;
-mod rows;
-mod whole;
-mod words;
+// From a card to the text that the planner prints of it.
+mod cards;
 
-pub use whole::MAX_TEXT;
-pub use whole::write_refusal;
-pub use whole::write_report;
+pub use cards::report;
+pub use report_text::MAX_TEXT;
 
-// What is reported: a plan or the cheapest arborescence over the budget, with its total, or that there is no arborescence.
-pub enum Found {
-    Plan(u32),
-    Over(u32),
-    NoTree,
+// What was reported: 0, the number of the card's refusal, or 14 for a buffer that is too short; and how long the text is.
+pub struct Reported {
+    pub answer: u32,
+    pub length: usize,
 }

@@ -1,0 +1,58 @@
+-- What is reported of a card: "The printing program reads a card on standard input and .. writes". Every byte is an equation; free is only
+-- which arborescence of a plan is shown. Assumes nothing: these are definitions.
+use mathlib.Core.Path.{_≡_}
+use mathlib.Core.Bool.{Bool, true, false}
+use mathlib.Core.List.{List}
+use Prim.Native.Nat.{ℕ}
+use lib.Dec.{ltb, eqb}
+use lib.ListN.{length}
+use Rattle.instance.specs.Instance.{Instance}
+use Rattle.instance.specs.States.{outcome}
+use Rattle.card.specs.Card.{card-refusal, instance-in}
+use Rattle.planner.specs.Look.{Parents-shown}
+use Rattle.planner.specs.declared.View.{View}
+use Rattle.planner.specs.declared.View.the-variants as views
+use Rattle.report_text.specs.declared.Found.{Found}
+use Rattle.report_text.specs.declared.Found.the-variants.{Plan, Over, NoTree}
+use Rattle.report.specs.declared.Reported.{Reported}
+use Rattle.report_text.specs.Text.{report-text, refused-text, max-text}
+use Rattle.report_text.specs.Written.{Filled}
+
+-- "one of: plan with its total; over with the cheapest total; none; or a refusal"; a look that is refused finds nothing
+unfoldable pub found-in : View → Found
+found-in (views.Plan v k) = Plan v
+found-in (views.Over v k) = Over v
+found-in (views.NoTree k) = NoTree
+found-in (views.Refused a) = NoTree
+
+-- "count, root, budget; total; fed, feeder, price, by fed position; feeder and its n states": the outcome and the states of the instance, and
+-- the parents of one of its cheapest arborescences where it has a plan
+pub record Reports-instance (s : Instance) (old new : List ℕ) (next : ℕ) : Type 0 where
+  pub parents : List ℕ
+  pub shown : Parents-shown (outcome s) s parents
+  pub text : Filled old (report-text s (outcome s) parents) new next
+
+-- 14: "a lent buffer too short", "buffers as before"
+pub record Refuses (old new : List ℕ) (r : Reported) : Type 0 where
+  pub result : r ≡ record { answer = 14; length = 0 }
+  pub buffer : new ≡ old
+
+-- 1 to 8: "A refused card prints one line only, as 'refused 3'."
+pub record Reports-refusal (card old new : List ℕ) (r : Reported) : Type 0 where
+  pub answer : r .answer ≡ card-refusal card
+  pub text : Filled old (refused-text (card-refusal card)) new (r .length)
+
+-- 0: "A board opened from a card has that card's marks and budget"; a look at it is what is printed
+pub record Reports-opened (card old new : List ℕ) (r : Reported) : Type 0 where
+  pub answer : r .answer ≡ 0
+  pub reports : Reports-instance (instance-in card) old new (r .length)
+
+-- by whether the buffer is too short for the longest text, and whether the card opens
+unfoldable pub Reports-by : (short opens : Bool) → (card old new : List ℕ) → Reported → Type 0
+Reports-by true opens card old new r = Refuses old new r
+Reports-by false false card old new r = Reports-refusal card old new r
+Reports-by false true card old new r = Reports-opened card old new r
+
+-- what is answered for a card, and the buffer before and after
+unfoldable pub Reports : (card old new : List ℕ) → Reported → Type 0
+Reports card old new r = Reports-by (ltb (length old) max-text) (eqb (card-refusal card) 0) card old new r

@@ -1,0 +1,69 @@
+// From a card to its text.
+ghost use mathlib.Core.Path.{_≡_};
+ghost use mathlib.Core.Bool.{true};
+ghost use Prim.Native.Nat.{_≤_};
+ghost use lib.ListN.{length};
+ghost use Rattle.board.specs.Model.{valid};
+ghost use Rattle.board.specs.ModelOf.{model-of, instance-of};
+ghost use Rattle.report_text.specs.Text.{max-text};
+ghost use Rattle.report.specs.Reports.{found-in, Reports-instance, Reports};
+use crate::Reported;
+use board::Board;
+use planner::View;
+use planner::look;
+use planner::open_card;
+use report_text::Found;
+use report_text::MAX_TEXT;
+use report_text::write_refusal;
+use report_text::write_report;
+
+// What a look found; a look that is refused finds nothing.
+fn found_in(view: View) -> Found
+    ensures { λ r. ⌜ r ≡ found-in view ⌝ }
+{
+    match view {
+        View::Plan(total, _) => Found::Plan(total),
+        View::Over(total, _) => Found::Over(total),
+        View::NoTree(_) => Found::NoTree,
+        View::Refused(_) => Found::NoTree,
+    }
+}
+
+// The text of a valid board, and its length.
+fn report_board(b: Board, out: &mut [u8]) -> usize
+    requires { ⌜ valid (model-of b) ≡ true ⌝ }
+    requires { ⌜ max-text ≤ length (now out) ⌝ }
+    ensures { λ r. ⌜ Reports-instance (instance-of b) (now (out .entry)) (now (out .exit)) r ⌝ }
+{
+    let n = b.n;
+    let root = b.root;
+    let budget = b.budget;
+    let mut parents = [0u8; 32];
+    let mut states = [0u8; 1024];
+    let mut cuts = [0u32; 122];
+    let view = look(b, &mut parents, &mut states, &mut cuts);
+    let found = found_in(view);
+    write_report(n, root, budget, found, &parents, &states, &b.weights, out)
+}
+
+// Opens a card, looks at it and writes its text, or the line of its refusal, from the buffer's beginning on. A buffer of less than MAX_TEXT
+// bytes gets 14 and is left as it was.
+pub fn report(card: &[u8], out: &mut [u8]) -> Reported
+    ensures { λ r. ⌜ Reports (now (card .entry)) (now (out .entry)) (now (out .exit)) r ⌝ }
+{
+    if out.len() < MAX_TEXT {
+        return Reported {
+            answer: 14,
+            length: 0,
+        };
+    }
+    let opened = open_card(card);
+    let answer = opened.answer;
+    if answer != 0 {
+        let length = write_refusal(answer, out);
+        return Reported { answer, length };
+    }
+    let board = opened.board;
+    let length = report_board(board, out);
+    Reported { answer: 0, length }
+}
