@@ -15,6 +15,7 @@ use Rattle.instance.specs.Instance.{Instance}
 use Rattle.instance.specs.Arborescence.{is-arborescence}
 use Rattle.instance.specs.States.{Outcome, plan, over, no-tree, outcome, states}
 use Rattle.instance.specs.Valid.{valid-instance}
+use Rattle.instance.proofs.ValidLaws.{valid-small}
 use Rattle.theory.proofs.StateLaws.{states-read}
 use Rattle.card.specs.Card.{card-refusal, instance-in}
 use Rattle.card.proofs.OpensLaws.{card-refusal-most}
@@ -36,7 +37,7 @@ use Rattle.report_text.specs.Written.{Filled}
 use Rattle.report.specs.Reports.{found-in, Reports-instance, Reports-by, Reports}
 use Rattle.report_text.proofs.BufferLaws.{text-of-instance}
 use Rattle.report_text.proofs.LengthLaws.{refused-length}
-use Rattle.report_text.proofs.RoomLaws.{header-facts, report-length}
+use Rattle.report_text.proofs.RoomLaws.{report-length}
 
 -- WHAT A LOOK FOUND
 found-outcome : (o : Outcome) (k : ℕ) → outcome-of (found-in (view o k)) ≡ o
@@ -92,7 +93,7 @@ module _
     valid-S = valid-fields (model-of b) good
 
     small : b .n ≤ 32
-    small = header-facts S valid-S .0
+    small = valid-small S valid-S
 
     shows : Shows S v old new
     unfolding Looks-at

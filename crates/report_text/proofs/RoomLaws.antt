@@ -5,17 +5,18 @@ use mathlib.Core.List.{List}
 use mathlib.Core.Logic.{⊎-elim}
 use Prim.Native.Nat.{ℕ, _/_, _%_, _≤_, _<_}
 use native.Mathlib.Omega.{arith}
-use borrow.Author.Tests.{eq-eqb, ne-eqb, leb-true, ltb-true}
-use lib.Dec.{ltb, leb, eqb}
+use borrow.Author.Tests.{eq-eqb, ne-eqb, leb-true}
+use lib.Dec.{leb, eqb}
 use lib.ListN.{length}
-use Rattle.base.specs.Bounded.{all-below, sum-below}
-use Rattle.base.proofs.Tests.{test, and-left, and-right, not-both}
+use Rattle.base.specs.Bounded.{sum-below}
+use Rattle.base.proofs.Tests.{test, and-left, not-both}
 use Rattle.base.proofs.BoundedLaws.{all-at, sum-room}
-use Rattle.instance.specs.Limits.{max-vertices, max-weight, no-arc, max-budget, free, banned, cells}
+use Rattle.instance.specs.Limits.{max-weight, no-arc, max-budget, free, banned, cells}
 use Rattle.instance.specs.Instance.{Instance, cell, mark-at, weight, can-be-arc, is-arc}
 use Rattle.instance.specs.Arborescence.{parent, is-arborescence, total}
 use Rattle.instance.specs.States.{Outcome, plan, over, no-tree, outcome, states}
-use Rattle.instance.specs.Valid.{cell-ok, cell-valid, header-valid, valid-instance}
+use Rattle.instance.specs.Valid.{cell-ok, cell-valid, valid-instance}
+use Rattle.instance.proofs.ValidLaws.{valid-small, valid-root, valid-budget, valid-cells}
 use Rattle.theory.specs.Readings.{Least-total}
 use Rattle.theory.proofs.ArborescenceLaws.{arc-ends, arc-weight, remaining-arc, joined}
 use Rattle.theory.proofs.StateLaws.{states-read}
@@ -28,20 +29,6 @@ unfolding sum-below
 whole = refl
 
 module _ (s : Instance) (valid : valid-instance s ≡ true) where
-  abbrev Head : Bool
-  Head = header-valid (s .n) (s .root) (s .budget)
-
-  pub header-facts : (s .n ≤ 32) × (s .root < s .n) × (s .budget ≤ max-budget)
-  unfolding valid-instance header-valid
-  header-facts =
-      let ok = and-left Head (all-below cells (cell-valid s)) valid in
-      let sizes = and-left (leb 1 (s .n) && leb (s .n) max-vertices) (ltb (s .root) (s .n) && leb (s .budget) max-budget) ok in
-      let rest = and-right (leb 1 (s .n) && leb (s .n) max-vertices) (ltb (s .root) (s .n) && leb (s .budget) max-budget) ok in (
-        leb-true _ _ (and-right (leb 1 (s .n)) (leb (s .n) max-vertices) sizes),
-        ltb-true _ _ (and-left (ltb (s .root) (s .n)) (leb (s .budget) max-budget) rest),
-        leb-true _ _ (and-right (ltb (s .root) (s .n)) (leb (s .budget) max-budget) rest),
-      )
-
   -- a cell that is an arc's holds a weight of at most 1,000,000
   light : (w m : ℕ) → cell-ok w m ≡ true → eqb w no-arc ≡ false → w ≤ max-weight
   unfolding cell-ok
@@ -55,8 +42,8 @@ module _ (s : Instance) (valid : valid-instance s ≡ true) where
   unfolding valid-instance cell-valid weight is-arc
   arc-light t h a =
       let below = arc-ends s t h a in
-      let n = header-facts .0 in
-      let all = and-right Head (all-below cells (cell-valid s)) valid in
+      let n = valid-small s valid in
+      let all = valid-cells s valid in
       let ok = all-at cells (cell-valid s) (cell t h) (omega (arith, below .tail-below, below .head-below)) all in
       let et : cell t h / 32 ≡ t = omega (arith, below .head-below) in
       let eh : cell t h % 32 ≡ h = omega (arith, below .head-below) in
@@ -67,8 +54,8 @@ module _ (s : Instance) (valid : valid-instance s ≡ true) where
   total-light : (ps : List ℕ) → is-arborescence s ps ≡ true → total s ps ≤ max-budget
   unfolding total
   total-light ps a =
-      let n = header-facts .0 in
-      let room = sum-room (s .n) taken (λ v. max-weight) each (s .root) (header-facts .1) in
+      let n = valid-small s valid in
+      let room = sum-room (s .n) taken (λ v. max-weight) each (s .root) (valid-root s valid) in
       let more = sum-longer (λ v. max-weight) (s .n) 32 n in
       omega (arith, at-root, whole)
     where
@@ -106,13 +93,13 @@ module _ (s : Instance) (valid : valid-instance s ≡ true) where
   short : (ps : List ℕ) → is-arborescence s ps ≡ true → Short-feeds (s .n) (s .root) ps (weight s)
   short ps a v l other =
       let arc = remaining-arc s (parent ps v) v (joined s ps a v l (ne-eqb _ _ other) .arc) in
-      let n = header-facts .0 in
+      let n = valid-small s valid in
       (omega (arith, arc-ends s (parent ps v) v arc .tail-below), omega (arith, arc-light (parent ps v) v arc))
 
   pub report-length : (ps : List ℕ) → ((v : ℕ) → outcome s ≡ plan v → is-arborescence s ps ≡ true) → length (report-text s (outcome s) ps) ≤ max-text
   unfolding report-text
   report-length ps a =
-      let b = header-facts .2 in
+      let b = valid-budget s valid in
       let t = outcome-light in
-      text-length (s .n) (s .root) (s .budget) (outcome s) ps (states s) (weight s) (header-facts .0) (header-facts .1) (omega arith) (omega arith)
+      text-length (s .n) (s .root) (s .budget) (outcome s) ps (states s) (weight s) (valid-small s valid) (valid-root s valid) (omega arith) (omega arith)
       (λ v e. short ps (a v e)) digits
