@@ -38,12 +38,14 @@ fn report_board(b: Board, out: &mut [u8]) -> usize
     let n = b.n;
     let root = b.root;
     let budget = b.budget;
+    // a copy of the weights alone: a board that is read after the look would be kept whole beside the look's own
+    let weights = b.weights;
     let mut parents = [0u8; 32];
     let mut states = [0u8; 1024];
     let mut cuts = [0u32; 122];
     let view = look(b, &mut parents, &mut states, &mut cuts);
     let found = found_in(view);
-    write_report(n, root, budget, found, &parents, &states, &b.weights, out)
+    write_report(n, root, budget, found, &parents, &states, &weights, out)
 }
 
 // Opens a card, looks at it and writes its text, or the line of its refusal, from the buffer's beginning on. A buffer of less than MAX_TEXT

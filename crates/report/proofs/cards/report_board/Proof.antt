@@ -7,14 +7,14 @@ use Rattle.report.proofs.cards.report_board.Statement.{statement}
 use Rattle.report.proofs.cards.report_board.Tie as tie
 
 abbrev start-of : tie.After-found-in → tie.Start
-start-of c = c .before .before .before .before .before .before .before .before .before
+start-of c = c .before .before .before .before .before .before .before .before .before .before
 
 shown : (c : tie.After-found-in)
-    → Text-of (start-of c .args .t1) (c .found-in .result) (c .before .before .before .before .look .last .1 .0)
+    → Text-of (start-of c .args .b) (c .found-in .result) (c .before .before .before .before .look .last .1 .0)
     (c .before .before .before .before .look .last .1 .1 .0)
 shown c =
     let l = c .before .before .before .before in
-    text-shown (start-of c .args .t1) (start-of c .pre .0) (l .look .result) _ _ (omega arith) (omega arith) (omega arith) (l .look .ensures)
+    text-shown (start-of c .args .b) (start-of c .pre .0) (l .look .result) _ _ (omega arith) (omega arith) (omega arith) (l .look .ensures)
     (c .found-in .result) (c .found-in .ensures)
 
 slice-aggregate-look : tie.Need-slice-aggregate-look
@@ -40,16 +40,16 @@ slice-aggregate-write-report-2 c = search needs
 
 write-report-requires : tie.Need-write-report-requires
 write-report-requires c κs =
-    let f = c .before .before .before .before .before in
+    let f = c .before .before .before .before in
     let t = shown f in
-    let w = known (start-of f .args .t1) _ (start-of f .good .0) .weights-long in
+    let w = known (start-of f .args .b) _ (start-of f .good .0) .weights-long in
     (t .small, (t .parents-room, (t .states-room, (w, t .text-room _ (start-of f .pre .1)))))
 
 same-length : tie.Need-same-length
 same-length c = search needs
 
 returns : tie.Need-returns
-returns c = shown (c .before .before .before .before .before .before .before .before) .reports _ _ _ (c .before .before .write-report .ensures)
+returns c = shown (c .before .before .before .before .before .before .before) .reports _ _ _ (c .before .before .write-report .ensures)
 
 pub report-board-spec : {M : Type 1} → statement M
 report-board-spec =
