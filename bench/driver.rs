@@ -8,6 +8,8 @@ use std::time::Instant;
 
 const NONE: u32 = 1_048_575;
 
+const CARD: &str = "target/bench/card";
+
 struct Random(u64);
 
 impl Random {
@@ -180,52 +182,65 @@ fn peak_stack(program: &str, card: &str) -> u64 {
     text.lines().filter_map(|l| l.strip_prefix("mem_stacks_B=")?.parse().ok()).max().unwrap()
 }
 
+// The least of several runs of each program in turn.
+fn times(base: &str, ours: &str) -> (f64, f64) {
+    let (mut p, mut q) = (f64::MAX, f64::MAX);
+    for _ in 0..15 {
+        p = p.min(time(base, CARD));
+        q = q.min(time(ours, CARD));
+    }
+    (p, q)
+}
+
+// With a budget of the cheapest total, a tenth more, or the largest.
+fn with_budget(mut sheet: Sheet, budget: &str, base: &str) -> Sheet {
+    fs::write(CARD, sheet.card()).unwrap();
+    if let Some(v) = cheapest(&run(base, CARD)) {
+        sheet.budget = match budget {
+            "tight" => v,
+            "middling" => v + v / 10,
+            _ => 31_000_000,
+        };
+    }
+    sheet
+}
+
+// One line of the table: means of the times and instructions of five cards, the most plannings and the deepest stack.
+fn row(ours: &str, base: &str, deep: bool, sheets: [Sheet; 5]) -> String {
+    let (mut a, mut b, mut plannings, mut stack, mut instructions) = (0.0, 0.0, 0, 0, 0);
+    for sheet in &sheets {
+        fs::write(CARD, sheet.card()).unwrap();
+        assert_eq!(fixed(&run(base, CARD)), fixed(&run(ours, CARD)));
+        let (p, q) = times(base, ours);
+        a += p / 5.0;
+        b += q / 5.0;
+        if deep {
+            let (calls, all) = count(ours, CARD);
+            plannings = plannings.max(calls);
+            instructions += all / 5;
+            stack = stack.max(peak_stack(ours, CARD));
+        }
+    }
+    format!("{a:>12.2} {b:>14.2} {:>6.2} {plannings:>10} {stack:>12} {instructions:>13}", b / a)
+}
+
 fn main() {
     let args: Vec<String> = std::env::args().collect();
     let (ours, base) = (&args[1], &args[2]);
     let deep = args.get(3).is_some_and(|a| a == "valgrind");
     fs::create_dir_all("target/bench").unwrap();
+    let mut random = Random(0x9E37_79B9_7F4A_7C15);
+    fs::write(CARD, Sheet::new(1, 0).card()).unwrap();
+    let (p, q) = times(base, ours);
+    println!("one position, that is the start of the process: baseline {p:.2} ms, print_plan {q:.2} ms");
+    println!("family   budget      n  baseline ms  print_plan ms  ratio  plannings  stack bytes  instructions");
     let families: [(&str, fn(&mut Random, usize) -> Sheet); 6] =
         [("dense", dense), ("equal", equal), ("few", few), ("nested", nested), ("sparse", sparse), ("marked", marked)];
-    let mut random = Random(0x9E37_79B9_7F4A_7C15);
-    println!("family   budget      n  baseline ms  print_plan ms  ratio  plannings  stack bytes  instructions");
     for (name, make) in families {
         for budget in ["tight", "middling", "unlimited"] {
             for n in [8, 16, 32] {
-                let (mut a, mut b, mut plannings, mut stack, mut instructions) = (0.0, 0.0, 0, 0, 0);
-                let cards = 5;
-                for _ in 0..cards {
-                    let mut sheet = make(&mut random, n);
-                    fs::write("target/bench/card", sheet.card()).unwrap();
-                    if let Some(v) = cheapest(&run(base, "target/bench/card")) {
-                        sheet.budget = match budget {
-                            "tight" => v,
-                            "middling" => v + v / 10,
-                            _ => 31_000_000,
-                        };
-                    }
-                    fs::write("target/bench/card", sheet.card()).unwrap();
-                    let (x, y) = (run(base, "target/bench/card"), run(ours, "target/bench/card"));
-                    assert_eq!(fixed(&x), fixed(&y), "{name} {budget} {n}");
-                    let (mut p, mut q) = (f64::MAX, f64::MAX);
-                    for _ in 0..15 {
-                        p = p.min(time(base, "target/bench/card"));
-                        q = q.min(time(ours, "target/bench/card"));
-                    }
-                    a += p;
-                    b += q;
-                    if deep {
-                        let (p, i) = count(ours, "target/bench/card");
-                        plannings = plannings.max(p);
-                        instructions += i / cards;
-                        stack = stack.max(peak_stack(ours, "target/bench/card"));
-                    }
-                }
-                let k = cards as f64;
-                println!(
-                    "{name:<8} {budget:<10} {n:>2} {:>12.2} {:>14.2} {:>6.2} {plannings:>10} {stack:>12} {instructions:>13}",
-                    a / k, b / k, b / a
-                );
+                let sheets = std::array::from_fn(|_| with_budget(make(&mut random, n), budget, base));
+                println!("{name:<8} {budget:<10} {n:>2} {}", row(ours, base, deep, sheets));
             }
         }
     }
