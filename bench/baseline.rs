@@ -1,6 +1,5 @@
-// The baseline: exact link states by one dense planning for each link, written for speed in plain Rust and from document 01 alone.
-// Reads a card on standard input and prints what the planner prints. With the argument `times K` it repeats the work K times in one
-// process (the output of the last one is printed), so that the start of the process can be told from the work.
+// The baseline: exact link states by one dense planning for each link, written for speed in plain Rust and from document 01 alone. Reads a
+// card on standard input and prints what the planner prints but for the feed lines, since which cheapest tree is shown is free.
 use std::io::{Read, Write};
 
 const NONE: u32 = 1_048_575;
@@ -13,6 +12,32 @@ struct Sheet {
     budget: u32,
     price: Rows, // price[fed][feeder]
     mark: [[u8; 32]; 32],
+}
+
+// The positions of the path that grows, the last one last.
+struct Path {
+    places: [usize; 32],
+    len: usize,
+}
+
+impl Path {
+    fn last(&self) -> usize {
+        self.places[self.len - 1]
+    }
+
+    fn push(&mut self, p: usize) {
+        self.places[self.len] = p;
+        self.len += 1;
+    }
+
+    fn pop(&mut self) -> usize {
+        self.len -= 1;
+        self.places[self.len]
+    }
+
+    fn all(&self) -> &[usize] {
+        &self.places[..self.len]
+    }
 }
 
 struct Bits<'a> {
@@ -56,27 +81,31 @@ fn open(card: &[u8]) -> Result<Sheet, u32> {
         return Err(5);
     }
     let mut s = Sheet { n, root, budget, price: [[NONE; 32]; 32], mark: [[0; 32]; 32] };
-    for feeder in 0..n {
-        for fed in 0..n {
-            if feeder != fed && fed != root {
-                let (p, m) = (b.take(20), b.take(2));
-                if p > 1_000_000 && p != NONE {
-                    return Err(6);
-                }
-                if m == 3 || p == NONE && m != 0 {
-                    return Err(7);
-                }
-                s.price[fed][feeder] = p;
-                s.mark[fed][feeder] = m as u8;
-            }
-        }
-    }
+    read_cells(&mut s, &mut b)?;
     while b.at < 8 * card.len() {
         if b.take(1) != 0 {
             return Err(8);
         }
     }
     Ok(s)
+}
+
+fn read_cells(s: &mut Sheet, b: &mut Bits) -> Result<(), u32> {
+    let root = s.root;
+    for feeder in 0..s.n {
+        for fed in (0..s.n).filter(|&p| p != feeder && p != root) {
+            let (p, m) = (b.take(20), b.take(2));
+            if p > 1_000_000 && p != NONE {
+                return Err(6);
+            }
+            if m == 3 || p == NONE && m != 0 {
+                return Err(7);
+            }
+            s.price[fed][feeder] = p;
+            s.mark[fed][feeder] = m as u8;
+        }
+    }
+    Ok(())
 }
 
 fn remaining(s: &Sheet) -> Rows {
@@ -97,96 +126,84 @@ fn remaining(s: &Sheet) -> Rows {
     rows
 }
 
-// The cheapest total by growing paths backwards and merging cycles: O(n²) on a dense matrix. `choice`, if wanted, takes the arcs picked.
+// The cheapest entering link of position j, and its feeder; all links into j are lowered by its price.
+#[inline(always)]
+fn charge(row: &mut [u32; 32], j: usize, n: usize) -> Option<(u32, usize)> {
+    let (mut best, mut from) = (INF, 0);
+    for (i, &x) in row[..n].iter().enumerate() {
+        if x < best && i != j {
+            best = x;
+            from = i;
+        }
+    }
+    if best == INF {
+        return None;
+    }
+    for x in row[..n].iter_mut() {
+        if *x != INF {
+            *x -= best;
+        }
+    }
+    Some((best, from))
+}
+
+// Position p goes up in position `into`.
+#[inline(always)]
+fn merge(c: &mut Rows, group: &mut [u8; 32], n: usize, p: usize, into: usize) {
+    for i in 0..n {
+        c[into][i] = c[into][i].min(c[p][i]);
+    }
+    for r in c[..n].iter_mut() {
+        r[into] = r[into].min(r[p]);
+        r[p] = INF;
+    }
+    for g in group[..n].iter_mut() {
+        if *g as usize == p {
+            *g = into as u8;
+        }
+    }
+}
+
+// The cheapest total by growing paths backwards and merging rings: O(n²) on a dense matrix.
 fn cheapest(n: usize, root: usize, rows: &Rows) -> Option<u32> {
     let mut c = *rows;
-    let mut alive = [true; 32];
     let mut done = [false; 32];
     let mut on_path = [false; 32];
     let mut group: [u8; 32] = std::array::from_fn(|v| v as u8);
     done[root] = true;
-    let mut total = 0u32;
-    let mut path = [0usize; 32];
+    let mut total = 0;
     for s in 0..n {
-        let s = group[s] as usize;
-        if done[s] {
+        let start = group[s] as usize;
+        if done[start] {
             continue;
         }
-        let mut len = 1;
-        path[0] = s;
-        on_path[s] = true;
+        let mut path = Path { places: [start; 32], len: 1 };
+        on_path[start] = true;
         loop {
-            let j = path[len - 1];
-            let (mut best, mut from) = (INF, 0);
-            for (i, &x) in c[j][..n].iter().enumerate() {
-                if x < best && i != j {
-                    best = x;
-                    from = i;
-                }
-            }
-            if best == INF {
-                return None;
-            }
+            let j = path.last();
+            let (best, from) = charge(&mut c[j], j, n)?;
             total += best;
-            for x in c[j][..n].iter_mut() {
-                if *x != INF {
-                    *x -= best;
-                }
-            }
             if done[from] {
-                for &p in &path[..len] {
-                    done[p] = true;
-                    on_path[p] = false;
-                }
                 break;
             }
             if !on_path[from] {
-                path[len] = from;
+                path.push(from);
                 on_path[from] = true;
-                len += 1;
                 continue;
             }
-            while path[len - 1] != from {
-                let p = path[len - 1];
-                len -= 1;
+            while path.last() != from {
+                let p = path.pop();
                 on_path[p] = false;
-                alive[p] = false;
-                for i in 0..n {
-                    c[from][i] = c[from][i].min(c[p][i]);
-                }
-                for r in c[..n].iter_mut() {
-                    r[from] = r[from].min(r[p]);
-                    r[p] = INF;
-                }
-                for g in group[..n].iter_mut() {
-                    if *g as usize == p {
-                        *g = from as u8;
-                    }
-                }
+                merge(&mut c, &mut group, n, p, from);
             }
             c[from][from] = INF;
         }
-    }
-    Some(total)
-}
-
-// A cheapest tree, one arc at a time: an arc is fixed if forcing it keeps the total.
-fn tree(n: usize, root: usize, rows: &Rows, total: u32) -> [usize; 32] {
-    let mut c = *rows;
-    let mut parent = [255; 32];
-    for v in (0..n).filter(|&v| v != root) {
-        for t in (0..n).filter(|&t| rows[v][t] != INF) {
-            let mut one = c;
-            one[v] = [INF; 32];
-            one[v][t] = rows[v][t];
-            if cheapest(n, root, &one) == Some(total) {
-                c = one;
-                parent[v] = t;
-                break;
-            }
+        for &p in path.all() {
+            done[p] = true;
+            on_path[p] = false;
         }
     }
-    parent
+    Some(total)
 }
 
 fn usable(s: &Sheet, rows: &Rows) -> [[bool; 32]; 32] {
@@ -204,44 +221,38 @@ fn usable(s: &Sheet, rows: &Rows) -> [[bool; 32]; 32] {
     used
 }
 
-fn text(card: &[u8], with_tree: bool) -> String {
-    use std::fmt::Write;
+fn state(s: &Sheet, used: &[bool; 32], feeder: usize, fed: usize) -> u8 {
+    if feeder == fed || fed == s.root || s.price[fed][feeder] == NONE {
+        0
+    } else if !used[feeder] {
+        1
+    } else if used.iter().filter(|&&u| u).count() == 1 {
+        3
+    } else {
+        2
+    }
+}
+
+fn text(card: &[u8]) -> String {
     let s = match open(card) {
         Ok(s) => s,
         Err(k) => return format!("refused {k}\n"),
     };
     let rows = remaining(&s);
     let mut out = format!("positions {} root {} budget {}\n", s.n, s.root, s.budget);
-    let total = cheapest(s.n, s.root, &rows);
     let mut used = [[false; 32]; 32];
-    match total {
+    match cheapest(s.n, s.root, &rows) {
         None => out.push_str("none\n"),
-        Some(v) if v > s.budget => writeln!(out, "over {v}").unwrap(),
+        Some(v) if v > s.budget => out.push_str(&format!("over {v}\n")),
         Some(v) => {
-            writeln!(out, "plan {v}").unwrap();
+            out.push_str(&format!("plan {v}\n"));
             used = usable(&s, &rows);
-            if with_tree {
-                let parent = tree(s.n, s.root, &rows, v);
-                for fed in (0..s.n).filter(|&h| h != s.root) {
-                    writeln!(out, "feed {} from {} price {}", fed, parent[fed], rows[fed][parent[fed]]).unwrap();
-                }
-            }
         }
     }
-    for t in 0..s.n {
-        write!(out, "row {t} ").unwrap();
-        for h in 0..s.n {
-            let only = used[h].iter().filter(|&&u| u).count() == 1;
-            let state = if t == h || h == s.root || s.price[h][t] == NONE {
-                0
-            } else if !used[h][t] {
-                1
-            } else if only {
-                3
-            } else {
-                2
-            };
-            write!(out, "{state}").unwrap();
+    for feeder in 0..s.n {
+        out.push_str(&format!("row {feeder} "));
+        for fed in 0..s.n {
+            out.push((b'0' + state(&s, &used[fed], feeder, fed)) as char);
         }
         out.push('\n');
     }
@@ -249,20 +260,7 @@ fn text(card: &[u8], with_tree: bool) -> String {
 }
 
 fn main() {
-    let args: Vec<String> = std::env::args().skip(1).collect();
-    let mut times = 1;
-    let mut with_tree = false;
-    for a in &args {
-        match a.as_str() {
-            "tree" => with_tree = true,
-            k => times = k.parse().expect("a number of times, or `tree`"),
-        }
-    }
     let mut card = Vec::new();
     std::io::stdin().read_to_end(&mut card).expect("a card on standard input");
-    let mut out = String::new();
-    for _ in 0..times {
-        out = text(std::hint::black_box(&card), with_tree);
-    }
-    std::io::stdout().write_all(out.as_bytes()).expect("standard output");
+    std::io::stdout().write_all(text(&card).as_bytes()).expect("standard output");
 }

@@ -1,6 +1,6 @@
 // Makes cards of several families with a fixed seed, runs the planner's print_plan and the baseline on the same cards in turn, checks that
 // they print the same outcome and states, and prints times and ratios. Arguments: PRINT_PLAN BASELINE [valgrind].
-// A time is that of a whole process, its start included: the least of several runs, since other work on the machine only adds to it.
+// A time is that of a whole process, its start included: the least of several runs, since other processes only add to it.
 // Under valgrind it also prints what no clock shows: instructions of the planning process after its start, plannings, deepest stack.
 use std::fs::{self, File};
 use std::process::{Command, Stdio};

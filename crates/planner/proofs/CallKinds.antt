@@ -1,7 +1,7 @@
 -- The call that a kind stands for, made. Assumes nothing.
 use mathlib.Core.Path.{_≡_, refl, sym, subst}
 use mathlib.Core.Bool.{cond}
-use Prim.Native.Nat.{ℕ, zero, suc, _≤_, _<_}
+use Prim.Native.Nat.{ℕ, zero, suc, _≤_}
 use native.Mathlib.Omega.{arith}
 use Rattle.board.specs.Model.{Command, answered, valid}
 use Rattle.board.specs.ModelOf.{model-of, Answers}

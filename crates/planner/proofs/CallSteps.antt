@@ -2,9 +2,7 @@
 -- leaves of the buffers what a later look keeps. Assumes nothing.
 use mathlib.Core.Path.{_≡_, refl, sym, ap, _∙_, subst}
 use mathlib.Core.Bool.{Bool, true, false, cond, true≢false}
-use mathlib.Core.List.{List, _++_}
-use mathlib.Core.Logic.{⊎-elim}
-use Prim.Native.Nat.{ℕ, _+_, _*_, _-_, _≤_, _<_}
+use Prim.Native.Nat.{ℕ, _*_, _-_, _≤_}
 use native.Mathlib.Omega.{arith}
 use lib.ListN.{length, drop, length-append, length-drop}
 use lib.Seq.{drop-at}
@@ -12,8 +10,8 @@ use Rattle.instance.specs.Limits.{cut-words}
 use Rattle.instance.specs.Instance.{Instance}
 use Rattle.instance.specs.States.{Outcome, plan, over, no-tree, outcome, states}
 use Rattle.theory.proofs.StateLaws.{states-read}
-use Rattle.board.specs.Model.{Command, Model, Result, valid, applied, answered}
-use Rattle.board.specs.Log.{Log, Noted, note, unnoted, effective}
+use Rattle.board.specs.Model.{Command, Result, valid, applied, answered}
+use Rattle.board.specs.Log.{Log, note, unnoted}
 use Rattle.board.specs.ModelOf.{model-of, instance-of, Answers}
 use Rattle.board.specs.declared.Board.{Board}
 use Rattle.board.specs.declared.Answered.{Answered}

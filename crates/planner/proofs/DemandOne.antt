@@ -1,29 +1,30 @@
--- DEMAND 1, stated once: whatever a public call was handed, its answer is 0 or one of document 01's refusals 1 to 15. (That every call ends,
--- and that nothing is required of the caller, is what each function's own proof says; that board and buffers are as before after a
--- refusal, its contract.) Assumes nothing.
-use mathlib.Core.Path.{_≡_, refl, sym, ap, _∙_, subst}
+-- DEMAND 1, stated once: whatever a public call was handed, its answer is 0 or one of document 01's refusals 1 to 15, and after a refusal the
+-- board and all lent buffers are as they were. (That every call ends, and that nothing is required of the caller, is what each function's
+-- own proof says.) Assumes nothing.
+use mathlib.Core.Path.{_≡_, sym, ap, _∙_, subst}
 use mathlib.Core.Bool.{Bool, true, false, cond, not, _&&_}
-use mathlib.Core.List.{List, [], _∷_}
+use mathlib.Core.List.{List, [], _∷_, _++_}
 use Prim.Native.Nat.{ℕ, zero, suc, _≤_}
 use native.Mathlib.Omega.{arith}
 use lib.Dec.{ltb, leb}
-use lib.ListN.{length}
+use borrow.Author.Tests.{ne-eqb}
+use lib.ListN.{length, drop}
 use Rattle.instance.specs.Instance.{Instance, is-arc, mark}
 use Rattle.instance.specs.Limits.{max-records, max-budget}
-use Rattle.card.specs.Card.{card-refusal, bytes-needed}
-use Rattle.card.specs.Writing.{written}
+use Rattle.card.specs.Card.{card-refusal, bytes-needed, card-of}
+use Rattle.card.specs.Writing.{written, buffer-after}
 use Rattle.card.specs.declared.write.Written.{Written}
 use Rattle.card.proofs.OpensLaws.{card-refusal-most}
 use Rattle.board.specs.Model.{Command, pin, ban, clear, set-budget, undo, Replaced, old-mark, old-budget, with-mark, with-budget, Model, Result, refused, accepted, marked, budgeted, undone, applied, valid, answered}
-use Rattle.board.specs.ModelOf.{model-of, instance-of}
+use Rattle.board.specs.ModelOf.{model-of, instance-of, blank}
 use Rattle.board.specs.declared.Board.{Board}
 use Rattle.board.specs.declared.Answered.{Answered}
 use Rattle.board.proofs.CallLaws.{call-answer}
 use Rattle.board.proofs.RunLaws.{Called, called-answers}
 use Rattle.planner.specs.declared.Opened.{Opened}
 use Rattle.planner.specs.declared.View.{View}
-use Rattle.planner.specs.Calls.{Writes}
-use Rattle.planner.specs.Look.{Buffers, answer-of, short-for, Shows, Looks-at, Looks}
+use Rattle.planner.specs.Calls.{opened-with, opened-from, Writes}
+use Rattle.planner.specs.Look.{Buffers, answer-of, short-for, Looks-at, Looks}
 use Rattle.board.specs.Log.{Log, effective}
 use Rattle.planner.specs.Replay.{Call, calls-after, Replays-at, Replays}
 use Rattle.planner.proofs.CallSteps.{shown-answer}
@@ -37,6 +38,14 @@ pub data Given : ℕ → Type 0 where
   by-looking : {b : Board} {v : View} {old new : Buffers} → Looked b v old new → Given (answer-of v)
   by-write-card : {b : Board} {r : Written} {out out′ : List ℕ} → Wrote b r out out′ → Given (r .number)
   by-replaying : {ws ks fs gs : List ℕ} {v : View} {xs xs′ : List ℕ} {old new : Buffers} → Replayed ws ks fs gs v xs xs′ old new → Given (answer-of v)
+
+-- what a refusal leaves as it was; a card that is refused gives the blank board
+abbrev pub Kept : {a : ℕ} → Given a → Type 0
+Kept (by-open-card {o = o} p) = o .board ≡ blank
+Kept (by-command {b = b} {r = r} p) = r .board ≡ b
+Kept (by-looking {old = old} {new = new} p) = new ≡ old
+Kept (by-write-card {out = out} {out′ = out′} p) = out′ ≡ out
+Kept (by-replaying {old = old} {new = new} p) = new ≡ old
 
 -- COMMANDS
 mark-answers : (p q r : Bool) (b : Model) (y : Result) → y .answer ≤ 15 → cond p (refused 9 b) (cond q (refused 10 b) (cond r (refused 12 b) y)) .answer ≤ 15
@@ -118,13 +127,58 @@ replays-at-most zero true t cs k v xs xs′ old new l r = let e = ap answer-of (
 replays-at-most zero false true cs k v xs xs′ old new l r = let e = ap answer-of (r .1 .result) in omega arith
 replays-at-most zero false false cs k v xs xs′ old new l r = let e = shown-answer (effective (calls-after false cs k)) v old new (r .1) in omega arith
 
--- EVERY ANSWER IS LISTED
-pub demand-1 : {a : ℕ} → Given a → a ≤ 15
+-- WHAT IS KEPT
+opened-kept : (ws : List ℕ) (o : Opened) → o ≡ opened-from ws → (o .answer ≡ 0 → ⊥) → o .board ≡ blank
+unfolding opened-from
+opened-kept ws o e n =
+    let z : card-refusal ws ≡ 0 → ⊥ = λ z. n (opened-answer ws o e ∙ z) in
+    let q : o ≡ opened-with (card-refusal ws) blank = e ∙ rw (ne-eqb (card-refusal ws) 0 z) in
+    ap (λ (x : Opened). x .board) q
+
+looks-at-kept : (g t : Bool) (s : Instance) (v : View) (old new : Buffers) → Looks-at g t s v old new → (answer-of v ≡ 0 → ⊥) → new ≡ old
+unfolding Looks-at
+looks-at-kept false t s v old new u n = u .buffers
+looks-at-kept true true s v old new u n = u .buffers
+looks-at-kept true false s v old new x n = absurd (n (shown-answer s v old new x))
+
+writes-kept : (b : Board) (r : Written) (out out′ : List ℕ) → Writes b r out out′ → (r .number ≡ 0 → ⊥) → out′ ≡ out
+unfolding written buffer-after
+writes-kept b r out out′ w n = go (valid (model-of b)) (ltb (length out) (bytes-needed (b .n))) (w .result) (w .buffer)
+  where
+    go : (g t : Bool)
+        → r ≡ cond {A = Written} g (cond t (record { number = 14; length = 0 }) (record { number = 0; length = bytes-needed (b .n) })) (record { number = 15; length = 0 })
+        → out′ ≡ cond g (cond t out (card-of (instance-of b) ++ drop (bytes-needed (b .n)) out)) out → out′ ≡ out
+    go true true e q = q
+    go true false e q = absurd (n (ap (λ (x : Written). x .number) e))
+    go false t e q = q
+
+replays-at-kept :
+    (a : ℕ) (u t : Bool) (cs : List Call) (k : Log) (v : View) (xs xs′ : List ℕ) (old new : Buffers) → Replays-at a u t cs k v xs xs′ old new → (answer-of v ≡ 0 → ⊥) → new ≡ old
+unfolding Replays-at
+replays-at-kept (suc a) u t cs k v xs xs′ old new r n = r .1 .buffers
+replays-at-kept zero true t cs k v xs xs′ old new r n = r .1 .buffers
+replays-at-kept zero false true cs k v xs xs′ old new r n = r .1 .buffers
+replays-at-kept zero false false cs k v xs xs′ old new r n = absurd (n (shown-answer (effective (calls-after false cs k)) v old new (r .1)))
+
+kept : {a : ℕ} (g : Given a) → (a ≡ 0 → ⊥) → Kept g
 unfolding Looks Replays
-demand-1 (by-open-card {ws = ws} {o = o} p) = let e = opened-answer ws o (opened-by p) in let m = card-refusal-most ws in omega arith
-demand-1 (by-command {c = c} {b = b} {r = r} p) = let e = call-answer c b r (called-answers p) in let m = answered-most c (model-of b) in omega arith
-demand-1 (by-looking {b = b} {v = v} {old = old} {new = new} p) =
+kept (by-open-card {ws = ws} {o = o} p) n = opened-kept ws o (opened-by p) n
+kept (by-command p) n = called-answers p .unchanged n
+kept (by-looking {b = b} {v = v} {old = old} {new = new} p) n =
+    looks-at-kept (valid (model-of b)) (short-for (b .n) old) (instance-of b) v old new (looked p) n
+kept (by-write-card {b = b} {r = r} {out = out} {out′ = out′} p) n = writes-kept b r out out′ (wrote p) n
+kept (by-replaying {ws = ws} {v = v} {xs = xs} {xs′ = xs′} {old = old} {new = new} p) n = replays-at-kept (card-refusal ws) _ _ _ _ v xs xs′ old new (replayed p) n
+
+-- EVERY ANSWER IS LISTED
+listed : {a : ℕ} → Given a → a ≤ 15
+unfolding Looks Replays
+listed (by-open-card {ws = ws} {o = o} p) = let e = opened-answer ws o (opened-by p) in let m = card-refusal-most ws in omega arith
+listed (by-command {c = c} {b = b} {r = r} p) = let e = call-answer c b r (called-answers p) in let m = answered-most c (model-of b) in omega arith
+listed (by-looking {b = b} {v = v} {old = old} {new = new} p) =
     looks-at-most (valid (model-of b)) (short-for (b .n) old) (instance-of b) v old new (looked p)
-demand-1 (by-write-card {b = b} {r = r} {out = out} {out′ = out′} p) = writes-most b r out out′ (wrote p)
-demand-1 (by-replaying {ws = ws} {v = v} {xs = xs} {xs′ = xs′} {old = old} {new = new} p) =
+listed (by-write-card {b = b} {r = r} {out = out} {out′ = out′} p) = writes-most b r out out′ (wrote p)
+listed (by-replaying {ws = ws} {v = v} {xs = xs} {xs′ = xs′} {old = old} {new = new} p) =
     replays-at-most (card-refusal ws) _ _ _ _ v xs xs′ old new (card-refusal-most ws) (replayed p)
+
+pub demand-1 : {a : ℕ} (g : Given a) → (a ≤ 15) × ((a ≡ 0 → ⊥) → Kept g)
+demand-1 g = (listed g, kept g)

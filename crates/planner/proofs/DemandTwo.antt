@@ -1,10 +1,13 @@
--- DEMAND 2, from the look's own contract: plan, over and none exactly when they should be, and the cuts that stand in the buffer prove the
--- price that is shown, by weak duality. Assumes nothing.
-use mathlib.Core.Path.{_≡_, refl, sym, _∙_, subst}
+-- DEMAND 2, from the look's own contract: plan, over and none exactly when they should be; of a plan, the parents in the buffer are those of
+-- an arborescence that keeps the marks and has the total shown; the cuts in the buffer, each of a value of at least 1 and zeros after them,
+-- prove by weak duality that none is cheaper. Assumes nothing.
+use mathlib.Core.Path.{_≡_, _∙_, subst}
 use mathlib.Core.Bool.{Bool, true, false}
-use mathlib.Core.List.{List, [], _∷_}
+use mathlib.Core.List.{List}
 use mathlib.Core.Logic.{_⊎_, ⊎-elim}
-use Prim.Native.Nat.{ℕ, _≤_}
+use Prim.Native.Nat.{ℕ, _*_, _-_, _≤_}
+use lib.ListN.{take, drop, replicate}
+use Rattle.instance.specs.Limits.{cut-words}
 use Rattle.instance.specs.Instance.{Instance}
 use Rattle.instance.specs.Arborescence.{is-arborescence, total}
 use Rattle.instance.specs.Cuts.{Cut, cuts-in, values}
@@ -16,7 +19,7 @@ use Rattle.board.specs.Model.{valid}
 use Rattle.board.specs.ModelOf.{model-of, instance-of}
 use Rattle.board.specs.declared.Board.{Board}
 use Rattle.planner.specs.declared.View.{View}
-use Rattle.planner.specs.Look.{Buffers, view, pairs, short-for, Cuts-shown, Shows, Looks-at}
+use Rattle.planner.specs.Look.{Buffers, view, pairs, short-for, Parents-shown, Cuts-shown, Shows, Looks-at}
 use Rattle.planner.proofs.CallSteps.{looks-valid}
 use Rattle.planner.proofs.Learnt.{Looked, looked}
 
@@ -25,6 +28,9 @@ pub record Demand-2 (s : Instance) (v : View) (new : Buffers) : Type 0 where
   pub right : Outcome-reads s (outcome s)
   pub price : (w : ℕ) → (outcome s ≡ plan w) ⊎ (outcome s ≡ over w) → values (cuts-in (pairs v) (new .cuts)) ≡ w
   pub cheapest : (ps : List ℕ) → is-arborescence s ps ≡ true → values (cuts-in (pairs v) (new .cuts)) ≤ total s ps
+  pub tree : Parents-shown (outcome s) s (take (s .n) (new .parents))
+  pub cuts : Cuts-shown (outcome s) s (cuts-in (pairs v) (new .cuts))
+  pub zeros : take (cut-words - 2 * pairs v) (drop (2 * pairs v) (new .cuts)) ≡ replicate (cut-words - 2 * pairs v) 0
 
 plan-price : (o : Outcome) (s : Instance) (cs : List Cut) (w : ℕ) → Cuts-shown o s cs → o ≡ plan w → values cs ≡ w
 unfolding Cuts-shown
@@ -56,4 +62,7 @@ demand-2 b v old new l g t =
       right = outcome-reads s;
       price = λ w e. ⊎-elim (λ (p : outcome s ≡ plan w). plan-price (outcome s) s cs w (x .cuts-shown) p) (λ (p : outcome s ≡ over w). over-price (outcome s) s cs w (x .cuts-shown) p) e;
       cheapest = no-cheaper (outcome s) s cs (x .cuts-shown);
+      tree = x .parents-shown;
+      cuts = x .cuts-shown;
+      zeros = x .zeros;
     }

@@ -8,6 +8,7 @@ pub mod CallKinds
 pub mod CallSteps
 pub mod ReplayLaws
 pub mod Learnt
+pub mod RoundTrips
 pub mod DemandOne
 pub mod DemandTwo
 pub mod DemandThree

@@ -1,11 +1,11 @@
 -- From what planning found and what was copied out to what a look promises. Assumes nothing.
-use mathlib.Core.Path.{_≡_, refl, sym, ap, _∙_, subst}
-use mathlib.Core.Bool.{Bool, true, false, _&&_, _||_}
-use mathlib.Core.List.{List, [], _∷_, _++_}
-use Prim.Native.Nat.{ℕ, zero, suc, _+_, _*_, _-_, _/_, _%_, _≤_, _<_}
+use mathlib.Core.Path.{_≡_, refl, sym, ap, _∙_}
+use mathlib.Core.Bool.{true, false, _&&_, _||_}
+use mathlib.Core.List.{List, _∷_, _++_}
+use Prim.Native.Nat.{ℕ, zero, suc, _+_, _*_, _-_, _/_, _%_, _≤_}
 use native.Mathlib.Omega.{arith}
-use lib.ListN.{length, getD, take, drop, replicate, length-append, length-take, length-drop, length-replicate, List·getD-append}
-use lib.Seq.{take-at, drop-at, length-take-le, take-append-le, drop-append-le, take-all}
+use lib.ListN.{length, getD, take, drop, replicate, length-append, length-drop, length-replicate, List·getD-append}
+use lib.Seq.{take-at, drop-at, length-take-le, drop-append-le}
 use lib.Dec.{ltb, leb}
 use borrow.Author.Tests.{ltb-false}
 use Rattle.base.specs.Lists.{tabulate, all-of}
@@ -22,7 +22,7 @@ use Rattle.states.specs.Table.{state-by}
 use Rattle.planner.specs.declared.View.{View}
 use Rattle.planner.specs.declared.View.the-variants.{Refused}
 use Rattle.planner.specs.declared.survey.Survey.{Survey}
-use Rattle.planner.specs.Look.{Buffers, view, pairs, too-short, short-for, Parents-shown, Cuts-shown, Shows, Looks-at, Looks}
+use Rattle.planner.specs.Look.{Buffers, view, pairs, too-short, short-for, Cuts-shown, Shows, Looks-at, Looks}
 use Rattle.planner.specs.Survey.{Surveys, Displays}
 
 -- cuts are read from the front of the words

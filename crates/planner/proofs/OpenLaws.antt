@@ -2,17 +2,15 @@
 use mathlib.Core.Path.{_≡_, refl, sym, ap, _∙_, subst}
 use mathlib.Core.Bool.{Bool, true, false, cond}
 use mathlib.Core.List.{List}
-use mathlib.Core.Logic.{⊎-elim}
 use Prim.Native.Nat.{ℕ}
 use lib.Dec.{eqb}
-use borrow.Author.Tests.{eq-eqb, ne-eqb, eqb-true, eqb-false}
-use Rattle.base.proofs.Tests.{test}
+use borrow.Author.Tests.{eq-eqb, ne-eqb, eqb-true}
 use Rattle.card.specs.Card.{card-refusal, instance-in}
 use Rattle.card.specs.Reading.{contents-of, accepted, blank as no-contents}
 use Rattle.card.specs.declared.read.Contents.{Contents}
 use Rattle.board.specs.Model.{opened, valid}
 use Rattle.board.specs.Log.{new-log}
-use Rattle.board.specs.ModelOf.{model-of, history-of, board-with, blank}
+use Rattle.board.specs.ModelOf.{model-of, instance-of, history-of, board-with, blank}
 use Rattle.board.specs.declared.Board.{Board}
 use Rattle.board.proofs.LogLaws.{Tied}
 use Rattle.board.proofs.RunLaws.{new-board-follows}
@@ -48,6 +46,13 @@ opened-answer ws o e = ap (λ (x : Opened). x .answer) e ∙ go (eqb (card-refus
     go : (b : Bool) → eqb (card-refusal ws) 0 ≡ b → cond b (opened-with 0 (fresh (instance-in ws))) (opened-with (card-refusal ws) blank) .answer ≡ card-refusal ws
     go true q = sym (eqb-true (card-refusal ws) 0 q)
     go false q = refl
+
+-- the board of a card that opens holds its instance
+pub opened-instance : (ws : List ℕ) (o : Opened) → o ≡ opened-from ws → card-refusal ws ≡ 0 → instance-of (o .board) ≡ instance-in ws
+unfolding opened-from board-with
+opened-instance ws o e z =
+    let q : o ≡ opened-with 0 (fresh (instance-in ws)) = e ∙ rw (eq-eqb (card-refusal ws) 0 z) in
+    ap (λ (x : Opened). instance-of (x .board)) q
 
 -- WHAT A CARD SAYS
 -- contents with the refusal they come with

@@ -1,15 +1,15 @@
 -- The loop that makes a list of calls. What is made so far stands in front of the answers, and what is left would complete the log's
 -- answers: so the invariant speaks of the rest of the list and of the log that the board is tied to. Assumes nothing.
 use mathlib.Core.Path.{_≡_, refl, sym, ap, _∙_, subst}
-use mathlib.Core.Bool.{Bool, true, false, _||_, not, cond}
+use mathlib.Core.Bool.{Bool, true, false, _||_}
 use mathlib.Core.List.{List, [], _∷_, _++_, append-assoc, append-nil}
-use Prim.Native.Nat.{ℕ, zero, suc, _+_, _*_, _-_, _≤_, _<_}
+use Prim.Native.Nat.{ℕ, zero, suc, _+_, _-_, _≤_, _<_}
 use native.Mathlib.Omega.{arith}
 use native.Mathlib.Numerals.{add-one}
-use lib.Dec.{ltb, eqb}
+use lib.Dec.{ltb}
 use lib.ListN.{length, getD, set, take, drop, length-set, drop-of-length-le, take-append-drop}
 use lib.Seq.{drop-cons, take-suc-set, drop-set-lt}
-use borrow.Author.Tests.{le-ltb, ltb-false, eq-eqb, eqb-true, not-false}
+use borrow.Author.Tests.{le-ltb, ltb-false}
 use Rattle.base.proofs.Tests.{or-false-left, or-false-right}
 use Rattle.instance.specs.Instance.{Instance}
 use Rattle.instance.specs.States.{states}
@@ -22,7 +22,7 @@ use Rattle.board.specs.declared.Answered.{Answered}
 use Rattle.board.proofs.LogLaws.{Tied}
 use Rattle.planner.specs.declared.View.{View}
 use Rattle.planner.specs.declared.View.the-variants.{Refused}
-use Rattle.planner.specs.Look.{Buffers, too-short, short-for, Shows, Untouched, Looks-at, Looks}
+use Rattle.planner.specs.Look.{Buffers, short-for, Shows, Looks-at, Looks}
 use Rattle.planner.specs.Replay.{Call, call, calls, log-call, call-answers, calls-after, Makes, unfit, Replays-at, Replays}
 use Rattle.planner.proofs.CallSteps.{Since, since-same, since-then, Call-step, call-step, looks-valid}
 
@@ -32,8 +32,8 @@ from ks fs gs i = calls (drop i ks) (drop i fs) (drop i gs)
 
 pub record Going (ws ks fs gs xs₀ : List ℕ) (old : Buffers) (b : Board) (i : ℕ) (xs : List ℕ) (new : Buffers) : Type 0 where
   pub within : i ≤ length ks
-  pub firsts : length fs ≡ length ks
-  pub seconds : length gs ≡ length ks
+  pub firsts : length ks ≤ length fs
+  pub seconds : length ks ≤ length gs
   pub room : length ks ≤ length xs₀
   pub size : length xs ≡ length xs₀
   pub log : Log
@@ -53,7 +53,7 @@ pub record Going (ws ks fs gs xs₀ : List ℕ) (old : Buffers) (b : Board) (i :
 same-short : (t : Bool) (n : ℕ) (old new : Buffers) → Since t n old new → short-for n new ≡ short-for n old
 same-short t n old new s = rw (s .parents-length, s .states-length, s .cuts-length)
 
-split : (ks fs gs : List ℕ) (i : ℕ) → i < length ks → length fs ≡ length ks → length gs ≡ length ks →
+split : (ks fs gs : List ℕ) (i : ℕ) → i < length ks → length ks ≤ length fs → length ks ≤ length gs →
     from ks fs gs i ≡ call (getD ks i 0) (getD fs i 0) (getD gs i 0) ∷ from ks fs gs (suc i)
 unfolding calls
 split ks fs gs i h p q = rw (drop-cons ks i 0 h, drop-cons fs i 0 (omega arith), drop-cons gs i 0 (omega arith))
@@ -67,25 +67,25 @@ drop-more (x ∷ l) (suc j) = drop-more l j
 drop-later : (l m : List ℕ) (j : ℕ) → drop j l ≡ drop j m → drop (suc j) l ≡ drop (suc j) m
 drop-later l m j q = drop-more l j ∙ ap (drop 1) q ∙ sym (drop-more m j)
 
-fit : (ks fs gs xs : List ℕ) → length fs ≡ length ks → length gs ≡ length ks → length ks ≤ length xs → unfit (length ks) (length fs) (length gs) (length xs) ≡ false
+fit : (ks fs gs xs : List ℕ) → length ks ≤ length fs → length ks ≤ length gs → length ks ≤ length xs → unfit (length ks) (length fs) (length gs) (length xs) ≡ false
 unfolding unfit
-fit ks fs gs xs p q r = simp (eq-eqb (length fs) (length ks) p, eq-eqb (length gs) (length ks) q, le-ltb (length xs) (length ks) r)
+fit ks fs gs xs p q r = simp (le-ltb (length fs) (length ks) p, le-ltb (length gs) (length ks) q, le-ltb (length xs) (length ks) r)
 
 pub record Fitting (kinds firsts seconds answers : ℕ) : Type 0 where
-  pub as-many-firsts : firsts ≡ kinds
-  pub as-many-seconds : seconds ≡ kinds
+  pub enough-firsts : kinds ≤ firsts
+  pub enough-seconds : kinds ≤ seconds
   pub room : kinds ≤ answers
 
 pub fitting : (k f s a : ℕ) → unfit k f s a ≡ false → Fitting k f s a
 unfolding unfit
 fitting k f s a e =
-    let P = not (eqb f k) in
-    let Q = not (eqb s k) in
+    let P = ltb f k in
+    let Q = ltb s k in
     let R = ltb a k in
     let r = or-false-right P (Q || R) e in
     record {
-      as-many-firsts = eqb-true f k (not-false (eqb f k) (or-false-left P (Q || R) e));
-      as-many-seconds = eqb-true s k (not-false (eqb s k) (or-false-left Q R r));
+      enough-firsts = ltb-false f k (or-false-left P (Q || R) e);
+      enough-seconds = ltb-false s k (or-false-left Q R r);
       room = ltb-false a k (or-false-right Q R r);
     }
 
@@ -130,7 +130,7 @@ module _ (ws ks fs gs xs₀ : List ℕ) (old : Buffers) where
   abbrev start : Log
   start = new-log (instance-in ws)
 
-  pub begun : (b : Board) → Tied (model-of b) start → valid (model-of b) ≡ true → b .n ≡ instance-in ws .n → length fs ≡ length ks → length gs ≡ length ks →
+  pub begun : (b : Board) → Tied (model-of b) start → valid (model-of b) ≡ true → b .n ≡ instance-in ws .n → length ks ≤ length fs → length ks ≤ length gs →
       length ks ≤ length xs₀ → Going ws ks fs gs xs₀ old b 0 xs₀ old
   begun b y g e p q r =
       record {
@@ -186,7 +186,7 @@ module _ (ws ks fs gs xs₀ : List ℕ) (old : Buffers) where
   past i h = rw (drop-of-length-le ks {i = i} h)
 
   -- THE END: the last look, at a board that is tied to the log of the whole list
-  length-calls : (ks fs gs : List ℕ) → length fs ≡ length ks → length gs ≡ length ks → length (calls ks fs gs) ≡ length ks
+  length-calls : (ks fs gs : List ℕ) → length ks ≤ length fs → length ks ≤ length gs → length (calls ks fs gs) ≡ length ks
   unfolding calls
   length-calls [] fs gs p q = refl
   length-calls (k ∷ ks) [] gs p q = absurd (omega arith)

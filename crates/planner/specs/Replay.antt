@@ -1,12 +1,11 @@
 -- Demand 3 in one definition: the card, the list of calls and the log; the board's own record is not named. Assumes nothing: these are
 -- definitions.
 use mathlib.Core.Path.{_≡_}
-use mathlib.Core.Bool.{Bool, true, false, _||_, not, cond}
+use mathlib.Core.Bool.{Bool, true, false, _||_, cond}
 use mathlib.Core.List.{List, [], _∷_, _++_}
 use Prim.Native.Nat.{ℕ, zero, suc}
-use lib.Dec.{ltb, eqb}
+use lib.Dec.{ltb}
 use lib.ListN.{length, drop}
-use Rattle.instance.specs.Instance.{Instance}
 use Rattle.card.specs.Card.{card-refusal, instance-in}
 use Rattle.board.specs.Model.{Command, pin, ban, clear, set-budget, undo, valid, answered}
 use Rattle.board.specs.Log.{Log, new-log, Noted, unnoted, note, effective}
@@ -61,12 +60,13 @@ Makes look b r old new = (v : View) × (r .answer ≡ answer-of v) × (r .board 
 Makes write b r old new = (r .answer ≡ cond (valid (model-of b)) 0 15) × (r .board ≡ b) × (new ≡ old)
 
 -- THE WHOLE LIST on a freshly opened card, and a look at the end
--- lists of unequal length, or no room for the answers
+-- "a lent buffer too short": fewer numbers than kinds, or no room for the answers
 unfoldable pub unfit : (kinds firsts seconds answers : ℕ) → Bool
-unfit k f s a = not (eqb f k) || (not (eqb s k) || ltb a k)
+unfit k f s a = ltb f k || (ltb s k || ltb a k)
 
--- a card that does not open, or lists that do not fit (14), leave everything as it was; else the answers are the log's, and the last look
--- shows the effective instance, or gives 14 exactly when one of its buffers is too short
+-- A card that does not open, or a list that is too short (14), leaves everything as it was. Else every call is made and its answer is the
+-- log's; the last look shows the effective instance, or gives 14 exactly when one of its three buffers is too short, and leaves them as they
+-- were. The answers of the calls that were made stand in their list in either case.
 unfoldable pub Replays-at : (refusal : ℕ) → (unfit short : Bool) → List Call → Log → View → (answers answers′ : List ℕ) → (old new : Buffers) → Type 0
 Replays-at (suc a) unfit short cs k r xs xs′ old new = (xs′ ≡ xs) × Untouched (suc a) r old new
 Replays-at zero true short cs k r xs xs′ old new = (xs′ ≡ xs) × Untouched 14 r old new

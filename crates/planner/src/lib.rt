@@ -1,5 +1,6 @@
 // The public calls, gathered here: open_card, pin, ban, clear, set_budget, take_back, look, write_card and replay. None requires
-// anything of its caller: whatever is handed in gets an answer, and after a refusal the board and all buffers are as they were.
+// anything of its caller: whatever is handed in gets an answer, and after a refusal the board and all buffers are as they were (of replay,
+// which makes many calls, the answers of those that were made stand).
 mod copies; // copies.rt: copies into the caller's buffers
 pub mod open; // open.rt: a board from a card
 pub mod write; // write.rt: a board written as a card
@@ -16,6 +17,7 @@ pub use board::commands::set_budget;
 pub use board::commands::take_back;
 pub use card::write::Written;
 pub use inspect::look;
+pub use instance::Vertex;
 pub use open::open_card;
 pub use replaying::replay;
 pub use write::write_card;

@@ -90,10 +90,10 @@ fn make_call(
 fn is_unfit(kinds: usize, firsts: usize, seconds: usize, answers: usize) -> bool
     ensures { λ r. ⌜ r ≡ unfit kinds firsts seconds answers ⌝ }
 {
-    if firsts != kinds {
+    if firsts < kinds {
         return true;
     }
-    if seconds != kinds {
+    if seconds < kinds {
         return true;
     }
     answers < kinds
@@ -101,6 +101,7 @@ fn is_unfit(kinds: usize, firsts: usize, seconds: usize, answers: usize) -> bool
 
 // Opens the card, makes every call of the lists (kind, first and second number of each; a kind 0 pins, 1 bans, 2 clears, 3 sets the
 // budget, 4 takes back, 5 looks, any other writes), stores every answer, and looks at the end. A look between goes into the same buffers.
+// Where the last look gives 14, its buffers are as they were and the answers of the calls stand.
 pub fn replay(
     bytes: &[u8],
     kinds: &[u8],

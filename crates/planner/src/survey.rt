@@ -7,7 +7,6 @@ ghost use Rattle.instance.specs.Instance.{instance-with};
 ghost use Rattle.planner.specs.Survey.{Surveys};
 use crate::View;
 use instance::Vertex;
-use instance::limits::CUT_WORDS;
 use instance::limits::NO_PARENT;
 
 // What planning found: the view, the parents, the cuts as pairs of words, and 1 at each arc that some arborescence within budget uses.

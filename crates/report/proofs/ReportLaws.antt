@@ -20,15 +20,15 @@ use Rattle.theory.proofs.StateLaws.{states-read}
 use Rattle.card.specs.Card.{card-refusal, instance-in}
 use Rattle.card.proofs.OpensLaws.{card-refusal-most}
 use Rattle.board.specs.Model.{valid}
-use Rattle.board.specs.ModelOf.{model-of, instance-of, board-with}
+use Rattle.board.specs.ModelOf.{model-of, instance-of}
 use Rattle.board.specs.declared.Board.{Board}
 use Rattle.planner.specs.declared.View.{View}
 use Rattle.planner.specs.declared.Opened.{Opened}
-use Rattle.planner.specs.Calls.{opened-with, opened-from, fresh}
+use Rattle.planner.specs.Calls.{opened-from}
 use Rattle.planner.specs.Look.{Buffers, view, pairs, too-short, Parents-shown, Shows, Looks-at, Looks}
 use Rattle.planner.proofs.LookLaws.{valid-fields}
 use Rattle.planner.proofs.CallSteps.{looks-valid}
-use Rattle.planner.proofs.OpenLaws.{opened-answer, opened-starts}
+use Rattle.planner.proofs.OpenLaws.{opened-answer, opened-starts, opened-instance}
 use Rattle.report_text.specs.declared.Found.{Found}
 use Rattle.report.specs.declared.Reported.{Reported}
 use Rattle.report_text.specs.Text.{text, report-text, refused-text, max-text}
@@ -130,12 +130,6 @@ module _
         fits = rw same (report-length S valid-S Parents (λ t q. plan-parents (outcome S) S Parents t (shows .parents-shown) q))
 
 -- OPENED CARDS
-opened-instance : (ws : List ℕ) (o : Opened) → o ≡ opened-from ws → card-refusal ws ≡ 0 → instance-of (o .board) ≡ instance-in ws
-unfolding opened-from board-with
-opened-instance ws o e z =
-    let q : o ≡ opened-with 0 (fresh (instance-in ws)) = e ∙ rw (eq-eqb (card-refusal ws) 0 z) in
-    ap (λ (x : Opened). instance-of (x .board)) q
-
 pub opened-good : (ws : List ℕ) (o : Opened) → o ≡ opened-from ws → o .answer ≡ 0 → valid (model-of (o .board)) ≡ true
 opened-good ws o e a = opened-starts ws o e (sym (opened-answer ws o e) ∙ a) .good
 

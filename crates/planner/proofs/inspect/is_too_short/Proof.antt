@@ -1,7 +1,4 @@
 -- Each way out answers with the tests that led there; n times n is at most 1,024. Assumes nothing.
-use mathlib.Core.Path.{_≡_}
-use mathlib.Core.Bool.{true, false}
-use Prim.Native.Nat.{ℕ, _*_, _≤_, _<_}
 use native.Mathlib.Omega.{arith}
 use borrow.Author.Tests.{lt-ltb, le-ltb}
 use Rattle.states.proofs.CellLaws.{square}

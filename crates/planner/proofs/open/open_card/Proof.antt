@@ -1,7 +1,6 @@
 -- A refused card and one that opens, each by its law. Assumes nothing.
-use mathlib.Core.Path.{_≡_, sym, ap, _∙_}
+use mathlib.Core.Path.{ap, _∙_}
 use borrow.Author.Needs.{needs}
-use Rattle.board.specs.declared.Board.{Board}
 use Rattle.planner.specs.Calls.{opened-with}
 use Rattle.planner.proofs.OpenLaws.{open-refused, open-accepted}
 use Rattle.planner.proofs.open.open_card.Statement.{statement}

@@ -1,5 +1,4 @@
 -- A command, a look or a write, by the kind's law. Assumes nothing.
-use mathlib.Core.Path.{_≡_}
 use Prim.Native.Nat.{_≤_}
 use native.Mathlib.Omega.{arith}
 use Rattle.board.specs.ModelOf.{command-of}

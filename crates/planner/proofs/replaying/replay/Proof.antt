@@ -1,6 +1,5 @@
 -- The loop makes one call after the other; what it keeps is told by `Going`. Assumes nothing.
-use mathlib.Core.Path.{_≡_, refl, sym, ap, _∙_}
-use mathlib.Core.Bool.{true, false}
+use mathlib.Core.Path.{_≡_, refl, sym, _∙_}
 use Prim.Native.Nat.{_-_}
 use native.Mathlib.Omega.{arith}
 use lib.ListN.{length}
@@ -8,7 +7,7 @@ use borrow.Author.Needs.{needs}
 use Rattle.card.specs.Card.{card-refusal}
 use Rattle.planner.specs.Look.{buffers}
 use Rattle.planner.proofs.OpenLaws.{opened-answer, opened-starts}
-use Rattle.planner.proofs.ReplayLaws.{Going, Fitting, fitting, begun, again, not-opened, not-fitting, ended}
+use Rattle.planner.proofs.ReplayLaws.{Going, fitting, begun, again, not-opened, not-fitting, ended}
 use Rattle.planner.proofs.replaying.replay.Statement.{statement}
 use Rattle.planner.proofs.replaying.replay.Tie as tie
 
@@ -42,7 +41,7 @@ loop-holds c =
     let e = c .before .before .before in
     let s = opened-starts _ (e .before .open-card .result) (e .before .open-card .ensures) (opens e) in
     let f = fitting _ _ _ _ (sym (c .before .before .is-unfit .ensures) ∙ c .before .if2 .left) in
-    begun _ _ _ _ _ _ (e .before .open-card .result .board) (s .tied) (s .good) (s .same-n) (f .as-many-firsts) (f .as-many-seconds) (f .room)
+    begun _ _ _ _ _ _ (e .before .open-card .result .board) (s .tied) (s .good) (s .same-n) (f .enough-firsts) (f .enough-seconds) (f .room)
 
 shared-slice-read-make-call : tie.Need-shared-slice-read-make-call Inv-loop μ-loop
 shared-slice-read-make-call c = omega arith

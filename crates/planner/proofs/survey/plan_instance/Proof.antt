@@ -1,9 +1,8 @@
 -- The matrix of what remains is planned; each outcome is told of the instance by its law. Assumes nothing.
 use mathlib.Core.Path.{_≡_, refl, sym, ap, _∙_, subst}
-use mathlib.Core.Bool.{Bool, true, false}
+use mathlib.Core.Bool.{true}
 use mathlib.Core.List.{List, []}
 use Prim.Native.Nat.{ℕ}
-use native.Mathlib.Omega.{arith}
 use lib.ListN.{length, take, replicate}
 use borrow.Author.Needs.{needs}
 use borrow.Author.Tests.{not-true, not-false}
@@ -16,7 +15,6 @@ use Rattle.states.specs.Judge.{Fitting-plan}
 use Rattle.states.specs.Table.{Usable-table}
 use Rattle.states.specs.Tree.{Matrix-ok, Matrix-tree}
 use Rattle.states.proofs.PlanLaws.{matrix-budget, valid-matrix, planned-fitting}
-use Rattle.planner.specs.declared.survey.Survey.{Survey}
 use Rattle.planner.specs.Survey.{Surveys}
 use Rattle.planner.proofs.SurveyLaws.{none-survey, level-tree, over-survey, plan-survey}
 use Rattle.planner.proofs.survey.plan_instance.Statement.{statement}

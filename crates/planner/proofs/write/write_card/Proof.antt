@@ -1,12 +1,11 @@
 -- An invalid board is refused; a valid one has the ranges that writing a card asks for. Assumes nothing.
-use mathlib.Core.Path.{_≡_, refl, sym, _∙_}
-use mathlib.Core.Bool.{Bool, true, false, cond}
+use mathlib.Core.Path.{_≡_, sym, _∙_}
+use mathlib.Core.Bool.{true, false}
 use borrow.Author.Needs.{needs}
 use borrow.Author.Tests.{not-true, not-false}
 use Rattle.board.specs.Model.{valid}
 use Rattle.board.specs.ModelOf.{model-of}
-use Rattle.board.proofs.ValidLaws.{Valid, valid-parts}
-use Rattle.planner.specs.Calls.{Writes}
+use Rattle.board.proofs.ValidLaws.{valid-parts}
 use Rattle.planner.proofs.write.write_card.Statement.{statement}
 use Rattle.planner.proofs.write.write_card.Tie as tie
 
