@@ -230,7 +230,7 @@ fn run(count: u32) -> Tally {
 }
 
 fn main() {
-    let t = run(31);
+    let t = run(310);
     report::count(b"damaged boards", t.damaged);
     report::count(b"sound boards", t.sound);
     report::count(b"calls", t.calls);
