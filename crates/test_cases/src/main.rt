@@ -39,9 +39,20 @@ fn shows(p: Problem, kind: u32, total: u32) -> bool {
     verdict::judged(p, s) == 0
 }
 
-// Four vertices with these parents, 255 at the root.
-fn has_parents(p: Problem, one: u32, two: u32, three: u32) -> bool {
-    let s = look_at(p);
+// Sheet Q under a budget, with two arcs pinned and one banned, each by its cell 32 * tail + head; 0, which can be no arc, for none.
+fn marked_q(budget: u32, pinned: u32, also: u32, banned: u32) -> Problem {
+    let p = worked::with_mark(worked::q(budget), pinned / 32, pinned % 32, 1);
+    let q = worked::with_mark(p, also / 32, also % 32, 1);
+    worked::with_mark(q, banned / 32, banned % 32, 2)
+}
+
+fn q_shows(budget: u32, pinned: u32, also: u32, banned: u32, kind: u32, total: u32) -> bool {
+    shows(marked_q(budget, pinned, also, banned), kind, total)
+}
+
+// Whether the plan of sheet Q has these parents, 255 at the root.
+fn q_has_parents(pinned: u32, one: u32, two: u32, three: u32) -> bool {
+    let s = look_at(marked_q(16, pinned, 0, 0));
     let parents = s.parents;
     if access::byte(&parents, 0) != 255 {
         return false;
@@ -55,29 +66,28 @@ fn has_parents(p: Problem, one: u32, two: u32, three: u32) -> bool {
     access::byte(&parents, 3) == three
 }
 
-fn worked_outcomes() {
-    let p5 = worked::with_mark(worked::q(16), 2, 1, 1);
-    let p6 = worked::with_mark(worked::q(16), 0, 1, 2);
-    let p7 = worked::with_mark(p5, 1, 2, 1);
-    say(b"P1, P2", shows(worked::q(16), outcome::PLAN, 15));
-    say(b"P1 tree", has_parents(worked::q(16), 0, 1, 1));
-    say(b"P3", shows(worked::q(15), outcome::PLAN, 15));
-    say(b"P4", shows(worked::q(14), outcome::OVER, 15));
-    say(b"P5", shows(p5, outcome::PLAN, 16));
-    say(b"P5 tree", has_parents(p5, 2, 0, 1));
-    say(b"P6", shows(p6, outcome::PLAN, 16));
-    say(b"P7", shows(p7, outcome::NONE, 0));
+fn two_shows(budget: u32, kind: u32) -> bool {
+    shows(worked::two(budget), kind, 5)
 }
 
-fn other_outcomes() {
-    say(
-        b"P8",
-        shows(worked::without_arcs(1, 0, 0), outcome::PLAN, 0),
-    );
-    say(b"P9", shows(worked::two(5), outcome::PLAN, 5));
-    say(b"P10", shows(worked::two(4), outcome::OVER, 5));
-    say(b"not P1 with 14", !shows(worked::q(16), outcome::PLAN, 14));
-    say(b"not P3 as over", !shows(worked::q(15), outcome::OVER, 15));
+fn one_shows() -> bool {
+    shows(worked::without_arcs(1, 0, 0), outcome::PLAN, 0)
+}
+
+fn worked_outcomes() {
+    say(b"P1, P2", q_shows(16, 0, 0, 0, outcome::PLAN, 15));
+    say(b"P1 tree", q_has_parents(0, 0, 1, 1));
+    say(b"P3", q_shows(15, 0, 0, 0, outcome::PLAN, 15));
+    say(b"P4", q_shows(14, 0, 0, 0, outcome::OVER, 15));
+    say(b"P5", q_shows(16, 65, 0, 0, outcome::PLAN, 16));
+    say(b"P5 tree", q_has_parents(65, 2, 0, 1));
+    say(b"P6", q_shows(16, 0, 0, 1, outcome::PLAN, 16));
+    say(b"P7", q_shows(16, 65, 34, 0, outcome::NONE, 0));
+    say(b"P8", one_shows());
+    say(b"P9", two_shows(5, outcome::PLAN));
+    say(b"P10", two_shows(4, outcome::OVER));
+    say(b"not P1 with 14", !q_shows(16, 0, 0, 0, outcome::PLAN, 14));
+    say(b"not P3 as over", !q_shows(15, 0, 0, 0, outcome::OVER, 15));
 }
 
 // "n = 2, root 0, link banned: none, cut pair (2, 0)".
@@ -153,7 +163,6 @@ fn all_taken_back() -> bool {
 
 fn main() {
     worked_outcomes();
-    other_outcomes();
     say(b"n = 2, link banned", banned_pair());
     say(b"press 200, press 201, room used again", two_hundred());
     say(b"a ban restored", ban_restored());

@@ -10,6 +10,8 @@ use reference::problem::NO_ARC;
 use reference::problem::Problem;
 use reference::worked;
 use reference_card::Card;
+use reference_log::call;
+use reference_log::call::Call;
 
 // The answer to a card.
 fn card_answer(c: Card) -> u32 {
@@ -34,13 +36,26 @@ fn filled() -> u32 {
     card_answer(c)
 }
 
+// The answer to the card of P9 at a length.
+fn two_at_length(length: u32) -> u32 {
+    answer_at_length(worked::two(5), length)
+}
+
 fn lengths() {
-    let two = worked::two(5);
-    crate::say(b"0 card of P9", answer_to(two) == 0);
-    crate::say(b"1 no byte", answer_at_length(two, 0) == 1);
-    crate::say(b"1 four bytes", answer_at_length(two, 4) == 1);
-    crate::say(b"3 too short", answer_at_length(two, 7) == 3);
-    crate::say(b"3 too long", answer_at_length(two, 9) == 3);
+    crate::say(b"0 card of P9", two_at_length(8) == 0);
+    crate::say(b"1 no byte", two_at_length(0) == 1);
+    crate::say(b"1 four bytes", two_at_length(4) == 1);
+    crate::say(b"3 too short", two_at_length(7) == 3);
+    crate::say(b"3 too long", two_at_length(9) == 3);
+}
+
+// The answer to the card of two vertices under a budget.
+fn answer_to_budget(budget: u32) -> u32 {
+    answer_to(worked::two(budget))
+}
+
+fn root_two() -> u32 {
+    answer_at_length(worked::without_arcs(2, 2, 0), 8)
 }
 
 // The answer to a card without arcs, of five bytes.
@@ -49,19 +64,12 @@ fn answer_to_header(n: u32) -> u32 {
 }
 
 fn headers() {
-    let root_two = worked::without_arcs(2, 2, 0);
     crate::say(b"2 no position", answer_to_header(0) == 2);
     crate::say(b"2 33 positions", answer_to_header(33) == 2);
     crate::say(b"2 63 positions", answer_to_header(63) == 2);
-    crate::say(b"4 root 2 of 2", answer_at_length(root_two, 8) == 4);
-    crate::say(
-        b"5 budget 31,000,001",
-        answer_to(worked::two(31000001)) == 5,
-    );
-    crate::say(
-        b"0 budget 31,000,000",
-        answer_to(worked::two(31000000)) == 0,
-    );
+    crate::say(b"4 root 2 of 2", root_two() == 4);
+    crate::say(b"5 budget 31,000,001", answer_to_budget(31000001) == 5);
+    crate::say(b"0 budget 31,000,000", answer_to_budget(31000000) == 0);
 }
 
 // The answer to the card of two vertices with this weight and mark.
@@ -89,43 +97,75 @@ fn refused(before: Board, r: Answered, answer: u32) -> bool {
     boards::identical(before, r.board)
 }
 
-fn marks() {
-    let q = boards::of_problem(worked::q(16));
-    crate::say(b"9 feeder 4 of 4", refused(q, calls::pin(q, 4, 1), 9));
+// Boards that calls are refused on: sheet Q, one with 200 records, and one with its root out of range.
+const SHEET_Q: u32 = 0;
+
+const FULL: u32 = 1;
+
+const DAMAGED: u32 = 2;
+
+fn nth_board(which: u32) -> Board {
+    match which {
+        SHEET_Q => boards::of_problem(worked::q(16)),
+        FULL => crate::with_records(200),
+        _ => boards::of_problem(worked::without_arcs(4, 4, 16)),
+    }
+}
+
+// Whether a call is refused so on a board.
+fn refuses(which: u32, kind: u32, first: u32, second: u32, answer: u32) -> bool {
+    let b = nth_board(which);
+    let c = Call {
+        kind: kind,
+        first: first,
+        second: second,
+    };
+    refused(b, calls::made(b, c), answer)
+}
+
+fn on_sheet_q() {
+    crate::say(b"9 feeder 4 of 4", refuses(SHEET_Q, call::PIN, 4, 1, 9));
     crate::say(
         b"9 fed 4,294,967,295",
-        refused(q, calls::ban(q, 0, 4294967295), 9),
+        refuses(SHEET_Q, call::BAN, 0, 4294967295, 9),
     );
-    crate::say(b"10 no link", refused(q, calls::pin(q, 3, 2), 10));
-    crate::say(b"10 feeder is fed", refused(q, calls::clear(q, 1, 1), 10));
-    crate::say(b"10 fed is root", refused(q, calls::ban(q, 1, 0), 10));
-}
-
-fn budgets() {
-    let q = boards::of_problem(worked::q(16));
+    crate::say(b"10 no link", refuses(SHEET_Q, call::PIN, 3, 2, 10));
+    crate::say(b"10 feeder is fed", refuses(SHEET_Q, call::CLEAR, 1, 1, 10));
+    crate::say(b"10 fed is root", refuses(SHEET_Q, call::BAN, 1, 0, 10));
     crate::say(
         b"11 budget 31,000,001",
-        refused(q, calls::set_budget(q, 31000001), 11),
+        refuses(SHEET_Q, call::BUDGET, 31000001, 0, 11),
     );
-    crate::say(b"13 none recorded", refused(q, calls::take_back(q), 13));
+    crate::say(
+        b"13 none recorded",
+        refuses(SHEET_Q, call::TAKE_BACK, 0, 0, 13),
+    );
 }
 
-fn full_board() {
-    let b = crate::with_records(200);
-    crate::say(
-        b"12 200 recorded, mark",
-        refused(b, calls::pin(b, 0, 1), 12),
-    );
+fn on_full_board() {
+    crate::say(b"12 200 recorded, mark", refuses(FULL, call::PIN, 0, 1, 12));
     crate::say(
         b"12 200 recorded, budget",
-        refused(b, calls::set_budget(b, 5), 12),
+        refuses(FULL, call::BUDGET, 5, 0, 12),
     );
-    crate::say(b"9 before 12", refused(b, calls::pin(b, 2, 1), 9));
-    crate::say(b"10 before 12", refused(b, calls::pin(b, 1, 0), 10));
+    crate::say(b"9 before 12", refuses(FULL, call::PIN, 2, 1, 9));
+    crate::say(b"10 before 12", refuses(FULL, call::PIN, 1, 0, 10));
     crate::say(
         b"11 before 12",
-        refused(b, calls::set_budget(b, 4294967295), 11),
+        refuses(FULL, call::BUDGET, 4294967295, 0, 11),
     );
+}
+
+// 15 comes first, whatever else is wrong.
+fn on_damaged_board() {
+    crate::say(b"15 pin", refuses(DAMAGED, call::PIN, 9, 9, 15));
+    crate::say(b"15 ban", refuses(DAMAGED, call::BAN, 0, 1, 15));
+    crate::say(b"15 clear", refuses(DAMAGED, call::CLEAR, 0, 1, 15));
+    crate::say(
+        b"15 budget",
+        refuses(DAMAGED, call::BUDGET, 31000001, 0, 15),
+    );
+    crate::say(b"15 take-back", refuses(DAMAGED, call::TAKE_BACK, 0, 0, 15));
 }
 
 // A look with these buffers on the board of sheet Q, and whether it is refused with 14 and touches none.
@@ -194,18 +234,8 @@ fn short_buffers() {
     crate::say(b"0 buffers just long enough", long_enough());
 }
 
-// A board with its root out of range: 15 comes first, whatever else is wrong.
-fn damaged_calls() {
-    let b = boards::of_problem(worked::without_arcs(4, 4, 16));
-    crate::say(b"15 pin", refused(b, calls::pin(b, 9, 9), 15));
-    crate::say(b"15 ban", refused(b, calls::ban(b, 0, 1), 15));
-    crate::say(b"15 clear", refused(b, calls::clear(b, 0, 1), 15));
-    crate::say(b"15 budget", refused(b, calls::set_budget(b, 31000001), 15));
-    crate::say(b"15 take-back", refused(b, calls::take_back(b), 15));
-}
-
 fn damaged_look() -> bool {
-    let s = looks::look(boards::of_problem(worked::without_arcs(4, 4, 16)));
+    let s = looks::look(nth_board(DAMAGED));
     if s.kind != looks::REFUSED {
         return false;
     }
@@ -220,7 +250,7 @@ fn damaged_look() -> bool {
 }
 
 fn damaged_write() -> bool {
-    let w = looks::write(boards::of_problem(worked::without_arcs(4, 4, 16)));
+    let w = looks::write(nth_board(DAMAGED));
     let bytes = w.bytes;
     if w.answer != 15 {
         return false;
@@ -232,11 +262,10 @@ pub fn all() {
     lengths();
     headers();
     cells();
-    marks();
-    budgets();
-    full_board();
+    on_sheet_q();
+    on_full_board();
     short_buffers();
-    damaged_calls();
+    on_damaged_board();
     crate::say(b"15 look", damaged_look());
     crate::say(b"15 write", damaged_write());
 }
