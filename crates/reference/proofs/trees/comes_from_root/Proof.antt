@@ -1,0 +1,27 @@
+-- `reference::trees::comes_from_root` is safe and ends.
+use Prim.Native.Nat.{_-_}
+use borrow.Author.Needs.{needs}
+use Rattle.reference.proofs.trees.comes_from_root.Statement.{statement}
+use Rattle.reference.proofs.trees.comes_from_root.Tie as tie
+
+abbrev Inv-loop : tie.InvT-loop
+Inv-loop root vertex parents v₀ step₀ v step = Unit
+
+abbrev μ-loop : tie.MeasureT-loop
+μ-loop root vertex parents v₀ step₀ v step = 8 - step
+
+pub comes-from-root-spec : {M : Type 1} → statement M
+comes-from-root-spec =
+    tie.close
+    (tie.spec
+    Inv-loop
+    μ-loop
+    (λ c. search needs)
+    (λ c. search needs)
+    (λ c. search needs)
+    (λ c. search needs)
+    (λ c. search needs)
+    (λ c. search needs)
+    (λ c. search needs)
+    (λ c. search needs)
+    (λ c. search needs))

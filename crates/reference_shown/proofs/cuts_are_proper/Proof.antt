@@ -1,0 +1,31 @@
+-- `reference_shown::cuts_are_proper` is safe and ends.
+use Prim.Native.Nat.{_-_}
+use borrow.Author.Needs.{needs}
+use Rattle.reference_shown.proofs.cuts_are_proper.Statement.{statement}
+use Rattle.reference_shown.proofs.cuts_are_proper.Tie as tie
+
+abbrev Inv-loop : tie.InvT-loop
+Inv-loop n root cuts count k₀ k = Unit
+
+abbrev μ-loop : tie.MeasureT-loop
+μ-loop n root cuts count k₀ k = 61 - k
+
+pub cuts-are-proper-spec : {M : Type 1} → statement M
+cuts-are-proper-spec =
+    tie.close
+    (tie.spec
+    Inv-loop
+    μ-loop
+    (λ c. search needs)
+    (λ c. search needs)
+    (λ c κs. search needs)
+    (λ c κs. search needs)
+    (λ c. search needs)
+    (λ c. search needs)
+    (λ c. search needs)
+    (λ c κs. search needs)
+    (λ c. search needs)
+    (λ c. search needs)
+    (λ c. search needs)
+    (λ c. search needs)
+    (λ c. search needs))

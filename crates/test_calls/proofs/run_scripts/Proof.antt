@@ -1,0 +1,28 @@
+-- `test_calls::run_scripts` is safe and ends.
+use Prim.Native.Nat.{_-_}
+use borrow.Author.Needs.{needs}
+use Rattle.test_calls.proofs.run_scripts.Statement.{statement}
+use Rattle.test_calls.proofs.run_scripts.Tie as tie
+
+abbrev Inv-loop : tie.InvT-loop
+Inv-loop count t₀ k₀ t k = Unit
+
+abbrev μ-loop : tie.MeasureT-loop
+μ-loop count t₀ k₀ t k = count - k
+
+pub run-scripts-spec : {M : Type 1} → statement M
+run-scripts-spec =
+    tie.close
+    (tie.spec
+    Inv-loop
+    μ-loop
+    (λ c. search needs)
+    (λ c κs. search needs)
+    (λ c κs. search needs)
+    (λ c κs. search needs)
+    (λ c κs. search needs)
+    (λ c κs. search needs)
+    (λ c. search needs)
+    (λ c. search needs)
+    (λ c. search needs)
+    (λ c. search needs))
