@@ -1,5 +1,5 @@
--- What every command does to any board of the model: it is refused and leaves the very board, or it is accepted; it alters nothing
--- but what it names; and undo right after an accepted one restores the whole board. Assumes nothing.
+-- What every command does to any board of the model: it is refused, or it is accepted; it alters nothing but what it names; and undo
+-- right after an accepted one restores the whole board. Assumes nothing.
 use mathlib.Core.Path.{_≡_, refl, _∙_}
 use mathlib.Core.Bool.{Bool, true, false, _&&_, not, cond, true≢false}
 use mathlib.Core.List.{List, [], _∷_}
@@ -101,31 +101,6 @@ module _ (m t h : ℕ) (b : Model) where
       refused-number (not (ltb t (s .n) && ltb h (s .n))) (not (is-arc s t h)) (leb max-records (length (b .history))) b
       (accepted (old-mark t h (mark s t h)) (with-mark m t h s) b) k
 
--- A REFUSAL LEAVES THE VERY BOARD
-abbrev Same-if-refused : Model → Result → Type 0
-Same-if-refused b d = (d .answer ≡ 0 → ⊥) → d .board ≡ b
-
-refused-same : (b : Model) (k : ℕ) → Same-if-refused b (refused (suc k) b)
-unfolding refused
-refused-same b k n = refl
-
-accepted-same : (b : Model) (r : Replaced) (s : Instance) → Same-if-refused b (accepted r s b)
-unfolding accepted
-accepted-same b r s n = absurd (n refl)
-
-undone-same : (b : Model) (rs : List Replaced) → Same-if-refused b (undone rs b)
-unfolding undone refused
-undone-same b [] n = refl
-undone-same b (r ∷ rs) n = absurd (n refl)
-
-pub applied-refused : (c : Command) (b : Model) → (applied c b .answer ≡ 0 → ⊥) → applied c b .board ≡ b
-unfolding applied
-applied-refused (pin t h) b = mark-cases (Same-if-refused b) b (refused-same b) pinned t h (λ _ _. accepted-same b _ _)
-applied-refused (ban t h) b = mark-cases (Same-if-refused b) b (refused-same b) banned t h (λ _ _. accepted-same b _ _)
-applied-refused (clear t h) b = mark-cases (Same-if-refused b) b (refused-same b) free t h (λ _ _. accepted-same b _ _)
-applied-refused (set-budget v) b = budget-cases (Same-if-refused b) b (refused-same b) v (λ _ _. accepted-same b _ _)
-applied-refused undo b = undone-same b (b .history)
-
 -- UNDO RIGHT AFTER AN ACCEPTED COMMAND RESTORES THE WHOLE BOARD
 abbrev Undone-by-undo : Model → Result → Type 0
 Undone-by-undo b d = d .answer ≡ 0 → applied undo (d .board) ≡ record { answer = 0; board = b }
@@ -218,9 +193,6 @@ judged P c b r a = go (valid b)
     go : (v : Bool) → P (cond v (applied c b) (refused 15 b))
     go true = a
     go false = r
-
-pub answered-refused : (c : Command) (b : Model) → (answered c b .answer ≡ 0 → ⊥) → answered c b .board ≡ b
-answered-refused c b = judged (Same-if-refused b) c b (refused-same b 14) (applied-refused c b)
 
 pub answered-changes : (c : Command) (b : Model) → Changes-only-named c b (answered c b .board)
 answered-changes c b =
