@@ -8,7 +8,7 @@ use lib.Dec.{eqb}
 use borrow.Author.Tests.{eq-eqb, ne-eqb, eqb-true, eqb-false}
 use Rattle.base.proofs.Tests.{test}
 use Rattle.card.specs.Card.{card-refusal, instance-in}
-use Rattle.card.specs.Reading.{contents-of, accepted, blank as no-contents}
+use Rattle.card.specs.Reading.{contents-of, accepted, no-contents}
 use Rattle.card.specs.declared.read.Contents.{Contents}
 use Rattle.board.specs.Model.{opened, valid}
 use Rattle.board.specs.Log.{new-log}
