@@ -1,6 +1,6 @@
 -- Laws of tests and sums over every number below a bound. Assumes nothing.
 use mathlib.Core.Path.{_≡_, refl, sym, _∙_, subst}
-use mathlib.Core.Bool.{Bool, true, false, _&&_, _||_, true≢false}
+use mathlib.Core.Bool.{Bool, true, false, _&&_, true≢false}
 use mathlib.Core.Logic.{⊎-elim}
 use Prim.Native.Nat.{ℕ, zero, suc, _+_, _-_, _≤_, _<_}
 use native.Mathlib.Omega.{arith}
@@ -42,21 +42,6 @@ all-intro zero P h = refl
 all-intro (suc k) P h = and-both (P k) (all-below k P) (h k (omega arith)) (all-intro k P (λ i l. h i (omega arith)))
 
 -- ANY
-pub any-none : (P : ℕ → Bool) → any-below 0 P ≡ false
-unfolding any-below
-any-none P = refl
-
-pub any-step : (k : ℕ) (P : ℕ → Bool) → 0 < k → any-below k P ≡ P (k - 1) || any-below (k - 1) P
-unfolding any-below
-any-step zero P h = absurd (omega arith)
-any-step (suc k) P h = let e : suc k - 1 ≡ k = omega arith in rw e
-
-pub any-pass : (k : ℕ) (P : ℕ → Bool) → 0 < k → P (k - 1) ≡ true → any-below k P ≡ true
-any-pass k P h e = any-step k P h ∙ rw e
-
-pub any-fail : (k : ℕ) (P : ℕ → Bool) → 0 < k → P (k - 1) ≡ false → any-below k P ≡ any-below (k - 1) P
-any-fail k P h e = any-step k P h ∙ rw e
-
 pub any-intro : (k : ℕ) (P : ℕ → Bool) (i : ℕ) → i < k → P i ≡ true → any-below k P ≡ true
 unfolding any-below
 any-intro zero P i h e = absurd (omega arith)

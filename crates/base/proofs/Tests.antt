@@ -39,16 +39,9 @@ and-right false b e = absurd (true≢false (sym e))
 pub and-both : (a b : Bool) → a ≡ true → b ≡ true → a && b ≡ true
 and-both a b p q = rw (p, q)
 
-pub and-false-left : (a b : Bool) → a ≡ false → a && b ≡ false
-and-false-left a b p = rw p
-
 pub and-false-right : (a b : Bool) → b ≡ false → a && b ≡ false
 and-false-right true b p = p
 and-false-right false b p = refl
-
--- the first part holds, so the second fails
-pub and-second-false : (a b : Bool) → a && b ≡ false → a ≡ true → b ≡ false
-and-second-false a b e p = rw p at e
 
 pub and-not : (a b : Bool) → (a ≡ true → b ≡ true → ⊥) → a && b ≡ false
 and-not true true h = absurd (h refl refl)

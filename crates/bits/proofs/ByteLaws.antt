@@ -8,12 +8,12 @@ use native.Mathlib.Nat.{mod-eq-of-lt, zero-mul}
 use lib.Dec.{ltb}
 use lib.ListN.{length, take, drop, length-append, length-drop, take-append-drop}
 use lib.Seq.{take-at, drop-at, length-take-le}
-use borrow.Author.Tests.{ltb-true, lt-ltb}
+use borrow.Author.Tests.{ltb-true}
 use Rattle.base.specs.Lists.{all-of}
-use Rattle.base.proofs.Tests.{and-left, and-right, and-both}
+use Rattle.base.proofs.Tests.{and-left, and-right}
 use Rattle.bits.specs.Bits.{bits-of, bits-in, number-from, packed, are-bits, are-bytes}
 use Rattle.base.proofs.AllOfLaws.{all-of-append, all-of-take, all-of-drop}
-use Rattle.bits.proofs.NumberLaws.{length-bits-of, bits-of-are-bits, number-bits-of, number-below, bits-of-number}
+use Rattle.bits.proofs.NumberLaws.{length-bits-of, bits-of-are-bits, number-bits-of, bits-of-number}
 
 pub length-bits-in : (ws : List ℕ) → length (bits-in ws) ≡ 8 * length ws
 unfolding bits-in
@@ -62,14 +62,3 @@ bits-in-packed (suc k) bs l e =
     let d : length (drop 8 bs) ≡ 8 * k = length-drop 8 bs ∙ omega arith in
     rw (bits-in-packed k (drop 8 bs) d (all-of-drop (λ b. ltb b 2) 8 bs e))
     (ap (λ (x : List ℕ). x ++ drop 8 bs) (rw t at (bits-of-number 0 (take 8 bs) (all-of-take (λ b. ltb b 2) 8 bs e))) ∙ take-append-drop 8 bs)
-
--- bits make bytes
-pub packed-are-bytes : (k : ℕ) (bs : List ℕ) → length bs ≡ 8 * k → are-bits bs ≡ true → are-bytes (packed k bs) ≡ true
-unfolding packed all-of
-packed-are-bytes zero bs l e = refl
-packed-are-bytes (suc k) bs l e =
-    let t : length (take 8 bs) ≡ 8 = length-take-le 8 bs (omega arith) in
-    let b : number-from 0 (take 8 bs) < 2 ^ 8 = rw t at (number-below (take 8 bs) (all-of-take (λ b. ltb b 2) 8 bs e)) in
-    let d : length (drop 8 bs) ≡ 8 * k = length-drop 8 bs ∙ omega arith in
-    and-both (ltb (number-from 0 (take 8 bs)) 256) (are-bytes (packed k (drop 8 bs))) (lt-ltb (number-from 0 (take 8 bs)) 256 b)
-    (packed-are-bytes k (drop 8 bs) d (all-of-drop (λ b. ltb b 2) 8 bs e))

@@ -77,10 +77,6 @@ arc-in-range s t h l a e =
 abbrev pub arcs-of : Instance → Instance
 arcs-of s = unmarked (s .n) (s .root) (s .weights)
 
-pub is-arc-of : (s : Instance) (t h : ℕ) → is-arc (arcs-of s) t h ≡ is-arc s t h
-unfolding is-arc weight unmarked
-is-arc-of s t h = refl
-
 pub record-ok-of : (s : Instance) (r : Replaced) → record-ok (arcs-of s) r ≡ record-ok s r
 unfolding record-ok is-arc weight unmarked
 record-ok-of s (old-mark t h m) = refl

@@ -7,7 +7,7 @@ use Rattle.board.specs.Changes.{is-undo, Changes-only-named}
 use Rattle.board.specs.declared.Board.{Board}
 use Rattle.board.specs.declared.Answered.{Answered}
 use Rattle.board.specs.ModelOf.{model-of, result-of, board-with, blank, Answers}
-use Rattle.board.proofs.CommandLaws.{answered-changes}
+use Rattle.board.proofs.ChangeLaws.{answered-changes}
 use Rattle.board.proofs.ValidLaws.{answered-valid, answered-undo-restores, bad-header}
 
 -- the blank board is refused by every call: 15

@@ -1,21 +1,20 @@
--- What every command does to any board of the model: it is refused and leaves the very board, or it is accepted; it alters nothing
--- but what it names; and undo right after an accepted one restores the whole board. Assumes nothing.
+-- What every command does to any board of the model: it is refused, or it is accepted; and undo right after an accepted one restores
+-- the whole board. Assumes nothing.
 use mathlib.Core.Path.{_≡_, refl, _∙_}
 use mathlib.Core.Bool.{Bool, true, false, _&&_, not, cond, true≢false}
-use mathlib.Core.List.{List, [], _∷_}
 use Prim.Native.Nat.{ℕ, suc, _<_, _≤_}
 use native.Mathlib.Omega.{arith}
-use lib.Dec.{ltb, leb, eqb}
-use lib.ListN.{length, set, length-set}
-use lib.Seq.{getD-set-other, set-set, set-getD}
-use borrow.Author.Tests.{lt-leb, ltb-false, leb-false, eqb-false, not-false}
+use lib.Dec.{ltb, leb}
+use lib.ListN.{length, set}
+use lib.Seq.{set-set, set-getD}
+use borrow.Author.Tests.{lt-leb, ltb-false, leb-false, not-false}
 use Rattle.base.proofs.Tests.{passed}
 use Rattle.instance.specs.Limits.{max-budget, free, pinned, banned, max-records}
 use Rattle.instance.specs.Instance.{Instance, cell, mark-at, weight, mark, is-arc}
 use Rattle.instance.specs.Matrix.{unmarked}
-use Rattle.board.specs.Model.{Command, pin, ban, clear, set-budget, undo, Replaced, old-mark, old-budget, Model, Result, with-mark, with-budget, restored, refused, accepted, marked, budgeted, undone, applied, valid, answered}
+use Rattle.board.specs.Model.{Command, pin, ban, clear, set-budget, undo, old-mark, old-budget, Model, Result, with-mark, with-budget, restored, refused, accepted, marked, budgeted, undone, applied}
 use Rattle.board.specs.ModelOf.{mark-refusal}
-use Rattle.board.specs.Changes.{is-undo, restores-cell, restores-budget, names-cell, names-budget, Differs-only, Changes-only-named}
+use Rattle.board.specs.Changes.{is-undo}
 use Rattle.board.proofs.ArcLaws.{arcs-of}
 
 -- REFUSED OR ACCEPTED: whatever holds of each refusal and of what is accepted holds of the result
@@ -101,31 +100,6 @@ module _ (m t h : ℕ) (b : Model) where
       refused-number (not (ltb t (s .n) && ltb h (s .n))) (not (is-arc s t h)) (leb max-records (length (b .history))) b
       (accepted (old-mark t h (mark s t h)) (with-mark m t h s) b) k
 
--- A REFUSAL LEAVES THE VERY BOARD
-abbrev Same-if-refused : Model → Result → Type 0
-Same-if-refused b d = (d .answer ≡ 0 → ⊥) → d .board ≡ b
-
-refused-same : (b : Model) (k : ℕ) → Same-if-refused b (refused (suc k) b)
-unfolding refused
-refused-same b k n = refl
-
-accepted-same : (b : Model) (r : Replaced) (s : Instance) → Same-if-refused b (accepted r s b)
-unfolding accepted
-accepted-same b r s n = absurd (n refl)
-
-undone-same : (b : Model) (rs : List Replaced) → Same-if-refused b (undone rs b)
-unfolding undone refused
-undone-same b [] n = refl
-undone-same b (r ∷ rs) n = absurd (n refl)
-
-pub applied-refused : (c : Command) (b : Model) → (applied c b .answer ≡ 0 → ⊥) → applied c b .board ≡ b
-unfolding applied
-applied-refused (pin t h) b = mark-cases (Same-if-refused b) b (refused-same b) pinned t h (λ _ _. accepted-same b _ _)
-applied-refused (ban t h) b = mark-cases (Same-if-refused b) b (refused-same b) banned t h (λ _ _. accepted-same b _ _)
-applied-refused (clear t h) b = mark-cases (Same-if-refused b) b (refused-same b) free t h (λ _ _. accepted-same b _ _)
-applied-refused (set-budget v) b = budget-cases (Same-if-refused b) b (refused-same b) v (λ _ _. accepted-same b _ _)
-applied-refused undo b = undone-same b (b .history)
-
 -- UNDO RIGHT AFTER AN ACCEPTED COMMAND RESTORES THE WHOLE BOARD
 abbrev Undone-by-undo : Model → Result → Type 0
 Undone-by-undo b d = d .answer ≡ 0 → applied undo (d .board) ≡ record { answer = 0; board = b }
@@ -158,71 +132,3 @@ undo-restores (ban t h) b n = mark-cases (Undone-by-undo b) b (refused-undone b)
 undo-restores (clear t h) b n = mark-cases (Undone-by-undo b) b (refused-undone b) free t h (λ _ _. mark-undone b free t h)
 undo-restores (set-budget v) b n = budget-cases (Undone-by-undo b) b (refused-undone b) v (λ _ _. budget-undone b v)
 undo-restores undo b n = absurd (true≢false n)
-
--- NOTHING CHANGES BUT WHAT IS NAMED
-same-differs : (q : ℕ → Bool) (w : Bool) (s : Instance) → Differs-only q w s s
-same-differs q w s = record { n = refl; root = refl; weights = refl; marks-length = refl; marks = λ i _. refl; budget = λ _. refl }
-
-mark-differs : (s : Instance) (m t h : ℕ) → Differs-only (λ i. eqb i (cell t h)) false s (with-mark m t h s)
-unfolding with-mark
-mark-differs s m t h =
-    record {
-      n = refl;
-      root = refl;
-      weights = refl;
-      marks-length = length-set (s .marks) (cell t h) m;
-      marks = λ i e. getD-set-other (s .marks) (cell t h) i m free (eqb-false i (cell t h) e);
-      budget = λ _. refl;
-    }
-
-budget-differs : (s : Instance) (v : ℕ) → Differs-only (λ i. false) true s (with-budget v s)
-unfolding with-budget
-budget-differs s v =
-    record { n = refl; root = refl; weights = refl; marks-length = refl; marks = λ i _. refl; budget = λ e. absurd (true≢false e) }
-
-refused-differs : (q : ℕ → Bool) (w : Bool) (b : Model) (k : ℕ) → Differs-only q w (b .instance) (refused (suc k) b .board .instance)
-unfolding refused
-refused-differs q w b k = same-differs q w (b .instance)
-
-marked-differs : (m t h : ℕ) (b : Model) → Differs-only (λ i. eqb i (cell t h)) false (b .instance) (marked m t h b .board .instance)
-unfolding accepted
-marked-differs m t h b =
-    mark-cases (λ d. Differs-only (λ i. eqb i (cell t h)) false (b .instance) (d .board .instance)) b
-    (refused-differs (λ i. eqb i (cell t h)) false b) m t h (λ _ _. mark-differs (b .instance) m t h)
-
-budgeted-differs : (v : ℕ) (b : Model) → Differs-only (λ i. false) true (b .instance) (budgeted v b .board .instance)
-unfolding accepted
-budgeted-differs v b =
-    budget-cases (λ d. Differs-only (λ i. false) true (b .instance) (d .board .instance)) b (refused-differs (λ i. false) true b) v
-    (λ _ _. budget-differs (b .instance) v)
-
-undone-differs : (rs : List Replaced) (b : Model) → Differs-only (names-cell undo rs) (names-budget undo rs) (b .instance) (undone rs b .board .instance)
-unfolding undone refused restored names-cell names-budget restores-cell restores-budget
-undone-differs [] b = same-differs (λ i. false) false (b .instance)
-undone-differs (old-mark t h m ∷ rs) b = mark-differs (b .instance) m t h
-undone-differs (old-budget v ∷ rs) b = budget-differs (b .instance) v
-
-pub applied-changes : (c : Command) (b : Model) → Changes-only-named c b (applied c b .board)
-unfolding applied names-cell names-budget
-applied-changes (pin t h) b = marked-differs pinned t h b
-applied-changes (ban t h) b = marked-differs banned t h b
-applied-changes (clear t h) b = marked-differs free t h b
-applied-changes (set-budget v) b = budgeted-differs v b
-applied-changes undo b = undone-differs (b .history) b
-
--- THE SAME UNDER answered: an invalid board is refused as it is
-pub judged : (P : Result → Type 0) (c : Command) (b : Model) → P (refused 15 b) → P (applied c b) → P (answered c b)
-unfolding answered
-judged P c b r a = go (valid b)
-  where
-    go : (v : Bool) → P (cond v (applied c b) (refused 15 b))
-    go true = a
-    go false = r
-
-pub answered-refused : (c : Command) (b : Model) → (answered c b .answer ≡ 0 → ⊥) → answered c b .board ≡ b
-answered-refused c b = judged (Same-if-refused b) c b (refused-same b 14) (applied-refused c b)
-
-pub answered-changes : (c : Command) (b : Model) → Changes-only-named c b (answered c b .board)
-answered-changes c b =
-    judged (λ d. Changes-only-named c b (d .board)) c b
-    (refused-differs (names-cell c (b .history)) (names-budget c (b .history)) b 14) (applied-changes c b)

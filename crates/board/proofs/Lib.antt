@@ -2,6 +2,7 @@
 pub mod ArcLaws
 pub mod CommandLaws
 pub mod ValidLaws
+pub mod ChangeLaws
 pub mod LogLaws
 pub mod BoardLaws
 pub mod CallLaws

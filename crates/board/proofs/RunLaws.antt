@@ -1,15 +1,15 @@
--- ONE CLAIM ABOUT EVERY LIST OF COMMANDS on the program's own boards (document 01, demand 3, without looks and writes): the answers
--- are the log's, and the last board holds the effective instance. `Learnt` is what a caller learns of a call from the function's own
--- contract, so that the claim is about these functions and no others. Assumes nothing.
-use mathlib.Core.Path.{_≡_, refl, sym, ap, _∙_, subst}
+-- ONE CALL on the program's own boards, for a claim about every list of calls (document 01, demand 3): its answer is the log's, and its
+-- board holds the effective instance. `Learnt` is what a caller learns of a call from the function's own contract, so that the claim is
+-- about these functions and no others. Assumes nothing.
+use mathlib.Core.Path.{_≡_, sym, ap, _∙_, subst}
 use mathlib.Core.Bool.{true}
-use mathlib.Core.List.{List, [], _∷_}
+use mathlib.Core.List.{List}
 use Prim.Native.Nat.{ℕ}
 use lib.ListN.{length}
 use Rattle.instance.specs.Limits.{cells}
 use Rattle.instance.specs.Valid.{valid-instance}
 use Rattle.instance.specs.declared.Vertex.{Vertex}
-use Rattle.board.specs.Model.{Command, pin, ban, clear, set-budget, undo, Model, Result, opened, applied, valid, answered, answers, board-after}
+use Rattle.board.specs.Model.{Command, pin, ban, clear, set-budget, undo, Model, Result, opened, applied, valid, answered}
 use Rattle.board.specs.Log.{Log, new-log, note}
 use Rattle.board.specs.declared.Board.{Board}
 use Rattle.board.specs.declared.Answered.{Answered}
@@ -17,19 +17,14 @@ use Rattle.board.specs.declared.Command as declared-command
 use Rattle.instance.specs.Instance.{instance-with}
 use Rattle.board.specs.ModelOf.{model-of, result-of, command-of, Answers, New-board}
 use Rattle.board.proofs.ValidLaws.{valid-parts, opened-valid, answered-applied}
-use Rattle.board.proofs.LogLaws.{Tied, step-tied, opened-tied, Follows-log, valid-lists-follow}
-use Rattle.board.proofs.CallLaws.{call-board, call-answer, call-valid}
+use Rattle.board.proofs.LogLaws.{Tied, step-tied, opened-tied}
+use Rattle.board.proofs.CallLaws.{call-valid}
 use Rattle.board.proofs.commands.pin.Reads as pin-reads
 use Rattle.board.proofs.commands.ban.Reads as ban-reads
 use Rattle.board.proofs.commands.clear.Reads as clear-reads
 use Rattle.board.proofs.commands.set_budget.Reads as set-budget-reads
 use Rattle.board.proofs.commands.take_back.Reads as take-back-reads
 use Rattle.board.proofs.commands.execute.Reads as execute-reads
-use Rattle.board.proofs.create.new_board.Reads as new-board-reads
-
--- the function `new_board` made the board b
-abbrev pub Created : (n root budget : ℕ) → (weights marks : List ℕ) → Board → Type 0
-Created n r v ws ms b = new-board-reads.Learnt tt (n, (r, (v, (ws, (ms, tt))))) b (n, (r, (v, (ws, (ms, tt)))))
 
 -- a public call made the command c on the board b, and gave r
 pub data Called : Command → Board → Answered → Type 0 where
@@ -49,40 +44,7 @@ called-answers (by-set-budget l) = l
 called-answers (by-take-back l) = l
 called-answers (by-execute c l) = l
 
--- a run of calls: each gets the board that the one before left, refused or not
-pub data Run : List Command → Board → (answers : List ℕ) → (last : Board) → Type 0 where
-  no-call : {b : Board} → Run [] b [] b
-  then-call :
-      {c : Command} {cs : List Command} {b : Board} {r : Answered} {xs : List ℕ} {e : Board} → Called c b r → Run cs (r .board) xs e →
-      Run (c ∷ cs) b (r .answer ∷ xs) e
-
--- ANY BOARD, valid or not: a run is the model's
-pub record Follows-model (cs : List Command) (b : Board) (xs : List ℕ) (e : Board) : Type 0 where
-  pub same-answers : xs ≡ answers answered cs (model-of b)
-  pub same-board : model-of e ≡ board-after answered cs (model-of b)
-
-pub run-model : {cs : List Command} {b : Board} {xs : List ℕ} {e : Board} → Run cs b xs e → Follows-model cs b xs e
-unfolding answers board-after
-run-model no-call = record { same-answers = refl; same-board = refl }
-run-model (then-call {c = c} {cs = cs} {b = b} {r = r} {xs = xs} {e = e} l rest) =
-    let f = run-model rest in
-    let a = called-answers l in
-    let q : model-of (r .board) ≡ answered c (model-of b) .board = call-board c b r a in
-    record {
-      same-answers = λ j. call-answer c b r a j ∷ (f .same-answers ∙ ap (answers answered cs) q) j;
-      same-board = f .same-board ∙ ap (board-after answered cs) q;
-    }
-
--- ANY VALID INSTANCE: the answers are the log's, and the last board holds the effective instance
-pub runs-follow :
-    (n root budget : ℕ) (ws ms : List ℕ) (b : Board) (cs : List Command) (xs : List ℕ) (e : Board) → Created n root budget ws ms b →
-    valid-instance (instance-with n root budget ws ms) ≡ true → length ms ≡ cells → Run cs b xs e →
-    Follows-log cs (new-log (instance-with n root budget ws ms)) xs (model-of e)
-runs-follow n root budget ws ms b cs xs e o v l r =
-    let f = run-model r in
-    rw (f .same-answers, f .same-board, o .model) (valid-lists-follow (instance-with n root budget ws ms) cs v l)
-
--- ONE CALL, for callers that do other things between commands: a board that follows a log goes on following it
+-- a board that follows a log goes on following it
 pub record Follows (b : Board) (k : Log) : Type 0 where
   pub is-valid : valid (model-of b) ≡ true
   pub tied : Tied (model-of b) k

@@ -1,12 +1,12 @@
 -- What a command may alter: "No press or take-back alters the positions, the root, a price, or any mark that neither it nor the
 -- record taken back names." Assumes nothing: these are definitions.
 use mathlib.Core.Path.{_≡_}
-use mathlib.Core.Bool.{Bool, true, false}
+use mathlib.Core.Bool.{Bool, true, false, _&&_}
 use mathlib.Core.List.{List, [], _∷_}
-use Prim.Native.Nat.{ℕ}
+use Prim.Native.Nat.{ℕ, _/_, _%_}
 use lib.Dec.{eqb}
 use lib.ListN.{length}
-use Rattle.instance.specs.Instance.{Instance, cell, mark-at}
+use Rattle.instance.specs.Instance.{Instance, mark-at}
 use Rattle.board.specs.Model.{Command, pin, ban, clear, set-budget, undo, Replaced, old-mark, old-budget, Model}
 
 unfoldable pub is-undo : Command → Bool
@@ -16,9 +16,13 @@ is-undo (clear t h) = false
 is-undo (set-budget v) = false
 is-undo undo = true
 
+-- The cell i is that of tail t and head h: judged by both, for the index of a head of 32 or more is also that of another arc.
+unfoldable pub is-cell : (t h i : ℕ) → Bool
+is-cell t h i = eqb (i / 32) t && eqb (i % 32) h
+
 -- the cell i is the one whose mark a record restores
 unfoldable pub restores-cell : Replaced → (i : ℕ) → Bool
-restores-cell (old-mark t h m) i = eqb i (cell t h)
+restores-cell (old-mark t h m) i = is-cell t h i
 restores-cell (old-budget v) i = false
 
 unfoldable pub restores-budget : Replaced → Bool
@@ -27,9 +31,9 @@ restores-budget (old-budget v) = true
 
 -- the cell i is named by a command, or by the record that it takes back
 unfoldable pub names-cell : Command → (history : List Replaced) → (i : ℕ) → Bool
-names-cell (pin t h) rs i = eqb i (cell t h)
-names-cell (ban t h) rs i = eqb i (cell t h)
-names-cell (clear t h) rs i = eqb i (cell t h)
+names-cell (pin t h) rs i = is-cell t h i
+names-cell (ban t h) rs i = is-cell t h i
+names-cell (clear t h) rs i = is-cell t h i
 names-cell (set-budget v) rs i = false
 names-cell undo [] i = false
 names-cell undo (r ∷ rs) i = restores-cell r i

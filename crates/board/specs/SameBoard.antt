@@ -1,6 +1,5 @@
 -- When two boards are called equal. Assumes nothing: these are definitions.
 use mathlib.Core.Path.{_≡_}
-use Prim.Native.Nat.{ℕ}
 use lib.ListN.{length}
 use Rattle.instance.specs.Same.{Same-instance}
 use Rattle.board.specs.Model.{Model, Result}

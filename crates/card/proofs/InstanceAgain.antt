@@ -15,9 +15,9 @@ use Rattle.base.specs.Lists.{tabulate}
 use Rattle.base.proofs.Tests.{and-left, and-right, test}
 use Rattle.base.proofs.BoundedLaws.{all-at}
 use Rattle.base.proofs.ListLaws.{getD-tabulate}
-use Rattle.bits.specs.Bits.{bits-of, bits-in, are-bits, are-bytes}
+use Rattle.bits.specs.Bits.{bits-of, bits-in, are-bits}
 use Rattle.bits.proofs.NumberLaws.{length-bits-of}
-use Rattle.bits.proofs.ByteLaws.{bits-in-packed, length-packed, packed-are-bytes}
+use Rattle.bits.proofs.ByteLaws.{bits-in-packed, length-packed}
 use Rattle.bits.proofs.FieldLaws.{field-read}
 use Rattle.instance.specs.Limits.{max-weight, max-budget, no-arc, free, banned}
 use Rattle.instance.specs.Instance.{Instance, cell, weight-at, mark-at, weight, mark, can-be-arc}
@@ -228,10 +228,3 @@ written-opens s e = opens-again s (valid-known s e)
 
 pub instance-round-trip : (s : Instance) → valid-instance s ≡ true → Same-instance (instance-in (card-of s)) s
 instance-round-trip s e = same-again s (valid-known s e)
-
--- and the card is a list of bytes
-pub written-bytes : (s : Instance) → valid-instance s ≡ true → are-bytes (card-of s) ≡ true
-unfolding card-of
-written-bytes s e =
-    let k = valid-known s e in
-    packed-are-bytes (bytes-needed (s .n)) (instance-bits s ++ fill s k) (bits-long s k) (bits-are-bits s k)

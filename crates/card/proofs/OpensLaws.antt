@@ -70,10 +70,6 @@ opens ws e =
     }
 
 module _ (ws : List ℕ) where
-  pub weights-long : length (instance-in ws .weights) ≡ 1024
-  unfolding instance-in
-  weights-long = length-fields 0 20 no-arc (n-of ws) (root-of ws) (bits-in ws)
-
   pub marks-long : length (instance-in ws .marks) ≡ 1024
   unfolding instance-in
   marks-long = length-fields 20 2 free (n-of ws) (root-of ws) (bits-in ws)

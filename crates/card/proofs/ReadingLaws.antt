@@ -16,7 +16,7 @@ use Rattle.bits.proofs.FieldLaws.{field-rest-zero}
 use Rattle.instance.specs.Limits.{max-vertices, max-budget}
 use Rattle.card.specs.Card.{n-in, root-in, budget-in, bits-needed, bytes-needed, instance-in, cells-refusal, card-refusal}
 use Rattle.card.specs.Offsets.{offset}
-use Rattle.card.specs.Reading.{no-header, header-of, weights-in, marks-in, Cells-read, blank, contents-of}
+use Rattle.card.specs.Reading.{no-header, header-of, weights-in, marks-in, Cells-read, no-contents, contents-of}
 use Rattle.card.specs.declared.cells.Cells.{Cells}
 use Rattle.card.specs.declared.read.Header.{Header}
 use Rattle.card.specs.declared.read.Contents.{Contents}
@@ -116,12 +116,12 @@ refusal-by-steps ws =
     steps (ltb (length ws) 5) (eqb n 0 || ltb max-vertices n) (not (eqb (length ws) (bytes-needed n))) (leb n (root-in bs))
     (ltb max-budget (budget-in bs)) n (root-in bs) (budget-in bs) (rest-refusal ws)
 
-refused : (ws : List ℕ) (k : ℕ) → k ≡ card-refusal ws → (k ≡ 0 → ⊥) → blank k ≡ contents-of ws
+refused : (ws : List ℕ) (k : ℕ) → k ≡ card-refusal ws → (k ≡ 0 → ⊥) → no-contents k ≡ contents-of ws
 unfolding contents-of
 refused ws k e z = simp (← e, ne-eqb k 0 z)
 
 module _ (ws : List ℕ) (h : Header) (q : h ≡ header-of ws) where
-  pub header-refused : (h .refusal ≡ 0 → ⊥) → blank (h .refusal) ≡ contents-of ws
+  pub header-refused : (h .refusal ≡ 0 → ⊥) → no-contents (h .refusal) ≡ contents-of ws
   header-refused z = refused ws (h .refusal) (sym (refusal-by-steps ws ∙ simp (← q, ne-eqb (h .refusal) 0 z))) z
 
   module _ (z : h .refusal ≡ 0) where
@@ -132,7 +132,7 @@ module _ (ws : List ℕ) (h : Header) (q : h ≡ header-of ws) where
       its-judged : cells-refusal (weights-in (n-in (bits-in ws)) (root-in (bits-in ws)) (bits-in ws)) (marks-in (n-in (bits-in ws)) (root-in (bits-in ws)) (bits-in ws)) ≡ c .refusal
       its-judged = let u = header-known ws h q z in sym (k .judged ∙ rw (u .its-n, u .its-root))
 
-      pub cells-refused : (c .refusal ≡ 0 → ⊥) → blank (c .refusal) ≡ contents-of ws
+      pub cells-refused : (c .refusal ≡ 0 → ⊥) → no-contents (c .refusal) ≡ contents-of ws
       cells-refused y = refused ws (c .refusal) (sym (after-header ∙ simp (its-judged, ne-eqb (c .refusal) 0 y))) y
 
       module _ (y : c .refusal ≡ 0) (v : ℕ) (f : v ≡ field (c .end) (8 * length ws - c .end) (bits-in ws)) where
@@ -147,7 +147,7 @@ module _ (ws : List ℕ) (h : Header) (q : h ≡ header-of ws) where
         by-filling : card-refusal ws ≡ cond (eqb v 0) 0 8
         by-filling = after-header ∙ simp (its-judged, eq-eqb (c .refusal) 0 y, ← filling)
 
-        pub filling-refused : (v ≡ 0 → ⊥) → blank 8 ≡ contents-of ws
+        pub filling-refused : (v ≡ 0 → ⊥) → no-contents 8 ≡ contents-of ws
         filling-refused x = refused ws 8 (sym (by-filling ∙ simp (ne-eqb v 0 x))) (λ p. omega arith)
 
         pub all-read : v ≡ 0 →

@@ -15,10 +15,10 @@ use Rattle.bits.specs.declared.BitWriter.{BitWriter}
 use Rattle.bits.proofs.NumberLaws.{length-bits-of}
 use Rattle.bits.proofs.WriterLaws.{fresh, put-then, bytes-put}
 use Rattle.instance.specs.Limits.{no-arc}
-use Rattle.instance.specs.Instance.{Instance, weight-at, mark-at}
+use Rattle.instance.specs.Instance.{Instance, instance-with, weight-at, mark-at}
 use Rattle.card.specs.Card.{on-card, bits-needed, bytes-needed, cell-bits, instance-bits, card-of}
 use Rattle.card.specs.Offsets.{offset}
-use Rattle.card.specs.Writing.{instance-of, header-bits, one-cell, written, buffer-after, Card-written}
+use Rattle.card.specs.Writing.{header-bits, one-cell, written, buffer-after, Card-written}
 use Rattle.card.proofs.OffsetLaws.{offset-start, offset-end}
 use Rattle.card.proofs.ReadingLaws.{length-known}
 
@@ -35,15 +35,15 @@ cell-bits-none i s = refl
 
 -- the next cell of a loop that goes upwards over full arrays
 pub next-cell : (n r b : ℕ) (ws ms : List ℕ) (i : ℕ) → i < 1024 → length ws ≡ 1024 → length ms ≡ 1024 →
-    let s = instance-of n r b ws ms in
+    let s = instance-with n r b ws ms in
     cell-bits (1024 - i) i s ≡ one-cell n r i (getD ws i 0) (getD ms i 0) ++ cell-bits (1024 - (i + 1)) (i + 1) s
 next-cell n r b ws ms i h lw lm =
     let e : 1024 - i - 1 ≡ 1024 - (i + 1) = omega arith in
     let w : getD ws i 0 ≡ getD ws i no-arc = default ws i 0 no-arc (omega arith) in
-    rw (w, ← e) (cell-bits-step (1024 - i) i (instance-of n r b ws ms) (omega arith))
+    rw (w, ← e) (cell-bits-step (1024 - i) i (instance-with n r b ws ms) (omega arith))
 
 -- the budget is not among them
-pub cell-bits-budget : (k i n r b c : ℕ) (ws ms : List ℕ) → cell-bits k i (instance-of n r b ws ms) ≡ cell-bits k i (instance-of n r c ws ms)
+pub cell-bits-budget : (k i n r b c : ℕ) (ws ms : List ℕ) → cell-bits k i (instance-with n r b ws ms) ≡ cell-bits k i (instance-with n r c ws ms)
 unfolding cell-bits
 cell-bits-budget zero i n r b c ws ms = refl
 cell-bits-budget (suc k) i n r b c ws ms = rw (cell-bits-budget k (suc i) n r b c ws ms)
@@ -91,34 +91,34 @@ module _ (n r b : ℕ) (vs ms : List ℕ) (few : n ≤ 32) (inside : r < n) (out
   header-room = let w = length-known n few in omega arith
 
   module _ (ys : List ℕ) (q : BitWriter) (u : Put out fresh (header-bits n r b) ys q) where
-    pub cells-room : Ready ys q (length (cell-bits 1024 0 (instance-of n r 0 vs ms)))
+    pub cells-room : Ready ys q (length (cell-bits 1024 0 (instance-with n r 0 vs ms)))
     cells-room =
         let w = length-known n few in
-        let l = length-cells (instance-of n r 0 vs ms) few inside in
+        let l = length-cells (instance-with n r 0 vs ms) few inside in
         let k : length (header-bits n r b) ≡ 36 = simp (length-append, length-bits-of) in
         record { few = u .few; room = omega (arith, w, l, k, u .moved, u .long) }
 
-    module _ (zs : List ℕ) (p : BitWriter) (v : Put ys q (cell-bits 1024 0 (instance-of n r 0 vs ms)) zs p) where
-      bits-so-far : Put out fresh (instance-bits (instance-of n r b vs ms)) zs p
+    module _ (zs : List ℕ) (p : BitWriter) (v : Put ys q (cell-bits 1024 0 (instance-with n r 0 vs ms)) zs p) where
+      bits-so-far : Put out fresh (instance-bits (instance-with n r b vs ms)) zs p
       bits-so-far =
-          rw (← header-then-cells (instance-of n r b vs ms) few inside, cell-bits-budget 1024 0 n r b 0 vs ms)
-          (put-then out ys zs fresh q p (header-bits n r b) (cell-bits 1024 0 (instance-of n r 0 vs ms)) u v)
+          rw (← header-then-cells (instance-with n r b vs ms) few inside, cell-bits-budget 1024 0 n r b 0 vs ms)
+          (put-then out ys zs fresh q p (header-bits n r b) (cell-bits 1024 0 (instance-with n r 0 vs ms)) u v)
 
       filled : 8 * p .at + p .count + filling (p .count) ≡ 8 * bytes-needed n
       filled =
           let w = length-known n few in
           let f = bits-so-far in
-          let l = length-instance-bits (instance-of n r b vs ms) few inside in
+          let l = length-instance-bits (instance-with n r b vs ms) few inside in
           omega (arith, w, l, f .moved, f .few)
 
       pub filling-room : Ready zs p (filling (p .count))
       filling-room = let f = bits-so-far in record { few = f .few; room = omega (arith, filled, f .long) }
 
       pub all-written : (xs : List ℕ) (o : BitWriter) → Put zs p (replicate (filling (p .count)) 0) xs o → are-bytes xs ≡ true →
-          Card-written (instance-of n r b vs ms) out xs (record { number = 0; length = bytes-needed n })
+          Card-written (instance-with n r b vs ms) out xs (record { number = 0; length = bytes-needed n })
       unfolding written buffer-after card-of
       all-written xs o x e =
-          let s = instance-of n r b vs ms in
+          let s = instance-with n r b vs ms in
           let t = le-ltb (length out) (bytes-needed n) long in
           let l = length-instance-bits s few inside in
           let f = bits-so-far in

@@ -51,12 +51,12 @@ pub record Cells-read (bits : List ℕ) (n root : ℕ) (r : Cells) : Type 0 wher
 
 -- THE WHOLE
 -- "no board": nothing but the refusal
-unfoldable pub blank : (refusal : ℕ) → Contents
-blank k = record { refusal = k; n = 0; root = 0; budget = 0; weights = replicate cells no-arc; marks = replicate cells free }
+unfoldable pub no-contents : (refusal : ℕ) → Contents
+no-contents k = record { refusal = k; n = 0; root = 0; budget = 0; weights = replicate cells no-arc; marks = replicate cells free }
 
 abbrev pub accepted : Instance → Contents
 accepted s = record { refusal = 0; n = s .n; root = s .root; budget = s .budget; weights = s .weights; marks = s .marks }
 
 -- what every list of bytes says
 unfoldable pub contents-of : (card : List ℕ) → Contents
-contents-of ws = cond (eqb (card-refusal ws) 0) (accepted (instance-in ws)) (blank (card-refusal ws))
+contents-of ws = cond (eqb (card-refusal ws) 0) (accepted (instance-in ws)) (no-contents (card-refusal ws))

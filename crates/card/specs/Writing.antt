@@ -10,10 +10,6 @@ use Rattle.instance.specs.Instance.{Instance}
 use Rattle.card.specs.Card.{on-card, bytes-needed, card-of}
 use Rattle.card.specs.declared.write.Written.{Written}
 
--- the instance that a caller's values make up
-abbrev pub instance-of : (n root budget : ℕ) → (weights marks : List ℕ) → Instance
-instance-of n r b ws ms = record { n = n; root = r; budget = b; weights = ws; marks = ms }
-
 abbrev pub header-bits : (n root budget : ℕ) → List ℕ
 header-bits n r b = (bits-of 6 n ++ bits-of 5 r) ++ bits-of 25 b
 

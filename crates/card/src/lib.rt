@@ -1,6 +1,6 @@
 // The rig card: reading and writing.
 
-pub mod lengths; // lengths.rt: how many bytes a card has
-pub mod cells; // cells.rt: the cells of a card, read and judged
+mod lengths; // lengths.rt: how many bytes a card has
+mod cells; // cells.rt: the cells of a card, read and judged
 pub mod read; // read.rt: a card of any bytes, read or refused
 pub mod write; // write.rt: a card written into the caller's buffer

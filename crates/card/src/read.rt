@@ -2,7 +2,7 @@
 use crate::cells;
 use crate::lengths;
 ghost use mathlib.Core.Path.{_≡_};
-ghost use Rattle.card.specs.Reading.{header-of, blank as blank-contents, contents-of};
+ghost use Rattle.card.specs.Reading.{header-of, no-contents, contents-of};
 use instance::limits::MAX_BUDGET;
 use instance::limits::MAX_VERTICES;
 use instance::limits::NO_ARC;
@@ -69,8 +69,8 @@ pub struct Contents {
     pub marks: [u8; 1024],
 }
 
-fn blank(refusal: u32) -> Contents
-    ensures { λ r. ⌜ r ≡ blank-contents refusal ⌝ }
+fn no_contents(refusal: u32) -> Contents
+    ensures { λ r. ⌜ r ≡ no-contents refusal ⌝ }
 {
     Contents {
         refusal,
@@ -89,7 +89,7 @@ pub fn read_card(card: &[u8]) -> Contents
     let header = read_header(card);
     let refusal = header.refusal;
     if refusal != 0 {
-        return blank(refusal);
+        return no_contents(refusal);
     }
     let n = header.n;
     let root = header.root;
@@ -97,11 +97,11 @@ pub fn read_card(card: &[u8]) -> Contents
     let cells = cells::read_cells(card, n, root);
     let faulty = cells.refusal;
     if faulty != 0 {
-        return blank(faulty);
+        return no_contents(faulty);
     }
     let end = cells.end;
     if bits::read_bits(card, end, 8 * card.len() - end) != 0 {
-        return blank(8);
+        return no_contents(8);
     }
     let weights = cells.weights;
     let marks = cells.marks;

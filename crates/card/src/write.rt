@@ -6,8 +6,9 @@ ghost use mathlib.Core.Path.{_≡_};
 ghost use Prim.Native.Nat.{_*_, _≤_, _<_};
 ghost use lib.ListN.{length};
 ghost use Rattle.bits.specs.Writer.{Ready, Put};
+ghost use Rattle.instance.specs.Instance.{instance-with};
 ghost use Rattle.card.specs.Card.{cell-bits};
-ghost use Rattle.card.specs.Writing.{header-bits, one-cell, instance-of, Card-written};
+ghost use Rattle.card.specs.Writing.{header-bits, one-cell, Card-written};
 
 fn put_header(out: &mut [u8], n: u32, root: u32, budget: u32) -> BitWriter
     requires { ⌜ 36 ≤ 8 * length (now out) ⌝ }
@@ -52,8 +53,8 @@ fn put_cells<'a>(
     marks: &'a [u8; 1024],
 ) -> BitWriter
     requires { ⌜ (length (now weights) ≡ 1024) × (length (now marks) ≡ 1024) ⌝ }
-    requires { ⌜ Ready (now out) start (length (cell-bits 1024 0 (instance-of n root 0 (now weights) (now marks)))) ⌝ }
-    ensures { λ r. ⌜ Put (now (out .entry)) start (cell-bits 1024 0 (instance-of n root 0 (now (weights .entry)) (now (marks .entry)))) (now (out .exit)) r ⌝ }
+    requires { ⌜ Ready (now out) start (length (cell-bits 1024 0 (instance-with n root 0 (now weights) (now marks)))) ⌝ }
+    ensures { λ r. ⌜ Put (now (out .entry)) start (cell-bits 1024 0 (instance-with n root 0 (now (weights .entry)) (now (marks .entry)))) (now (out .exit)) r ⌝ }
 {
     let mut w = start;
     let mut i: usize = 0;
@@ -81,7 +82,7 @@ pub fn write_instance<'a>(
     out: &mut [u8],
 ) -> Written
     requires { ⌜ (1 ≤ n) × (n ≤ 32) × (root < n) × (length (now weights) ≡ 1024) × (length (now marks) ≡ 1024) ⌝ }
-    ensures { λ r. ⌜ Card-written (instance-of n root budget (now (weights .entry)) (now (marks .entry))) (now (out .entry)) (now (out .exit)) r ⌝ }
+    ensures { λ r. ⌜ Card-written (instance-with n root budget (now (weights .entry)) (now (marks .entry))) (now (out .entry)) (now (out .exit)) r ⌝ }
 {
     let needed = lengths::needed_length(n);
     if out.len() < needed {

@@ -4,7 +4,7 @@ use mathlib.Core.Path.{_≡_, refl, sym, _∙_}
 use mathlib.Core.Bool.{Bool, true, false, _&&_, not, cond}
 use mathlib.Core.List.{List, [], _∷_}
 use mathlib.Core.Logic.{inr, ⊎-elim, _≢_}
-use Prim.Native.Nat.{ℕ, suc, _+_, _-_, _^_, _≤_, _<_}
+use Prim.Native.Nat.{ℕ, suc, _+_, _^_, _≤_, _<_}
 use native.Mathlib.Omega.{arith}
 use lib.Dec.{ltb, leb, eqb}
 use lib.ListN.{length}
@@ -15,7 +15,7 @@ use Rattle.base.proofs.BoundedLaws.{all-intro, sum-add, sum-zero, sum-eq}
 use Rattle.instance.specs.Limits.{max-vertices, no-arc, no-parent, cut-limit}
 use Rattle.instance.specs.Instance.{Instance, weight}
 use Rattle.instance.specs.Arborescence.{remaining, parent, reaches, parent-ok, is-arborescence, total}
-use Rattle.instance.specs.Cuts.{Cut, inside, enters, charged, values, set-ok, sets-ok, all-positive, Proves, reduced-cost}
+use Rattle.instance.specs.Cuts.{Cut, inside, enters, charged, values, set-ok, sets-ok, all-positive, Proves}
 use Rattle.contraction.specs.Groups.{Lowered}
 use Rattle.contraction.specs.Trees.{Each, none-left, more, Reached, here, step, Once, Tree, Proper, Fine}
 use Rattle.base.proofs.CountingLaws.{sum-one}
@@ -108,17 +108,13 @@ module _ (s : Instance) (w w′ : ℕ → ℕ → ℕ) (ps : List ℕ) (cs : Lis
       (all-intro (s .n) (parent-ok s ps) (λ v l. vertex-ok v l (eqb v (s .root)) refl))
 
   -- THE TOTAL
-  pub tight : (v : ℕ) → v < s .n → eqb v (s .root) ≡ false → weight s (parent ps v) v ≡ charged cs (parent ps v) v
+  tight : (v : ℕ) → v < s .n → eqb v (s .root) ≡ false → weight s (parent ps v) v ≡ charged cs (parent ps v) v
   tight v l ne =
       let h = has-all v l ne in
       let x = lo .paid (parent ps v) v h l (was-there v l h) in
       let z = t .free v l h in
       let e = sh .is (parent ps v) v (arc v l ne) in
       omega arith
-
-  pub tight-reduced : (v : ℕ) → v < s .n → eqb v (s .root) ≡ false → reduced-cost s cs (parent ps v) v ≡ 0
-  unfolding reduced-cost
-  tight-reduced v l ne = let e = tight v l ne in omega arith
 
   abbrev paid : List Cut → ℕ → ℕ
   paid ds v = cond (eqb v (s .root)) 0 (charged ds (parent ps v) v)

@@ -2,7 +2,7 @@
 use mathlib.Core.Path.{_≡_, refl, sym, ap, _∙_, subst}
 use mathlib.Core.Bool.{Bool, true, false, cond}
 use mathlib.Core.List.{List, _++_}
-use mathlib.Core.Logic.{_⊎_, inl, inr, ⊎-elim}
+use mathlib.Core.Logic.{inl, inr, ⊎-elim}
 use Prim.Native.Nat.{ℕ, _+_, _*_, _-_, _/_, _%_, _≤_, _<_}
 use native.Mathlib.Omega.{arith}
 use lib.Dec.{ltb, eqb}
@@ -20,7 +20,7 @@ use Rattle.contraction.specs.Groups.{Lowered}
 use Rattle.contraction.specs.Trees.{Each, Tree, Fine}
 use Rattle.contraction.proofs.EachLaws.{each-append, tree-same}
 use Rattle.contraction.proofs.Lowering.{lowered-twice}
-use Rattle.contraction.proofs.Finish.{set-fine, charged-self, charged-root, arborescence, tight-reduced, proves}
+use Rattle.contraction.proofs.Finish.{set-fine, charged-self, charged-root, arborescence, proves}
 use Rattle.contraction.proofs.Unmarked.{remaining-arc, shows}
 use Rattle.edmonds.specs.Cells.{at, cost, Own-labels}
 use Rattle.edmonds.specs.Charge.{Closed}
@@ -158,7 +158,6 @@ module _ (ws₀ : List ℕ) (n root : ℕ) (size : length ws₀ ≡ cells) (smal
             record {
               arborescence = arborescence s (cost ws₀) (cost ws′) (take n ps) cs sh lowered small rb sized at-root tree;
               proved = proves s (cost ws₀) (cost ws′) (take n ps) cs sh lowered small rb sized at-root tree fine (omega arith);
-              tight = tight-reduced s (cost ws₀) (cost ws′) (take n ps) cs sh lowered small rb sized at-root tree;
             }
 
       pub planned : Planned-matrix n root ws₀ ws′ cuts₀ cuts′ found ps count set

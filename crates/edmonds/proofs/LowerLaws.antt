@@ -10,7 +10,7 @@ use lib.ListN.{length, set, length-set}
 use lib.Seq.{getD-set-same, getD-set-other}
 use borrow.Author.Tests.{ltb-true, ltb-false, lt-ltb, le-ltb, eq-eqb, ne-eqb}
 use Rattle.base.proofs.Tests.{test, and-false-right}
-use Rattle.instance.specs.Limits.{max-vertices, no-arc, cells}
+use Rattle.instance.specs.Limits.{no-arc, cells}
 use Rattle.instance.specs.Instance.{cell}
 use Rattle.edmonds.specs.Cells.{at, cost}
 use Rattle.edmonds.specs.Lower.{low, Lowered-into, Lowered-cells}

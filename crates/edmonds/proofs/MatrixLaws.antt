@@ -37,7 +37,3 @@ module _ (s : Instance) (cs : List Cut) (t h : ℕ) (l : t < max-vertices) (m : 
 
   pub reduced-arc : remaining s t h ≡ true → getD (reduced-matrix s cs) (cell t h) no-arc ≡ reduced-cost s cs t h
   reduced-arc r = at-cell ∙ rw r
-
-  -- a cell that holds no remaining arc is as it was
-  pub reduced-other : remaining s t h ≡ false → getD (reduced-matrix s cs) (cell t h) no-arc ≡ weight-at s (cell t h)
-  reduced-other r = at-cell ∙ rw r

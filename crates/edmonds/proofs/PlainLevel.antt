@@ -2,13 +2,13 @@
 use mathlib.Core.Path.{_≡_, refl, _∙_}
 use mathlib.Core.Bool.{true}
 use mathlib.Core.List.{List, []}
-use Prim.Native.Nat.{ℕ, _-_, _<_}
+use Prim.Native.Nat.{ℕ, _<_}
 use native.Mathlib.Omega.{arith}
 use lib.ListN.{length}
 use borrow.Author.Tests.{eq-eqb}
 use Rattle.base.proofs.Tests.{not-both}
 use Rattle.instance.specs.Limits.{cut-words}
-use Rattle.contraction.specs.Groups.{contracted, own-arcs}
+use Rattle.contraction.specs.Groups.{own-arcs}
 use Rattle.contraction.specs.Trees.{none-left}
 use Rattle.contraction.proofs.EachLaws.{tree-same}
 use Rattle.contraction.proofs.Lowering.{lowered-none}

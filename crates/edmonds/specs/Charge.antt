@@ -1,13 +1,12 @@
 -- Charging a group: what its functions give. Assumes nothing: these are definitions.
 use mathlib.Core.Path.{_≡_}
-use mathlib.Core.Bool.{Bool, true, false, _&&_, not, cond}
+use mathlib.Core.Bool.{Bool, true, false}
 use mathlib.Core.List.{List, _++_}
 use mathlib.Core.Logic.{_⊎_, _≢_}
 use Prim.Native.Nat.{ℕ, _+_, _*_, _-_, _^_, _≤_, _<_}
-use lib.Dec.{ltb, eqb}
+use lib.Dec.{eqb}
 use lib.ListN.{length}
-use Rattle.instance.specs.Limits.{max-vertices, no-arc, cells, cut-words}
-use Rattle.instance.specs.Instance.{cell}
+use Rattle.instance.specs.Limits.{no-arc, cells, cut-words}
 use Rattle.instance.specs.Cuts.{Cut, cuts-from, inside, enters}
 use Rattle.contraction.specs.Groups.{Lowered}
 use Rattle.contraction.specs.Trees.{Each, Tree, Proper, Fine}

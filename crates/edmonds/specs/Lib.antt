@@ -1,4 +1,4 @@
--- What the planner's functions give. Assumes nothing.
+-- What the functions of Edmonds' algorithm give. Assumes nothing.
 pub mod Cells
 pub mod Charge
 pub mod Cycle

@@ -2,6 +2,7 @@
 // down as a cut of that value. A weight of 0 gives no cut.
 
 ghost use mathlib.Core.Path.{_≡_};
+ghost use mathlib.Core.Bool.{true, false};
 ghost use Prim.Native.Nat.{_+_, _*_, _≤_, _<_};
 ghost use lib.ListN.{set, length};
 ghost use Rattle.edmonds.specs.Charge.{Members, Charged-group};
@@ -48,6 +49,33 @@ pub struct Charged {
     pub set: u32,
 }
 
+impl Charged {
+    fn arc(tail: usize, head: usize, next: CutIndex) -> Charged
+        ensures { λ r. ⌜ (r .found ≡ true) × (r .tail ≡ tail) × (r .head ≡ head) × (r .next .0 ≡ next .0) × (r .set ≡ 0) ⌝ }
+    {
+        Charged {
+            found: true,
+            tail,
+            head,
+            next,
+            set: 0,
+        }
+    }
+
+    fn none(next: CutIndex, set: u32) -> Charged
+        ensures { λ r. ⌜ (r .found ≡ false) × (r .tail ≡ 255) × (r .head ≡ 255) × (r .next .0 ≡ next .0) × (r .set ≡ set) ⌝ }
+    {
+        Charged {
+            found: false,
+            tail: NO_VERTEX,
+            head: NO_VERTEX,
+            next,
+            set,
+        }
+    }
+}
+
+// Charges a group for its cheapest entering arc.
 pub fn charge_group(
     w: &mut [u32; 1024],
     label: &[u8; 32],
@@ -65,31 +93,13 @@ pub fn charge_group(
     let value = arc.weight;
     if value == NO_ARC {
         let set = members(label, n, Vertex(group));
-        return Charged {
-            found: false,
-            tail: NO_VERTEX,
-            head: NO_VERTEX,
-            next: CutIndex(k),
-            set,
-        };
+        return Charged::none(CutIndex(k), set);
     }
     if value == 0 {
-        return Charged {
-            found: true,
-            tail: arc.tail,
-            head: arc.head,
-            next: CutIndex(k),
-            set: 0,
-        };
+        return Charged::arc(arc.tail, arc.head, CutIndex(k));
     }
     lower_arcs(w, label, n, Vertex(group), value);
     let set = members(label, n, Vertex(group));
     put_cut(cuts, CutIndex(k), set, value);
-    Charged {
-        found: true,
-        tail: arc.tail,
-        head: arc.head,
-        next: CutIndex(k + 1),
-        set: 0,
-    }
+    Charged::arc(arc.tail, arc.head, CutIndex(k + 1))
 }

@@ -1,6 +1,5 @@
 // Contraction: "a closed ring of positions is drawn together".
 
-ghost use mathlib.Core.Path.{_≡_};
 ghost use Prim.Native.Nat.{_≤_, _<_};
 ghost use Rattle.edmonds.specs.Cycle.{Below, Contracted};
 use instance::Vertex;

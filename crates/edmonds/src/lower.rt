@@ -1,10 +1,9 @@
 // Lowering the arcs into a group by a value, column by column.
 
 ghost use mathlib.Core.Path.{_≡_};
-ghost use mathlib.Core.Logic.{_≢_};
 ghost use Prim.Native.Nat.{_≤_, _<_};
 ghost use lib.ListN.{length};
-ghost use Rattle.edmonds.specs.Cells.{at, cost};
+ghost use Rattle.edmonds.specs.Cells.{at};
 ghost use Rattle.edmonds.specs.Lower.{Affords, Affords-into, Lowered-into, Lowered-cells};
 use instance::Vertex;
 use instance::limits::NO_ARC;

@@ -1,8 +1,8 @@
 // Planning: "a closed ring of positions is drawn together and the smaller sheet is planned". Each call has fewer groups.
 
 ghost use mathlib.Core.Path.{_≡_};
-ghost use Prim.Native.Nat.{_+_, _≤_};
-ghost use lib.ListN.{length};
+ghost use Prim.Native.Nat.{_+_, _≤_, _<_};
+ghost use lib.ListN.{length, set};
 ghost use Rattle.edmonds.specs.Level.{Ready, Solved};
 use super::Planned;
 use super::charge::charge_group;
@@ -12,6 +12,17 @@ use super::expand::expand_cycle;
 use super::expand::own_parents;
 use instance::CutIndex;
 use instance::Vertex;
+
+// The ends of the chosen arcs, with another one at the group g.
+fn replaced(ends: &[u8; 32], g: Vertex, v: usize) -> [u8; 32]
+    requires { ⌜ (g .0 < 32) × (v < 32) ⌝ }
+    ensures { λ r. ⌜ r ≡ set (now (ends .entry)) (g .0) v ⌝ }
+{
+    let place = g.0 as usize;
+    let mut copy = *ends;
+    copy[place] = v as u8;
+    copy
+}
 
 // Plans groups of which each but the root's has chosen an arc of weight 0. There are at most left groups.
 pub fn plan_groups(
@@ -42,22 +53,10 @@ pub fn plan_groups(
     if !next.found {
         return Planned::none(next.set);
     }
-    let place = at as usize;
-    let mut tails2 = *tails;
-    let mut heads2 = *heads;
-    tails2[place] = next.tail as u8;
-    heads2[place] = next.head as u8;
-    let inner = plan_groups(
-        w,
-        &coarse,
-        &tails2,
-        &heads2,
-        n,
-        Vertex(r),
-        left - 1,
-        cuts,
-        next.next,
-    );
+    let tails2 = replaced(tails, Vertex(at), next.tail);
+    let heads2 = replaced(heads, Vertex(at), next.head);
+    let after = next.next;
+    let inner = plan_groups(w, &coarse, &tails2, &heads2, n, root, left - 1, cuts, after);
     if !inner.found {
         return inner;
     }

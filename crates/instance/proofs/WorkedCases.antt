@@ -1,14 +1,13 @@
 -- P1 to P10 of document 01 ("Sheet Q and its outcomes"), as one list with one claim about the whole list: each outcome, all states,
 -- and every arborescence of the least total, among them the parents that document 01 shows. Computed. Assumes nothing.
 use mathlib.Core.Path.{_≡_, refl}
-use mathlib.Core.Bool.{Bool, true, false, _&&_, _||_, not, cond}
-use mathlib.Core.List.{List, [], _∷_, _++_, map}
-use Prim.Native.Nat.{ℕ, zero, suc, _+_, _*_, _/_, _%_}
+use mathlib.Core.List.{List, [], _∷_, map}
+use Prim.Native.Nat.{ℕ}
 use lib.Dec.{eqb}
 use lib.ListN.{length, replicate, set}
 use Rattle.base.specs.Bounded.{all-below, any-below, sum-below}
 use Rattle.base.specs.Lists.{tabulate-from, tabulate, select, any-of, all-of}
-use Rattle.instance.specs.Limits.{no-arc, pinned, banned, free, cells, no-parent}
+use Rattle.instance.specs.Limits.{no-arc, pinned, banned, free, cells}
 use Rattle.instance.specs.Instance.{Instance, cell, weight, mark, can-be-arc, is-arc}
 use Rattle.instance.specs.Arborescence.{is-pinned, other-pinned, remaining, reaches, parent-ok, is-arborescence, total, uses}
 use Rattle.instance.specs.Candidates.{prefixed, choices, candidates-from, candidates, arborescences, lesser, least-total, cheapest}

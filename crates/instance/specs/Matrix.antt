@@ -1,6 +1,6 @@
 -- The weight matrix that the algorithm works on: only what remains of an instance, or of some of its arcs. Assumes nothing: these
 -- are definitions.
-use mathlib.Core.Bool.{Bool, true, false, _&&_, cond}
+use mathlib.Core.Bool.{Bool, true, _&&_, cond}
 use mathlib.Core.List.{List, []}
 use Prim.Native.Nat.{ℕ, _/_, _%_}
 use Rattle.base.specs.Lists.{tabulate}

@@ -1,5 +1,5 @@
 -- Valid instances: every field in the ranges of document 01. Assumes nothing: these are definitions.
-use mathlib.Core.Bool.{Bool, true, false, _&&_, cond}
+use mathlib.Core.Bool.{Bool, true, _&&_, cond}
 use Prim.Native.Nat.{ℕ, _/_, _%_}
 use lib.Dec.{ltb, leb, eqb}
 use Rattle.base.specs.Bounded.{all-below}

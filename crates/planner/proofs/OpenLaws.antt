@@ -6,7 +6,7 @@ use Prim.Native.Nat.{ℕ}
 use lib.Dec.{eqb}
 use borrow.Author.Tests.{eq-eqb, ne-eqb, eqb-true}
 use Rattle.card.specs.Card.{card-refusal, instance-in}
-use Rattle.card.specs.Reading.{contents-of, accepted, blank as no-contents}
+use Rattle.card.specs.Reading.{contents-of, accepted, no-contents}
 use Rattle.card.specs.declared.read.Contents.{Contents}
 use Rattle.board.specs.Model.{opened, valid}
 use Rattle.board.specs.Log.{new-log}

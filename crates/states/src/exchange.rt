@@ -7,7 +7,7 @@ ghost use lib.ListN.{length, take};
 ghost use Rattle.instance.specs.Matrix.{unmarked};
 ghost use Rattle.states.specs.Tree.{Matrix-tree};
 ghost use Rattle.states.specs.Walks.{Rooted, Below};
-ghost use Rattle.states.specs.Exchange.{Below-flag, Below-table, Least-outside, Increase, Increases, Path-least, Detour, Detours};
+ghost use Rattle.states.specs.Exchange.{Below-flag, Below-table, Least-outside, Increase, Increases, Path-least, Detours};
 use instance::limits::NO_ARC;
 
 // 1 where the vertex is below the head in the tree, as the head is itself.

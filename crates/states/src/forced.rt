@@ -5,7 +5,6 @@ ghost use Prim.Native.Nat.{_≤_, _<_};
 ghost use lib.ListN.{length};
 ghost use Rattle.instance.specs.Arborescence.{remaining};
 ghost use Rattle.instance.specs.Matrix.{unmarked};
-ghost use Rattle.instance.specs.Instance.{instance-with};
 ghost use Rattle.states.specs.Tree.{Matrix-ok};
 ghost use Rattle.states.specs.Judge.{Forced-matrix, Forced-plan};
 use edmonds::Planned;

@@ -1,31 +1,25 @@
 -- What cuts settle: an arborescence whose total they add to is cheapest, a set that no remaining arc enters leaves none; and which
 -- states follow without listing anything. Assumes nothing.
 use mathlib.Core.Path.{_≡_, refl}
-use mathlib.Core.Bool.{true, false}
+use mathlib.Core.Bool.{true}
 use mathlib.Core.List.{List}
-use mathlib.Core.Option.{some}
-use Prim.Native.Nat.{ℕ, _+_, _≤_, _<_}
+use Prim.Native.Nat.{ℕ, _≤_, _<_}
 use native.Mathlib.Omega.{arith}
 use Rattle.base.proofs.Tests.{not-both, is-false}
 use Rattle.instance.specs.Instance.{Instance, is-arc}
-use Rattle.instance.specs.Arborescence.{remaining, is-arborescence, total, uses}
-use Rattle.instance.specs.Candidates.{cheapest}
-use Rattle.instance.specs.Cuts.{Cut, values, Feasible, reduced-cost, No-entry}
-use Rattle.instance.specs.States.{plan, over, no-tree, outcome, bound, fits, state}
+use Rattle.instance.specs.Arborescence.{is-arborescence, total}
+use Rattle.instance.specs.Cuts.{Cut, values, Feasible, No-entry}
+use Rattle.instance.specs.States.{plan, over, no-tree, outcome, fits, state}
 use Rattle.theory.specs.Readings.{None-uses, Least-total, No-arborescence}
-use Rattle.theory.proofs.ArborescenceLaws.{arc-ends, uses-remains}
 use Rattle.theory.proofs.StateLaws.{fits-arborescence, fits-total, state-reads}
-use Rattle.theory.proofs.OutcomeLaws.{cheapest-some, outcome-reads}
-use Rattle.theory.proofs.Duality.{weak-duality, no-entry, reduced-excludes}
+use Rattle.theory.proofs.OutcomeLaws.{outcome-reads}
+use Rattle.theory.proofs.Duality.{weak-duality, no-entry}
 
 module _ (s : Instance) where
   -- AN ARBORESCENCE THAT CUTS PROVE
   module _ (ps : List ℕ) (cs : List Cut) (a : is-arborescence s ps ≡ true) (f : Feasible s cs) (e : values cs ≡ total s ps) where
     pub proved-least : Least-total s (total s ps)
     proved-least = record { parents = ps; found = a; attained = refl; least = λ qs b. let w = weak-duality s qs b cs f in omega arith }
-
-    pub proved-cheapest : cheapest s ≡ some (total s ps)
-    proved-cheapest = cheapest-some s (total s ps) .1 proved-least
 
     pub proved-plan : total s ps ≤ s .budget → outcome s ≡ plan (total s ps)
     proved-plan l = outcome-reads s .plans (total s ps) .1 (proved-least, l)
@@ -64,14 +58,3 @@ module _ (s : Instance) where
 
     pub shut-excluded : (c : Cut) → No-entry s c → state s t h ≡ 1
     shut-excluded c e = none-excluded (shut-outcome c e)
-
-    pub lost-excluded : remaining s t h ≡ false → state s t h ≡ 1
-    lost-excluded r =
-        let end = arc-ends s t h x in
-        unused-excluded
-        (λ ps p.
-        is-false (uses ps t h)
-        (λ u. not-both (remaining s t h) (uses-remains s ps t h (fits-arborescence s ps p) (end .head-below) (end .not-root) u) r))
-
-    pub reduced-excluded : (cs : List Cut) → Feasible s cs → remaining s t h ≡ true → bound s < values cs + reduced-cost s cs t h → state s t h ≡ 1
-    reduced-excluded cs f r past = unused-excluded (reduced-excludes s cs t h f r past)

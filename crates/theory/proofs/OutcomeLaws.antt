@@ -2,7 +2,6 @@
 use mathlib.Core.Path.{_≡_, refl, sym, ap, subst}
 use mathlib.Core.Bool.{Bool, true, false, _||_, _&&_, cond, true≢false}
 use mathlib.Core.List.{List, [], _∷_}
-use mathlib.Core.Logic.{_↔_}
 use mathlib.Core.Option.{Option, none, some}
 use Prim.Native.Nat.{ℕ, min, _≤_, _<_}
 use native.Mathlib.Omega.{arith}
@@ -95,22 +94,6 @@ module _ (s : Instance) where
 
   pub least-some : (v : ℕ) → Least-total s v → No-arborescence s → ⊥
   least-some v a no-one = not-both (is-arborescence s (a .parents)) (a .found) (no-one (a .parents))
-
-  pub cheapest-some : (v : ℕ) → (cheapest s ≡ some v) ↔ Least-total s v
-  unfolding Cheapest-reads
-  cheapest-some v = ((λ e. subst (Cheapest-reads s) e cheapest-reads), at (cheapest s) cheapest-reads)
-    where
-      at : (o : Option ℕ) → Cheapest-reads s o → Least-total s v → o ≡ some v
-      at none r l = absurd (least-some v l r)
-      at (some w) r l = ap some (least-once w v r l)
-
-  pub cheapest-none : (cheapest s ≡ none) ↔ No-arborescence s
-  unfolding Cheapest-reads
-  cheapest-none = ((λ e. subst (Cheapest-reads s) e cheapest-reads), at (cheapest s) cheapest-reads)
-    where
-      at : (o : Option ℕ) → Cheapest-reads s o → No-arborescence s → o ≡ none
-      at none r e = refl
-      at (some w) r e = absurd (least-some w r e)
 
 -- THE OUTCOME
 -- no outcome is two of these

@@ -14,11 +14,11 @@ use Rattle.base.proofs.ListLaws.{getD-tabulate}
 use Rattle.instance.specs.Limits.{no-arc, cells}
 use Rattle.instance.specs.Instance.{Instance, weight-at, weight, mark, can-be-arc, is-arc}
 use Rattle.instance.specs.Arborescence.{is-pinned, other-pinned, remaining, parent, is-arborescence, total}
-use Rattle.instance.specs.Cuts.{Cut, Feasible, Proves, No-entry}
+use Rattle.instance.specs.Cuts.{Cut, Proves, No-entry}
 use Rattle.instance.specs.Matrix.{matrix-where, matrix, unmarked}
 use Rattle.theory.specs.Usable.{restricted}
 use Rattle.theory.proofs.ArborescenceLaws.{arc-ends, arc-weight, remaining-arc, remaining-ends, parents-size, root-parent, joined, make-arborescence}
-use Rattle.theory.proofs.SameArcs.{Same-arcs, same-back, same-arborescence, same-total, same-feasible, same-proves, same-no-entry}
+use Rattle.theory.proofs.SameArcs.{Same-arcs, same-back, same-arborescence, same-total, same-proves, same-no-entry}
 
 -- an unmarked instance has no pins
 unmarked-other : (n r : ℕ) (ws : List ℕ) (t h : ℕ) → other-pinned (unmarked n r ws) t h ≡ false
@@ -135,17 +135,11 @@ module _ (s : Instance) (small : s .n ≤ 32) where
   back : Same-arcs s whole
   back = same-back whole s (matrix-same s small)
 
-  pub matrix-remaining : (t h : ℕ) → remaining (unmarked (s .n) (s .root) (matrix s)) t h ≡ remaining s t h
-  matrix-remaining = matrix-same s small .arcs
-
   pub matrix-arborescence : (ps : List ℕ) → (is-arborescence (unmarked (s .n) (s .root) (matrix s)) ps ≡ true) ↔ (is-arborescence s ps ≡ true)
   matrix-arborescence ps = (same-arborescence whole s (matrix-same s small) ps, same-arborescence s whole back ps)
 
   pub matrix-total : (ps : List ℕ) → is-arborescence s ps ≡ true → total (unmarked (s .n) (s .root) (matrix s)) ps ≡ total s ps
   matrix-total ps a = sym (same-total s whole back ps a)
-
-  pub matrix-feasible : (cs : List Cut) → Feasible (unmarked (s .n) (s .root) (matrix s)) cs ↔ Feasible s cs
-  matrix-feasible cs = (same-feasible whole s (matrix-same s small) cs, same-feasible s whole back cs)
 
   pub matrix-proves : (cs : List Cut) (v : ℕ) → Proves (unmarked (s .n) (s .root) (matrix s)) cs v ↔ Proves s cs v
   matrix-proves cs v = (same-proves whole s (matrix-same s small) cs v, same-proves s whole back cs v)

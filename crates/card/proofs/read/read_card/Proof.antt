@@ -9,27 +9,27 @@ use Rattle.card.proofs.read.read_card.Tie as tie
 read-header-requires : tie.Need-read-header-requires
 read-header-requires c κs = search needs
 
-blank-requires : tie.Need-blank-requires
-blank-requires c κs = search needs
+no-contents-requires : tie.Need-no-contents-requires
+no-contents-requires c κs = search needs
 
 returns : tie.Need-returns
 returns c =
     let h = c .before .before .read-header in
-    c .blank .ensures ∙ header-refused _ (h .result) (h .ensures) (c .before .if1 .taken)
+    c .no-contents .ensures ∙ header-refused _ (h .result) (h .ensures) (c .before .if1 .taken)
 
 read-cells-requires : tie.Need-read-cells-requires
 read-cells-requires c κs =
     let e = cells-end _ (c .before .read-header .result) (c .before .read-header .ensures) (c .if1 .left) in
     (e .room, e .small)
 
-blank-requires-2 : tie.Need-blank-requires-2
-blank-requires-2 c κs = search needs
+no-contents-requires-2 : tie.Need-no-contents-requires-2
+no-contents-requires-2 c κs = search needs
 
 returns-2 : tie.Need-returns-2
 returns-2 c =
     let k = c .before .before .read-cells in
     let h = c .before .before .before .before .read-header in
-    c .blank2 .ensures
+    c .no-contents2 .ensures
     ∙ cells-refused _ (h .result) (h .ensures) (c .before .before .before .if1 .left) (k .result) (k .ensures) (c .before .if2 .taken)
 
 mul-read-bits : tie.Need-mul-read-bits
@@ -47,8 +47,8 @@ read-bits-requires c κs =
     let h = c .before .before .before .read-header in
     omega (arith, cells-end _ (h .result) (h .ensures) (c .before .before .if1 .left), c .before .read-cells .ensures .last-end (c .if2 .left))
 
-blank-requires-3 : tie.Need-blank-requires-3
-blank-requires-3 c κs = search needs
+no-contents-requires-3 : tie.Need-no-contents-requires-3
+no-contents-requires-3 c κs = search needs
 
 returns-3 : tie.Need-returns-3
 returns-3 c =
@@ -56,7 +56,7 @@ returns-3 c =
     let k = t .before .read-cells in
     let h = t .before .before .before .read-header in
     let f = c .before .before .read-bits in
-    c .blank3 .ensures
+    c .no-contents3 .ensures
     ∙ filling-refused _ (h .result) (h .ensures) (t .before .before .if1 .left) (k .result) (k .ensures) (t .if2 .left) (f .result) (f .ensures)
     (c .before .if3 .taken)
 
@@ -73,14 +73,14 @@ read-card-spec =
     tie.close
     (tie.spec
     read-header-requires
-    blank-requires
+    no-contents-requires
     returns
     read-cells-requires
-    blank-requires-2
+    no-contents-requires-2
     returns-2
     mul-read-bits
     sub-read-bits
     read-bits-requires
-    blank-requires-3
+    no-contents-requires-3
     returns-3
     returns-4)

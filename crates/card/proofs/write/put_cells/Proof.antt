@@ -7,10 +7,10 @@ use lib.ListN.{getD}
 use Rattle.bits.specs.Writer.{Put}
 use Rattle.bits.specs.declared.BitWriter.{BitWriter}
 use Rattle.bits.proofs.WriterLaws.{put-none, put-then, ready-part}
-use Rattle.instance.specs.Instance.{Instance}
+use Rattle.instance.specs.Instance.{Instance, instance-with}
 use Rattle.card.proofs.WritingLaws.{cell-bits-none, next-cell}
 use Rattle.card.specs.Card.{cell-bits}
-use Rattle.card.specs.Writing.{instance-of, one-cell}
+use Rattle.card.specs.Writing.{one-cell}
 use Rattle.card.proofs.write.put_cells.Statement.{statement}
 use Rattle.card.proofs.write.put_cells.Tie as tie
 
@@ -22,7 +22,7 @@ record Putting (s : Instance) (before : List ℕ) (start : BitWriter) (out : Lis
   i-in : i ≤ 1024
 
 abbrev Inv-loop : tie.InvT-loop
-Inv-loop out₀ n root weights marks w₀ i₀ out w i = Putting (instance-of n root 0 weights marks) out₀ w₀ out w i
+Inv-loop out₀ n root weights marks w₀ i₀ out w i = Putting (instance-with n root 0 weights marks) out₀ w₀ out w i
 
 abbrev μ-loop : tie.MeasureT-loop
 μ-loop out₀ n root weights marks w₀ i₀ out w i = 1024 - i
@@ -46,7 +46,7 @@ put-cell-requires c κs =
     let a = s .args in
     let h : l .i < 1024 = omega arith in
     let one = one-cell (a .n) (a .root) (l .i) (getD (a .weights .now) (l .i) 0) (getD (a .marks .now) (l .i) 0) in
-    let more = cell-bits (1024 - (l .i + 1)) (l .i + 1) (instance-of (a .n) (a .root) 0 (a .weights .now) (a .marks .now)) in
+    let more = cell-bits (1024 - (l .i + 1)) (l .i + 1) (instance-with (a .n) (a .root) 0 (a .weights .now) (a .marks .now)) in
     let e = next-cell (a .n) (a .root) 0 (a .weights .now) (a .marks .now) (l .i) h (s .pre .0 .0) (s .pre .0 .1) in
     (h, ready-part _ _ _ _ (l .inv .done) one more _ (l .inv .put) (rw e at (l .inv .left)) (s .pre .1))
 

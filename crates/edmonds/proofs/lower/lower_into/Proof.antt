@@ -1,6 +1,6 @@
 -- `edmonds::lower::lower_into` meets its contract: the arcs from the tails passed are lowered. Assumes nothing.
 use mathlib.Core.Logic.{inl, inr, ⊎-elim}
-use Prim.Native.Nat.{_-_, _≤_, _<_}
+use Prim.Native.Nat.{_-_, _≤_}
 use native.Mathlib.Omega.{arith}
 use Rattle.edmonds.specs.Lower.{Lowered-into}
 use Rattle.edmonds.proofs.LowerLaws.{no-tail, not-yet, pass-tail, lower-tail, all-tails}

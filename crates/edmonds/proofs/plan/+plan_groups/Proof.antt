@@ -18,6 +18,7 @@ use Rattle.edmonds.proofs.expand.expand_cycle.Reads as expand-cycle
 use Rattle.edmonds.proofs.expand.own_parents.Reads as own-parents
 use Rattle.edmonds.proofs.Planned.tree.Reads as tree
 use Rattle.edmonds.proofs.Planned.none.Reads as none
+use Rattle.edmonds.proofs.plan.replaced.Reads as replaced
 use Rattle.edmonds.proofs.plan.+plan_groups.{statement}
 use Rattle.edmonds.proofs.plan.+plan_groups.Tie.{close}
 
@@ -44,6 +45,8 @@ callees t = (
   charge-group.Learnt,
   none.Asked,
   none.Learnt,
+  replaced.Asked,
+  replaced.Learnt,
   below t,
   plan.Post,
   expand-cycle.Asked,
@@ -116,7 +119,7 @@ returns-2 t c =
     let ch = cg .charge-group .ensures in
     rw (e .0, e .1, e .2, e .3) (stopped r mt ct ch (not-true (cg .charge-group .result .found) (t2 .if2 .taken)))
 
--- what is stored in the arrays of arcs fits there
+-- what replaces the ends of an arc fits there
 stored : (t : ℕ) (c : lts.Else2 (callees t) (at-measure t) plan.Post)
     → (c .before .before .before .before .before .before .before .before .before .before .before .find-cycle .result .at .0 < 32) × (c .before .before .charge-group .result .tail < 32)
     × (c .before .before .charge-group .result .head < 32)
@@ -138,24 +141,15 @@ stored t c =
     let hb = arc .head-below in
     (omega arith, omega arith, omega arith)
 
-cast-place : (t : ℕ) → lts.Need-cast-place (callees t) (at-measure t) plan.Post
-cast-place t c = let b = stored t c in omega arith
+replaced-requires : (t : ℕ) → lts.Need-replaced-requires (callees t) (at-measure t) plan.Post
+replaced-requires t c κs = let b = stored t c in (b .0, b .1)
 
-cast-tails2 : (t : ℕ) → lts.Need-cast-tails2 (callees t) (at-measure t) plan.Post
-cast-tails2 t c = let b = stored t (c .before .before .before) in omega arith
-
-array-write-tails2 : (t : ℕ) → lts.Need-array-write-tails2 (callees t) (at-measure t) plan.Post
-array-write-tails2 t c = let b = stored t (c .before .before .before) in omega arith
-
-cast-heads2 : (t : ℕ) → lts.Need-cast-heads2 (callees t) (at-measure t) plan.Post
-cast-heads2 t c = let b = stored t (c .before .before .before .before) in omega arith
-
-array-write-heads2 : (t : ℕ) → lts.Need-array-write-heads2 (callees t) (at-measure t) plan.Post
-array-write-heads2 t c = let b = stored t (c .before .before .before .before) in omega arith
+replaced-requires-2 : (t : ℕ) → lts.Need-replaced-requires-2 (callees t) (at-measure t) plan.Post
+replaced-requires-2 t c κs = let b = stored t (c .before) in (b .0, b .2)
 
 sub-plan-groups : (t : ℕ) → lts.Need-sub-plan-groups (callees t) (at-measure t) plan.Post
 sub-plan-groups t c =
-    let e2 = c .before .before .before .before .before .before .before .before in
+    let e2 = c .before .before .before .before .before .before .before in
     let cg = e2 .before .before in
     let cl = cg .before .before .before .before in
     let e1 = cl .before .before .before in
@@ -167,7 +161,9 @@ sub-plan-groups t c =
 
 plan-groups-requires : (t : ℕ) → lts.Need-plan-groups-requires (callees t) (at-measure t) plan.Post
 plan-groups-requires t c κs =
-    let e2 = c .before .before .before .before .before .before .before .before .before in
+    let heads = c .before .before .before .before .before .before in
+    let tails = heads .before in
+    let e2 = tails .before in
     let cg = e2 .before .before in
     let cl = cg .before .before .before .before in
     let e1 = cl .before .before .before in
@@ -182,12 +178,12 @@ plan-groups-requires t c κs =
     let h = three r mt ct in
     let most = ch .most in
     let room = st .pre .1 .2 in
-    (omega arith, (ready r mt ct ch yes-arc, ch .cuts-size, omega arith))
+    (omega arith, (rw (tails .replaced .ensures, heads .replaced2 .ensures) (ready r mt ct ch yes-arc), ch .cuts-size, omega arith))
 
 returns-3 : (t : ℕ) → lts.Need-returns-3 (callees t) (at-measure t) plan.Post
 returns-3 t c =
     let pg = c .before .before in
-    let e2 = pg .before .before .before .before .before .before .before .before .before .before in
+    let e2 = pg .before .before .before .before .before .before .before .before .before in
     let cg = e2 .before .before in
     let cl = cg .before .before .before .before in
     let e1 = cl .before .before .before in
@@ -205,7 +201,7 @@ expand-cycle-requires : (t : ℕ) → lts.Need-expand-cycle-requires (callees t)
 expand-cycle-requires t c κs =
     let e3 = c .before .before .before in
     let pg = e3 .before .before in
-    let e2 = pg .before .before .before .before .before .before .before .before .before .before in
+    let e2 = pg .before .before .before .before .before .before .before .before .before in
     let cg = e2 .before .before in
     let cl = cg .before .before .before .before in
     let e1 = cl .before .before .before in
@@ -229,7 +225,7 @@ returns-4 t c =
     let ec = c .before in
     let e3 = ec .before .before .before .before in
     let pg = e3 .before .before in
-    let e2 = pg .before .before .before .before .before .before .before .before .before .before in
+    let e2 = pg .before .before .before .before .before .before .before .before .before in
     let cg = e2 .before .before in
     let cl = cg .before .before .before .before in
     let e1 = cl .before .before .before in
@@ -257,11 +253,8 @@ pub +plan-groups-spec : {M : Type 1} → statement M
     (charge-group-requires t)
     (none-requires t)
     (returns-2 t)
-    (cast-place t)
-    (cast-tails2 t)
-    (array-write-tails2 t)
-    (cast-heads2 t)
-    (array-write-heads2 t)
+    (replaced-requires t)
+    (replaced-requires-2 t)
     (sub-plan-groups t)
     (plan-groups-requires t)
     (returns-3 t)
