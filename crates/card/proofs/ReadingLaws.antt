@@ -14,7 +14,7 @@ use Rattle.bits.specs.Bits.{bits-in, field}
 use Rattle.bits.proofs.ByteLaws.{length-bits-in}
 use Rattle.bits.proofs.FieldLaws.{field-rest-zero}
 use Rattle.instance.specs.Limits.{max-vertices, max-budget}
-use Rattle.card.specs.Card.{n-in, root-in, budget-in, bits-needed, bytes-needed, instance-in, cells-refusal, card-refusal}
+use Rattle.card.specs.Card.{n-in, root-in, budget-in, bits-needed, bytes-needed, max-card, instance-in, cells-refusal, card-refusal}
 use Rattle.card.specs.Offsets.{offset}
 use Rattle.card.specs.Reading.{no-header, header-of, weights-in, marks-in, Cells-read, no-contents, contents-of}
 use Rattle.card.specs.declared.cells.Cells.{Cells}
@@ -34,6 +34,9 @@ unfolding bits-needed bytes-needed
 length-known n h =
     let m : (n - 1) * (n - 1) ≤ 961 = mul-le-mul {n₂ = 31} {m₂ = 31} (omega arith) (omega arith) in
     record { header = omega arith; most = omega arith; whole = omega arith; nearly = omega arith }
+
+pub longest-card : (n : ℕ) → n ≤ 32 → bytes-needed n ≤ max-card
+longest-card n h = let k = length-known n h in omega (arith, k .most, k .nearly)
 
 -- THE HEADER
 pub record Header-known (ws : List ℕ) (h : Header) : Type 0 where

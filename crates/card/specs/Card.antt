@@ -32,6 +32,10 @@ bits-needed n = 36 + 22 * ((n - 1) * (n - 1))
 unfoldable pub bytes-needed : (n : ℕ) → ℕ
 bytes-needed n = (bits-needed n + 7) / 8
 
+-- "n = 32 takes 2,648"
+abbrev pub max-card : ℕ
+max-card = 2648
+
 -- READING
 
 -- "price 20 bits, mark 2": the field of so many bits at a place among the 22 of each cell on the card; another number for the other cells

@@ -4,13 +4,10 @@ use mathlib.Core.Bool.{Bool, true, false, cond}
 use mathlib.Core.List.{List}
 use Prim.Native.Nat.{ℕ, _≤_}
 use native.Mathlib.Omega.{arith}
-use lib.Dec.{leb}
 use lib.ListN.{length}
-use borrow.Author.Tests.{le-ltb, leb-true}
-use Rattle.base.specs.Bounded.{all-below}
-use Rattle.base.proofs.BoundedLaws.{all-at}
-use Rattle.instance.specs.Limits.{max-vertices}
-use Rattle.card.specs.Card.{bits-needed, bytes-needed}
+use borrow.Author.Tests.{le-ltb}
+use Rattle.card.specs.Card.{bytes-needed, max-card}
+use Rattle.card.proofs.ReadingLaws.{longest-card}
 use Rattle.card.specs.Writing.{written}
 use Rattle.card.specs.declared.write.Written.{Written}
 use Rattle.board.specs.Model.{valid}
@@ -19,20 +16,12 @@ use Rattle.board.specs.declared.Board.{Board}
 use Rattle.board.proofs.ValidLaws.{valid-parts}
 use Rattle.planner.specs.Calls.{Writes}
 
--- "n = 32 takes 2,648", computed for every n
-longest-computed : all-below 33 (λ n. leb (bytes-needed n) 2648) ≡ true
-unfolding all-below bytes-needed bits-needed
-longest-computed = refl
-
-pub longest : (n : ℕ) → n ≤ max-vertices → bytes-needed n ≤ 2648
-longest n h = leb-true (bytes-needed n) 2648 (all-at 33 (λ m. leb (bytes-needed m) 2648) n (omega arith) longest-computed)
-
-pub write-answer : (b : Board) (r : Written) (out out′ : List ℕ) → 2648 ≤ length out → Writes b r out out′ → r .number ≡ cond (valid (model-of b)) 0 15
+pub write-answer : (b : Board) (r : Written) (out out′ : List ℕ) → max-card ≤ length out → Writes b r out out′ → r .number ≡ cond (valid (model-of b)) 0 15
 unfolding written
 write-answer b r out out′ h w = ap (λ (x : Written). x .number) (w .result) ∙ go (valid (model-of b)) refl
   where
     go : (t : Bool) → valid (model-of b) ≡ t → cond t (written (instance-of b) out) (record { number = 15; length = 0 }) .number ≡ cond t 0 15
     go true e =
-        let n = longest (b .n) (valid-parts (model-of b) e .n-high) in
+        let n = longest-card (b .n) (valid-parts (model-of b) e .n-high) in
         rw (le-ltb (length out) (bytes-needed (b .n)) (omega arith))
     go false e = refl

@@ -15,12 +15,10 @@ use board::Answered;
 use board::Board;
 use board::Command;
 use board::commands::execute;
+use card::MAX_CARD;
 use instance::Vertex;
 
 const LOOK: u8 = 5;
-
-// The length of the longest card.
-const LONGEST_CARD: usize = 2648;
 
 fn view_answer(v: View) -> u32
     ensures { λ r. ⌜ r ≡ answer-of v ⌝ }
@@ -57,7 +55,7 @@ fn command_at(kind: u8, first: u32, second: u32) -> Command
 fn write_away(b: Board) -> u32
     ensures { λ r. ⌜ r ≡ cond (valid (model-of b)) 0 15 ⌝ }
 {
-    let mut out = [0u8; LONGEST_CARD];
+    let mut out = [0u8; MAX_CARD];
     let written = write_card(b, &mut out);
     written.number
 }

@@ -13,15 +13,11 @@ use lib.Seq.{take-all}
 use Rattle.base.proofs.Tests.{test, or-false-right}
 use Rattle.bits.specs.Bits.{bits-of, bits-in, field}
 use Rattle.instance.specs.Limits.{max-vertices}
-use Rattle.card.specs.Card.{n-in, bytes-needed, card-refusal}
-use Rattle.card.proofs.ReadingLaws.{length-known}
+use Rattle.card.specs.Card.{n-in, bytes-needed, max-card, card-refusal}
+use Rattle.card.proofs.ReadingLaws.{longest-card}
 use Rattle.report.specs.declared.Reported.{Reported}
 use Rattle.report_text.specs.Text.{max-text}
 use Rattle.report.specs.Reports.{Reports-refusal, Reports-by, Reports}
-
--- "n = 32 takes 2,648"
-abbrev pub longest : ℕ
-longest = 2648
 
 -- 2 by the field of the positions, 3 otherwise
 unfoldable long-refusal : (n : ℕ) → ℕ
@@ -41,14 +37,14 @@ choice true u x h = refl
 choice false u x h = rw (h refl)
 
 -- no sheet of at most 32 positions takes so many bytes
-not-needed : (l n : ℕ) → longest < l → eqb n 0 || ltb max-vertices n ≡ false → not (eqb l (bytes-needed n)) ≡ true
+not-needed : (l n : ℕ) → max-card < l → eqb n 0 || ltb max-vertices n ≡ false → not (eqb l (bytes-needed n)) ≡ true
 not-needed l n h e =
     let small = ltb-false max-vertices n (or-false-right (eqb n 0) (ltb max-vertices n) e) in
-    let k = length-known n small in
-    let unlike : l ≡ bytes-needed n → ⊥ = λ q. omega (arith, k .most, k .nearly) in
+    let most = longest-card n small in
+    let unlike : l ≡ bytes-needed n → ⊥ = λ q. omega arith in
     rw (ne-eqb l (bytes-needed n) unlike)
 
-too-long : (ws : List ℕ) → longest < length ws → card-refusal ws ≡ long-refusal (n-in (bits-in ws))
+too-long : (ws : List ℕ) → max-card < length ws → card-refusal ws ≡ long-refusal (n-in (bits-in ws))
 unfolding card-refusal long-refusal
 too-long ws h =
     let n = n-in (bits-in ws) in
@@ -65,18 +61,18 @@ long-refused n = go (eqb n 0 || ltb max-vertices n)
     go false e = omega arith
 
 -- what is read of it may end anywhere behind the longest card
-pub longer-than-any : (ws : List ℕ) (k : ℕ) → longest ≤ k → longest < length ws → card-refusal ws ≡ card-refusal (take (suc k) ws)
+pub longer-than-any : (ws : List ℕ) (k : ℕ) → max-card ≤ k → max-card < length ws → card-refusal ws ≡ card-refusal (take (suc k) ws)
 longer-than-any ws k hk h =
     let part = length-take (suc k) ws in
-    let long : longest < length (take (suc k) ws) = omega arith in
+    let long : max-card < length (take (suc k) ws) = omega arith in
     too-long ws h ∙ sym (too-long (take (suc k) ws) long ∙ ap long-refusal (n-of-part k ws))
 
 -- THE WHOLE INPUT: a report on the first bytes of an input is a report on the input
-module _ (ws : List ℕ) (k : ℕ) (enough : longest ≤ k) (old new : List ℕ) (r : Reported) where
+module _ (ws : List ℕ) (k : ℕ) (enough : max-card ≤ k) (old new : List ℕ) (r : Reported) where
   abbrev Part : List ℕ
   Part = take (suc k) ws
 
-  of-long : longest < length ws → (t : Bool) → Reports-by t (eqb (card-refusal Part) 0) Part old new r → Reports-by t (eqb (card-refusal ws) 0) ws old new r
+  of-long : max-card < length ws → (t : Bool) → Reports-by t (eqb (card-refusal Part) 0) Part old new r → Reports-by t (eqb (card-refusal ws) 0) ws old new r
   unfolding Reports-by
   of-long h true x = x
   of-long h false x =
@@ -88,12 +84,12 @@ module _ (ws : List ℕ) (k : ℕ) (enough : longest ≤ k) (old new : List ℕ)
 
   pub first-bytes-enough : Reports Part old new r → Reports ws old new r
   unfolding Reports
-  first-bytes-enough x = ⊎-elim long short (test (ltb longest (length ws)))
+  first-bytes-enough x = ⊎-elim long short (test (ltb max-card (length ws)))
     where
-      long : ltb longest (length ws) ≡ true → Reports ws old new r
-      long q = of-long (ltb-true longest (length ws) q) (ltb (length old) max-text) x
+      long : ltb max-card (length ws) ≡ true → Reports ws old new r
+      long q = of-long (ltb-true max-card (length ws) q) (ltb (length old) max-text) x
 
-      short : ltb longest (length ws) ≡ false → Reports ws old new r
+      short : ltb max-card (length ws) ≡ false → Reports ws old new r
       short q =
-          let fits : length ws ≤ suc k = omega (arith, ltb-false longest (length ws) q) in
+          let fits : length ws ≤ suc k = omega (arith, ltb-false max-card (length ws) q) in
           rw (take-all (suc k) ws fits) at x

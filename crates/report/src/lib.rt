@@ -1,6 +1,7 @@
 // From a card to the text that the planner prints of it.
 mod cards;
 
+pub use card::MAX_CARD;
 pub use cards::report;
 pub use report_text::MAX_TEXT;
 
