@@ -3,16 +3,17 @@ use mathlib.Core.Path.{_≡_}
 use mathlib.Core.Bool.{true}
 use mathlib.Core.List.{List}
 use Prim.Native.Nat.{ℕ, _≤_, _<_}
-use lib.ListN.{length, getD, take}
-use Rattle.instance.specs.Limits.{max-vertices, no-arc, cells}
+use lib.ListN.{length, take}
+use Rattle.instance.specs.Limits.{max-vertices, cells}
 use Rattle.instance.specs.Arborescence.{is-arborescence}
 use Rattle.instance.specs.Matrix.{unmarked}
+use Rattle.edmonds.specs.Planned.{Weights}
 
 pub record Matrix-ok (n root : ℕ) (m : List ℕ) : Type 0 where
   pub small : n ≤ max-vertices
   pub root-below : root < n
   pub size : length m ≡ cells
-  pub bounded : (i : ℕ) → i < cells → getD m i no-arc ≤ no-arc
+  pub bounded : Weights m
 
 -- the parents stand in the first n of 32 places
 pub record Matrix-tree (n root : ℕ) (m parents : List ℕ) : Type 0 where
