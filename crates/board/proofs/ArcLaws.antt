@@ -1,13 +1,13 @@
 -- Where an arc can be, what a valid instance holds there, and which fields of an instance the tests of arcs, cells and records
 -- look at. Assumes nothing.
 use mathlib.Core.Path.{_≡_, refl}
-use mathlib.Core.Bool.{Bool, true, false, _&&_, not}
+use mathlib.Core.Bool.{Bool, true, false, not}
 use mathlib.Core.List.{List}
 use Prim.Native.Nat.{ℕ, _/_, _%_, _≤_, _<_}
 use native.Mathlib.Omega.{arith}
-use lib.Dec.{ltb, leb, eqb}
+use lib.Dec.{leb, eqb}
 use lib.ListN.{length, getD}
-use borrow.Author.Tests.{ltb-true, eqb-true, eqb-false, not-true}
+use borrow.Author.Tests.{eqb-true, eqb-false, not-true}
 use Rattle.base.specs.Bounded.{all-below}
 use Rattle.base.specs.Lists.{all-of}
 use Rattle.base.proofs.Tests.{and-left, and-right}
@@ -17,34 +17,9 @@ use Rattle.instance.specs.Limits.{max-vertices, max-weight, no-arc, free, banne
 use Rattle.instance.specs.Instance.{Instance, cell, weight-at, mark-at, weight, mark, can-be-arc, is-arc}
 use Rattle.instance.specs.Matrix.{unmarked}
 use Rattle.instance.specs.Valid.{cell-ok, cell-valid}
+use Rattle.instance.proofs.ArcLaws.{ends, arc-ends}
 use Rattle.board.specs.Model.{Replaced, old-mark, old-budget, with-budget, record-ok}
 use Rattle.base.proofs.AllOfLaws.{all-of-eq}
-
-pub record Can-be-arc (n r t h : ℕ) : Type 0 where
-  pub tail-in : t < n
-  pub head-in : h < n
-  pub apart : t ≡ h → ⊥
-  pub not-root : h ≡ r → ⊥
-
-pub can-be : (n r t h : ℕ) → can-be-arc n r t h ≡ true → Can-be-arc n r t h
-unfolding can-be-arc
-can-be n r t h e =
-    let A = ltb t n in
-    let B = ltb h n in
-    let C = not (eqb t h) in
-    let D = not (eqb h r) in
-    let l = and-left (A && B) (C && D) e in
-    let g = and-right (A && B) (C && D) e in
-    record {
-      tail-in = ltb-true t n (and-left A B l);
-      head-in = ltb-true h n (and-right A B l);
-      apart = eqb-false t h (not-true (eqb t h) (and-left C D g));
-      not-root = eqb-false h r (not-true (eqb h r) (and-right C D g));
-    }
-
-pub arc-can-be : (s : Instance) (t h : ℕ) → is-arc s t h ≡ true → Can-be-arc (s .n) (s .root) t h
-unfolding is-arc
-arc-can-be s t h e = can-be (s .n) (s .root) t h (and-left (can-be-arc (s .n) (s .root) t h) (not (eqb (weight s t h) no-arc)) e)
 
 -- the weight and the mark of an arc of a valid instance are in range
 pub record In-range (w m : ℕ) : Type 0 where
@@ -67,7 +42,7 @@ arc-in-range s t h l a e =
     let C = can-be-arc (s .n) (s .root) t h in
     let Q = eqb (weight-at s (cell t h)) no-arc in
     let c = and-left C (not Q) e in
-    let k = can-be (s .n) (s .root) t h c in
+    let k = ends (s .n) (s .root) t h c in
     let q : cell t h / 32 ≡ t = omega arith in
     let r : cell t h % 32 ≡ h = omega arith in
     let v = rw (q, r, c) at (all-at cells (cell-valid s) (cell t h) (omega arith) a) in
@@ -92,12 +67,12 @@ cells-valid-of s v = refl
 
 -- AS A PROGRAM READS THEM: an array has 1,024 elements, so what is read past its end (0 there, no arc in the definitions) never matters
 pub arc-cell : (n r t h : ℕ) → n ≤ max-vertices → can-be-arc n r t h ≡ true → cell t h < cells
-arc-cell n r t h l e = let k = can-be n r t h e in omega arith
+arc-cell n r t h l e = let k = ends n r t h e in omega arith
 
 -- a record of a valid board names a cell of the arrays
 pub record-cell : (s : Instance) (t h m : ℕ) → s .n ≤ max-vertices → record-ok s (old-mark t h m) ≡ true → cell t h < cells
 unfolding record-ok
-record-cell s t h m l e = let k = arc-can-be s t h (and-left (is-arc s t h) (leb m banned) e) in omega arith
+record-cell s t h m l e = let k = arc-ends s t h (and-left (is-arc s t h) (leb m banned) e) in omega arith
 
 pub arc-read :
     (n r : ℕ) (ws : List ℕ) (t h : ℕ) → n ≤ max-vertices → length ws ≡ cells → can-be-arc n r t h ≡ true →

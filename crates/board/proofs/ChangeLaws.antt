@@ -13,9 +13,9 @@ use Rattle.base.specs.Lists.{all-of}
 use Rattle.base.proofs.Tests.{not-both, and-left, and-both}
 use Rattle.instance.specs.Limits.{max-vertices, free, pinned, banned}
 use Rattle.instance.specs.Instance.{Instance, cell, is-arc}
+use Rattle.instance.proofs.ArcLaws.{arc-ends}
 use Rattle.board.specs.Model.{Command, pin, ban, clear, set-budget, undo, Replaced, old-mark, old-budget, Model, with-mark, with-budget, restored, refused, accepted, marked, budgeted, undone, applied, record-ok, valid, answered}
 use Rattle.board.specs.Changes.{is-cell, restores-cell, restores-budget, names-cell, names-budget, Differs-only, Changes-only-named}
-use Rattle.board.proofs.ArcLaws.{arc-can-be}
 use Rattle.board.proofs.CommandLaws.{mark-cases, budget-cases}
 use Rattle.board.proofs.ValidLaws.{Valid, valid-parts}
 
@@ -52,7 +52,7 @@ unfolding refused
 refused-differs q w b k = same-differs q w (b .instance)
 
 head-below : (s : Instance) (t h : ℕ) → s .n ≤ max-vertices → is-arc s t h ≡ true → h < 32
-head-below s t h small a = let l = arc-can-be s t h a .head-in in omega arith
+head-below s t h small a = let l = arc-ends s t h a .head-below in omega arith
 
 module _ (b : Model) (small : b .instance .n ≤ max-vertices) where
   marked-differs : (m t h : ℕ) → Differs-only (is-cell t h) false (b .instance) (marked m t h b .board .instance)

@@ -18,6 +18,7 @@ use Rattle.base.proofs.BoundedLaws.{all-at, all-intro}
 use Rattle.instance.specs.Limits.{max-vertices, max-budget, free, pinned, banned, max-records, cells}
 use Rattle.instance.specs.Instance.{Instance, cell, weight, mark, can-be-arc, is-arc}
 use Rattle.instance.specs.Valid.{cell-ok, cell-valid, header-valid, valid-instance}
+use Rattle.instance.proofs.ValidLaws.{valid-some, valid-small, valid-root, valid-budget, valid-cells}
 use Rattle.board.specs.Model.{Command, pin, ban, clear, set-budget, undo, Replaced, old-mark, old-budget, Model, opened, with-mark, with-budget, restored, refused, accepted, marked, budgeted, undone, applied, record-ok, valid, answered}
 use Rattle.board.specs.Changes.{is-undo}
 use Rattle.base.proofs.AllOfLaws.{all-of-first, all-of-rest, all-of-more}
@@ -34,28 +35,24 @@ pub record Valid (b : Model) : Type 0 where
   pub few : length (b .history) ≤ max-records
   pub records-ok : all-of (record-ok (b .instance)) (b .history) ≡ true
 
+pub valid-fields : (b : Model) → valid b ≡ true → valid-instance (b .instance) ≡ true
+unfolding valid
+valid-fields b e = and-left (valid-instance (b .instance)) (leb (length (b .history)) max-records && all-of (record-ok (b .instance)) (b .history)) e
+
 pub valid-parts : (b : Model) → valid b ≡ true → Valid b
-unfolding valid valid-instance header-valid
+unfolding valid
 valid-parts b e =
     let s = b .instance in
-    let A = leb 1 (s .n) in
-    let B = leb (s .n) max-vertices in
-    let C = ltb (s .root) (s .n) in
-    let D = leb (s .budget) max-budget in
-    let E = all-below cells (cell-valid s) in
     let F = leb (length (b .history)) max-records in
     let G = all-of (record-ok s) (b .history) in
-    let i = and-left (((A && B) && (C && D)) && E) (F && G) e in
-    let r = and-right (((A && B) && (C && D)) && E) (F && G) e in
-    let h = and-left ((A && B) && (C && D)) E i in
-    let l = and-left (A && B) (C && D) h in
-    let m = and-right (A && B) (C && D) h in
+    let i = valid-fields b e in
+    let r = and-right (valid-instance s) (F && G) e in
     record {
-      n-low = leb-true 1 (s .n) (and-left A B l);
-      n-high = leb-true (s .n) max-vertices (and-right A B l);
-      root-in = ltb-true (s .root) (s .n) (and-left C D m);
-      budget-in = leb-true (s .budget) max-budget (and-right C D m);
-      cells-ok = and-right ((A && B) && (C && D)) E i;
+      n-low = valid-some s i;
+      n-high = valid-small s i;
+      root-in = valid-root s i;
+      budget-in = valid-budget s i;
+      cells-ok = valid-cells s i;
       few = leb-true (length (b .history)) max-records (and-left F G r);
       records-ok = and-right F G r;
     }

@@ -1,16 +1,15 @@
 -- Every valid instance, written as a card and read again, is the same, and its card opens. Assumes nothing.
 use mathlib.Core.Path.{_≡_, refl, _∙_}
-use mathlib.Core.Bool.{Bool, true, false, _&&_, not, cond}
+use mathlib.Core.Bool.{Bool, true, false, _&&_, cond}
 use mathlib.Core.List.{List, [], _++_, append-assoc}
 use mathlib.Core.Logic.{⊎-elim}
 use Prim.Native.Nat.{ℕ, _+_, _*_, _-_, _/_, _%_, _^_, _≤_, _<_}
 use native.Mathlib.Omega.{arith}
 use native.Mathlib.Nat.{mod-eq-of-lt}
-use lib.Dec.{ltb, leb, eqb}
+use lib.Dec.{leb, eqb}
 use lib.ListN.{length, drop, replicate, length-append, length-replicate}
 use lib.Seq.{drop-at}
-use borrow.Author.Tests.{ltb-true, leb-true, eqb-true, le-ltb, lt-leb, eq-eqb, ne-eqb}
-use Rattle.base.specs.Bounded.{all-below}
+use borrow.Author.Tests.{leb-true, eqb-true, le-ltb, lt-leb, eq-eqb, ne-eqb}
 use Rattle.base.specs.Lists.{tabulate}
 use Rattle.base.proofs.Tests.{and-left, and-right, test}
 use Rattle.base.proofs.BoundedLaws.{all-at}
@@ -21,9 +20,11 @@ use Rattle.bits.proofs.ByteLaws.{bits-in-packed, length-packed}
 use Rattle.bits.proofs.FieldLaws.{field-read}
 use Rattle.instance.specs.Limits.{max-weight, max-budget, no-arc, free, banned}
 use Rattle.instance.specs.Instance.{Instance, cell, weight-at, mark-at, weight, mark, can-be-arc}
-use Rattle.instance.specs.Valid.{cell-ok, cell-valid, header-valid, valid-instance}
+use Rattle.instance.specs.Valid.{cell-ok, cell-valid, valid-instance}
 use Rattle.card.specs.Card.{n-in, root-in, budget-in, on-card, bits-needed, bytes-needed, instance-in, cell-refusal, cells-refusal, card-refusal, cell-bits, instance-bits, card-of}
 use Rattle.instance.specs.Same.{Same-instance}
+use Rattle.instance.proofs.ArcLaws.{ends}
+use Rattle.instance.proofs.ValidLaws.{valid-some, valid-small, valid-root, valid-budget, valid-cells}
 use Rattle.card.specs.Writing.{header-bits}
 use Rattle.card.proofs.CellLaws.{ok-passes, all-pass}
 use Rattle.card.proofs.ReadingLaws.{length-known}
@@ -54,30 +55,14 @@ unfolding cell-valid on-card
 cell-known s i e q = rw q at e
 
 valid-known : (s : Instance) → valid-instance s ≡ true → Valid-known s
-unfolding valid-instance header-valid
 valid-known s e =
-    let n = s .n in
-    let r = s .root in
-    let b = s .budget in
-    let h = and-left (header-valid n r b) (all-below 1024 (cell-valid s)) e in
-    let c = and-right (header-valid n r b) (all-below 1024 (cell-valid s)) e in
-    let p = and-left (leb 1 n && leb n 32) (ltb r n && leb b max-budget) h in
-    let q = and-right (leb 1 n && leb n 32) (ltb r n && leb b max-budget) h in
     record {
-      n-low = leb-true 1 n (and-left (leb 1 n) (leb n 32) p);
-      n-high = leb-true n 32 (and-right (leb 1 n) (leb n 32) p);
-      root-low = ltb-true r n (and-left (ltb r n) (leb b max-budget) q);
-      budget-low = leb-true b max-budget (and-right (ltb r n) (leb b max-budget) q);
-      cell-fine = λ i l o. cell-known s i (all-at 1024 (cell-valid s) i l c) o;
+      n-low = valid-some s e;
+      n-high = valid-small s e;
+      root-low = valid-root s e;
+      budget-low = valid-budget s e;
+      cell-fine = λ i l o. cell-known s i (all-at 1024 (cell-valid s) i l (valid-cells s e)) o;
     }
-
-in-range-tail : (n r t h : ℕ) → can-be-arc n r t h ≡ true → ltb t n ≡ true
-unfolding can-be-arc
-in-range-tail n r t h e = and-left (ltb t n) (ltb h n) (and-left (ltb t n && ltb h n) (not (eqb t h) && not (eqb h r)) e)
-
-in-range-head : (n r t h : ℕ) → can-be-arc n r t h ≡ true → ltb h n ≡ true
-unfolding can-be-arc
-in-range-head n r t h e = and-right (ltb t n) (ltb h n) (and-left (ltb t n && ltb h n) (not (eqb t h) && not (eqb h r)) e)
 
 module _ (s : Instance) (k : Valid-known s) where
   abbrev fill : List ℕ
@@ -203,8 +188,8 @@ module _ (s : Instance) (k : Valid-known s) where
   index-on : (t h : ℕ) → can-be-arc (s .n) (s .root) t h ≡ true → (cell t h < 1024) × (on-card (s .n) (s .root) (cell t h) ≡ true)
   unfolding on-card
   index-on t h e =
-      let a = ltb-true t (s .n) (in-range-tail (s .n) (s .root) t h e) in
-      let b = ltb-true h (s .n) (in-range-head (s .n) (s .root) t h e) in
+      let a = ends (s .n) (s .root) t h e .tail-below in
+      let b = ends (s .n) (s .root) t h e .head-below in
       let n = k .n-high in
       let q : (32 * t + h) / 32 ≡ t = omega arith in
       let r : (32 * t + h) % 32 ≡ h = omega arith in

@@ -1,21 +1,20 @@
 -- The arcs of a weight matrix: where every arc is free, all arcs remain. Assumes nothing.
-use mathlib.Core.Path.{_≡_, refl, sym, _∙_}
-use mathlib.Core.Bool.{Bool, true, false, _&&_, not}
+use mathlib.Core.Path.{_≡_, sym, _∙_}
+use mathlib.Core.Bool.{true, _&&_, not}
 use mathlib.Core.List.{List}
-use mathlib.Core.Logic.{⊎-elim, _≢_}
+use mathlib.Core.Logic.{_≢_}
 use Prim.Native.Nat.{ℕ, _≤_, _<_}
 use native.Mathlib.Omega.{arith}
-use lib.Dec.{ltb, eqb}
+use lib.Dec.{eqb}
 use lib.ListN.{getD, length}
-use borrow.Author.Tests.{eqb-false, ne-eqb, ltb-true, lt-ltb, not-true}
-use Rattle.base.specs.Bounded.{any-below}
-use Rattle.base.proofs.Tests.{test, not-both, and-left, and-right}
-use Rattle.base.proofs.BoundedLaws.{any-found}
+use borrow.Author.Tests.{eqb-false, ne-eqb, lt-ltb, not-true}
+use Rattle.base.proofs.Tests.{and-left, and-right}
 use Rattle.base.proofs.ListLaws.{default}
 use Rattle.instance.specs.Limits.{max-vertices, no-arc, cells}
-use Rattle.instance.specs.Instance.{cell, weight, mark, can-be-arc, is-arc}
-use Rattle.instance.specs.Arborescence.{is-pinned, other-pinned, remaining}
+use Rattle.instance.specs.Instance.{cell, weight, can-be-arc, is-arc}
+use Rattle.instance.specs.Arborescence.{remaining}
 use Rattle.instance.specs.Matrix.{unmarked}
+use Rattle.instance.proofs.ArcLaws.{ends, unmarked-remaining}
 use Rattle.contraction.proofs.Finish.{Shows}
 
 -- WHAT AN ARC IS
@@ -27,17 +26,14 @@ pub record Arc (n root : ℕ) (x t h : ℕ) : Type 0 where
   pub there : x ≢ no-arc
 
 arc-of : (n root x t h : ℕ) → can-be-arc n root t h && not (eqb x no-arc) ≡ true → Arc n root x t h
-unfolding can-be-arc
 arc-of n root x t h e =
-    let can = and-left ((ltb t n && ltb h n) && (not (eqb t h) && not (eqb h root))) (not (eqb x no-arc)) e in
-    let b = and-left (ltb t n && ltb h n) (not (eqb t h) && not (eqb h root)) can in
-    let d = and-right (ltb t n && ltb h n) (not (eqb t h) && not (eqb h root)) can in
+    let k = ends n root t h (and-left (can-be-arc n root t h) (not (eqb x no-arc)) e) in
     record {
-      tail-below = ltb-true t n (and-left (ltb t n) (ltb h n) b);
-      head-below = ltb-true h n (and-right (ltb t n) (ltb h n) b);
-      distinct = eqb-false t h (not-true (eqb t h) (and-left (not (eqb t h)) (not (eqb h root)) d));
-      no-root = eqb-false h root (not-true (eqb h root) (and-right (not (eqb t h)) (not (eqb h root)) d));
-      there = eqb-false x no-arc (not-true (eqb x no-arc) (and-right ((ltb t n && ltb h n) && (not (eqb t h) && not (eqb h root))) (not (eqb x no-arc)) e));
+      tail-below = k .tail-below;
+      head-below = k .head-below;
+      distinct = eqb-false t h (k .differ);
+      no-root = eqb-false h root (k .not-root);
+      there = eqb-false x no-arc (not-true (eqb x no-arc) (and-right (can-be-arc n root t h) (not (eqb x no-arc)) e));
     }
 
 of-arc : (n root x t h : ℕ) → Arc n root x t h → can-be-arc n root t h && not (eqb x no-arc) ≡ true
@@ -45,32 +41,13 @@ unfolding can-be-arc
 of-arc n root x t h a = rw (lt-ltb t n (a .tail-below), lt-ltb h n (a .head-below), ne-eqb t h (a .distinct), ne-eqb h root (a .no-root), ne-eqb x no-arc (a .there))
 
 module _ (n root : ℕ) (ws : List ℕ) where
-  none-pinned : (t h : ℕ) → other-pinned (unmarked n root ws) t h ≡ false
-  unfolding other-pinned is-pinned mark unmarked
-  none-pinned t h =
-      ⊎-elim
-      (λ (e : any-below n (λ g. not (eqb g t) && (is-arc (unmarked n root ws) g h && false)) ≡ true).
-      let f = any-found n (λ g. not (eqb g t) && (is-arc (unmarked n root ws) g h && false)) e in
-      let p = and-right (not (eqb (f .0) t)) (is-arc (unmarked n root ws) (f .0) h && false) (f .2) in
-      absurd (not-both false (and-right (is-arc (unmarked n root ws) (f .0) h) false p) refl))
-      (λ (e : any-below n (λ g. not (eqb g t) && (is-arc (unmarked n root ws) g h && false)) ≡ false). e)
-      (test (any-below n (λ g. not (eqb g t) && (is-arc (unmarked n root ws) g h && false))))
-
-  pub all-remain : (t h : ℕ) → remaining (unmarked n root ws) t h ≡ is-arc (unmarked n root ws) t h
-  unfolding remaining mark unmarked
-  all-remain t h = rw (none-pinned t h) (go (is-arc (unmarked n root ws) t h))
-    where
-      go : (b : Bool) → b && true ≡ b
-      go true = refl
-      go false = refl
-
   pub remaining-arc : (t h : ℕ) → remaining (unmarked n root ws) t h ≡ true → Arc n root (getD ws (cell t h) no-arc) t h
   unfolding is-arc weight unmarked
-  remaining-arc t h r = arc-of n root (getD ws (cell t h) no-arc) t h (sym (all-remain t h) ∙ r)
+  remaining-arc t h r = arc-of n root (getD ws (cell t h) no-arc) t h (sym (unmarked-remaining n root ws t h) ∙ r)
 
   pub arc-remaining : (t h : ℕ) → Arc n root (getD ws (cell t h) no-arc) t h → remaining (unmarked n root ws) t h ≡ true
   unfolding is-arc weight unmarked
-  arc-remaining t h a = all-remain t h ∙ of-arc n root (getD ws (cell t h) no-arc) t h a
+  arc-remaining t h a = unmarked-remaining n root ws t h ∙ of-arc n root (getD ws (cell t h) no-arc) t h a
 
   module _ (small : n ≤ max-vertices) (size : length ws ≡ cells) (fits : (i : ℕ) → i < cells → getD ws i no-arc ≤ no-arc) where
     abbrev at : ℕ → ℕ → ℕ

@@ -3,41 +3,32 @@
 use mathlib.Core.Path.{_≡_, refl}
 use mathlib.Core.Bool.{Bool, true, false, _&&_, not, cond}
 use mathlib.Core.List.{List, [], _∷_, map}
-use Prim.Native.Nat.{ℕ, suc, _<_}
+use Prim.Native.Nat.{ℕ, suc}
 use native.Mathlib.Omega.{arith}
-use lib.Dec.{ltb, leb, eqb}
-use borrow.Author.Tests.{ltb-true, leb-true, not-true}
+use lib.Dec.{leb}
+use borrow.Author.Tests.{leb-true, not-true}
 use Rattle.base.specs.Bounded.{all-below, any-below, sum-below}
 use Rattle.base.specs.Lists.{tabulate-from, tabulate, select, any-of, all-of}
-use Rattle.base.proofs.Tests.{and-left, and-right}
 use Rattle.base.proofs.BoundedLaws.{all-at}
-use Rattle.instance.specs.Limits.{no-arc, pinned, banned}
+use Rattle.instance.specs.Limits.{pinned, banned}
 use Rattle.instance.specs.Instance.{Instance, weight, mark, can-be-arc, is-arc}
 use Rattle.instance.specs.Arborescence.{is-pinned, other-pinned, remaining, reaches, parent-ok, is-arborescence, total, uses}
 use Rattle.instance.specs.Candidates.{prefixed, choices, candidates-from, candidates, arborescences, lesser, least-total, cheapest}
 use Rattle.instance.specs.Cuts.{Cut, cuts-from, cuts-in, inside, enters, charged, values, set-ok, sets-ok, all-positive, Proves, reduced-cost, No-entry}
 use Rattle.instance.specs.States.{plan, outcome-at, outcome, fits, fitting, state-over, state, states}
 use Rattle.instance.proofs.WorkedCases.{At, arc, filled, instance-of, instance-q, two, optimal-in, computed}
+use Rattle.instance.proofs.ArcLaws.{remaining-ends}
 
 -- A TABLE OF CELLS: a test of every remaining arc, computed, holds of every remaining arc
 unfoldable each-remaining : Instance → (P : (tail head : ℕ) → Bool) → Bool
 each-remaining s P = all-below (s .n) (λ t. all-below (s .n) (λ h. cond (remaining s t h) (P t h) true))
 
-remaining-below : (s : Instance) (t h : ℕ) → remaining s t h ≡ true → (t < s .n) × (h < s .n)
-unfolding remaining is-arc can-be-arc
-remaining-below s t h r =
-    let can =
-    and-left (can-be-arc (s .n) (s .root) t h) (not (eqb (weight s t h) no-arc))
-    (and-left (is-arc s t h) (not (eqb (mark s t h) banned) && not (other-pinned s t h)) r) in
-    let both = and-left (ltb t (s .n) && ltb h (s .n)) (not (eqb t h) && not (eqb h (s .root))) can in
-    (ltb-true t (s .n) (and-left (ltb t (s .n)) (ltb h (s .n)) both), ltb-true h (s .n) (and-right (ltb t (s .n)) (ltb h (s .n)) both))
-
 at-remaining : (s : Instance) (P : ℕ → ℕ → Bool) → each-remaining s P ≡ true → (t h : ℕ) → remaining s t h ≡ true → P t h ≡ true
 unfolding each-remaining
 at-remaining s P e t h r =
-    let l = remaining-below s t h r in
-    let row = all-at (s .n) (λ u. all-below (s .n) (λ v. cond (remaining s u v) (P u v) true)) t (l .0) e in
-    rw r at (all-at (s .n) (λ v. cond (remaining s t v) (P t v) true) h (l .1) row)
+    let l = remaining-ends s t h r in
+    let row = all-at (s .n) (λ u. all-below (s .n) (λ v. cond (remaining s u v) (P u v) true)) t (l .tail-below) e in
+    rw r at (all-at (s .n) (λ v. cond (remaining s t v) (P t v) true) h (l .head-below) row)
 
 abbrev cut : (set value : ℕ) → Cut
 cut c v = record { set = c; value = v }

@@ -2,6 +2,7 @@
 pub mod WorkedCases
 pub mod Edges
 pub mod WorkedValidity
+pub mod ArcLaws
 pub mod ValidLaws
 pub mod SameInstances
 pub mod LimitLaws

@@ -26,6 +26,13 @@ module _ (s : Instance) (v : valid-instance s ≡ true) where
   unfolding valid-instance
   header = and-left (header-valid (s .n) (s .root) (s .budget)) (all-below cells (cell-valid s)) v
 
+  pub valid-some : 1 ≤ s .n
+  unfolding header-valid
+  valid-some =
+      leb-true 1 (s .n)
+      (and-left (leb 1 (s .n)) (leb (s .n) max-vertices)
+      (and-left (leb 1 (s .n) && leb (s .n) max-vertices) (ltb (s .root) (s .n) && leb (s .budget) max-budget) header))
+
   pub valid-small : s .n ≤ max-vertices
   unfolding header-valid
   valid-small =

@@ -1,21 +1,20 @@
 -- From what planning found and what was copied out to what a look promises. Assumes nothing.
 use mathlib.Core.Path.{_≡_, refl, sym, ap, _∙_}
-use mathlib.Core.Bool.{true, false, _&&_, _||_}
+use mathlib.Core.Bool.{true, false, _||_}
 use mathlib.Core.List.{List, _∷_, _++_}
 use Prim.Native.Nat.{ℕ, zero, suc, _+_, _*_, _-_, _/_, _%_, _≤_}
 use native.Mathlib.Omega.{arith}
 use lib.ListN.{length, getD, take, drop, replicate, length-append, length-drop, length-replicate, List·getD-append}
 use lib.Seq.{take-at, drop-at, length-take-le, drop-append-le}
-use lib.Dec.{ltb, leb}
+use lib.Dec.{ltb}
 use borrow.Author.Tests.{ltb-false}
-use Rattle.base.specs.Lists.{tabulate, all-of}
-use Rattle.base.proofs.Tests.{and-left, or-false-left, or-false-right}
-use Rattle.instance.specs.Limits.{max-records, cut-words}
+use Rattle.base.specs.Lists.{tabulate}
+use Rattle.base.proofs.Tests.{or-false-left, or-false-right}
+use Rattle.instance.specs.Limits.{cut-words}
 use Rattle.instance.specs.Instance.{Instance}
 use Rattle.instance.specs.Cuts.{Cut, cuts-from, cuts-in, Proves}
 use Rattle.instance.specs.States.{Outcome, plan, over, no-tree, outcome, states}
-use Rattle.instance.specs.Valid.{valid-instance}
-use Rattle.board.specs.Model.{Model, valid, record-ok}
+use Rattle.board.specs.Model.{valid}
 use Rattle.board.specs.ModelOf.{model-of, instance-of}
 use Rattle.board.specs.declared.Board.{Board}
 use Rattle.states.specs.Table.{state-by}
@@ -122,7 +121,3 @@ rooms n a b c e =
       for-states = ltb-false b (n * n) (or-false-left Q R r);
       for-cuts = ltb-false c cut-words (or-false-right Q R r);
     }
-
-pub valid-fields : (m : Model) → valid m ≡ true → valid-instance (m .instance) ≡ true
-unfolding valid
-valid-fields m e = and-left (valid-instance (m .instance)) (leb (length (m .history)) max-records && all-of (record-ok (m .instance)) (m .history)) e

@@ -25,7 +25,7 @@ use Rattle.board.specs.declared.Board.{Board}
 use Rattle.planner.specs.declared.Opened.{Opened}
 use Rattle.planner.specs.Calls.{opened-from}
 use Rattle.planner.proofs.Learnt.{Opened-by, opened-by, Wrote, wrote}
-use Rattle.planner.proofs.LookLaws.{valid-fields}
+use Rattle.board.proofs.ValidLaws.{valid-fields}
 use Rattle.planner.proofs.OpenLaws.{opened-starts, opened-answer, opened-instance}
 
 card-length : (ws : List ℕ) → card-refusal ws ≡ 0 → length ws ≡ bytes-needed (instance-in ws .n)

@@ -17,7 +17,7 @@ use Rattle.instance.specs.States.{Outcome, plan, over, no-tree, outcome, states
 use Rattle.instance.specs.Valid.{valid-instance}
 use Rattle.instance.proofs.ValidLaws.{valid-small}
 use Rattle.theory.proofs.StateLaws.{states-read}
-use Rattle.card.specs.Card.{card-refusal, instance-in}
+use Rattle.card.specs.Card.{card-refusal}
 use Rattle.card.proofs.OpensLaws.{card-refusal-most}
 use Rattle.board.specs.Model.{valid}
 use Rattle.board.specs.ModelOf.{model-of, instance-of}
@@ -26,7 +26,7 @@ use Rattle.planner.specs.declared.View.{View}
 use Rattle.planner.specs.declared.Opened.{Opened}
 use Rattle.planner.specs.Calls.{opened-from}
 use Rattle.planner.specs.Look.{Buffers, view, pairs, too-short, Parents-shown, Shows, Looks-at, Looks}
-use Rattle.planner.proofs.LookLaws.{valid-fields}
+use Rattle.board.proofs.ValidLaws.{valid-fields}
 use Rattle.planner.proofs.CallSteps.{looks-valid}
 use Rattle.planner.proofs.OpenLaws.{opened-answer, opened-starts, opened-instance}
 use Rattle.report_text.specs.declared.Found.{Found}

@@ -18,7 +18,8 @@ use Rattle.instance.specs.States.{Outcome, plan, over, no-tree, outcome, states
 use Rattle.instance.specs.Valid.{cell-ok, cell-valid, valid-instance}
 use Rattle.instance.proofs.ValidLaws.{valid-small, valid-root, valid-budget, valid-cells}
 use Rattle.theory.specs.Readings.{Least-total}
-use Rattle.theory.proofs.ArborescenceLaws.{arc-ends, arc-weight, remaining-arc, joined}
+use Rattle.instance.proofs.ArcLaws.{arc-ends, arc-weight, remaining-arc}
+use Rattle.theory.proofs.ArborescenceLaws.{joined}
 use Rattle.theory.proofs.StateLaws.{states-read}
 use Rattle.theory.proofs.OutcomeLaws.{outcome-reads}
 use Rattle.report_text.specs.Text.{report-text, max-text}

@@ -14,7 +14,7 @@ use Rattle.instance.specs.Limits.{no-arc, pinned, cells}
 use Rattle.instance.specs.Instance.{Instance, cell, can-be-arc, is-arc, weight, mark}
 use Rattle.instance.specs.Arborescence.{is-pinned, remaining}
 use Rattle.instance.specs.Matrix.{unmarked}
-use Rattle.theory.proofs.ArborescenceLaws.{Ends, ends, remaining-ends}
+use Rattle.instance.proofs.ArcLaws.{Ends, ends, remaining-ends}
 
 pub cell-within : (n r t h : ℕ) → can-be-arc n r t h ≡ true → n ≤ 32 → cell t h < cells
 cell-within n r t h e l = let k = ends n r t h e in omega arith

@@ -14,7 +14,8 @@ use Rattle.base.specs.Bounded.{sum-below}
 use Rattle.base.proofs.Tests.{test, not-both}
 use Rattle.instance.specs.Instance.{Instance, weight}
 use Rattle.instance.specs.Arborescence.{remaining, parent, reaches, is-arborescence, total}
-use Rattle.theory.proofs.ArborescenceLaws.{remaining-ends, parents-size, root-parent, joined, make-arborescence}
+use Rattle.instance.proofs.ArcLaws.{remaining-ends}
+use Rattle.theory.proofs.ArborescenceLaws.{parents-size, root-parent, joined, make-arborescence}
 use Rattle.contraction.proofs.Steps.{enough}
 use Rattle.states.specs.Walks.{Rooted, Below, Avoids, Way, start, onward}
 use Rattle.states.proofs.WalkLaws.{avoids-up, avoids-same, avoids-below, way-below, parent-other, parent-same, walk-changed, reach-root}

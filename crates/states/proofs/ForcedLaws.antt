@@ -19,10 +19,10 @@ use Rattle.instance.specs.Arborescence.{remaining, is-arborescence, total, uses
 use Rattle.instance.specs.Cuts.{Cut, cuts-in, values, Feasible, No-entry}
 use Rattle.instance.specs.Matrix.{unmarked}
 use Rattle.theory.specs.Usable.{restricted, forced}
-use Rattle.theory.proofs.ArborescenceLaws.{ends, remaining-ends}
+use Rattle.instance.proofs.ArcLaws.{ends, remaining-ends, unmarked-remaining}
 use Rattle.theory.proofs.Duality.{weak-duality, no-entry}
 use Rattle.theory.proofs.SameArcs.{Same-arcs, same-back, same-arborescence, same-total}
-use Rattle.theory.proofs.Restriction.{unmarked-remaining, restricted-remaining, restricted-same-weight, restricted-total}
+use Rattle.theory.proofs.Restriction.{restricted-remaining, restricted-same-weight, restricted-total}
 use Rattle.theory.proofs.Forced.{forced-arborescence}
 use Rattle.edmonds.specs.Planned.{Planned-matrix}
 use Rattle.states.specs.Tree.{Matrix-ok}

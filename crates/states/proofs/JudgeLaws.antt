@@ -16,10 +16,10 @@ use Rattle.instance.specs.Cuts.{reduced-cost}
 use Rattle.instance.specs.Matrix.{unmarked}
 use Rattle.instance.specs.States.{fits}
 use Rattle.theory.specs.Usable.{usable}
-use Rattle.theory.proofs.ArborescenceLaws.{arc-ends, arc-weight, root-parent}
+use Rattle.instance.proofs.ArcLaws.{arc-ends, arc-weight, unmarked-remaining}
+use Rattle.theory.proofs.ArborescenceLaws.{root-parent}
 use Rattle.theory.proofs.StateLaws.{fits-arborescence, fits-total, make-fits}
 use Rattle.theory.proofs.SameArcs.{same-back, same-feasible}
-use Rattle.theory.proofs.Restriction.{unmarked-remaining}
 use Rattle.theory.proofs.Usable.{usable-some, usable-none, lost-unusable, reduced-unusable}
 use Rattle.contraction.proofs.Unmarked.{arc-remaining}
 use Rattle.states.specs.Tree.{Matrix-ok}

@@ -13,7 +13,7 @@ use Rattle.instance.specs.Limits.{no-arc, banned, cells}
 use Rattle.instance.specs.Instance.{Instance, weight-at, mark-at, can-be-arc, is-arc, weight, mark}
 use Rattle.instance.specs.Arborescence.{remaining}
 use Rattle.instance.specs.Matrix.{matrix, matrix-where}
-use Rattle.theory.proofs.ArborescenceLaws.{ends}
+use Rattle.instance.proofs.ArcLaws.{ends}
 use Rattle.states.specs.Pins.{Pins, allows}
 use Rattle.states.proofs.CellLaws.{cell-of}
 use Rattle.states.proofs.PinLaws.{pins-weight}

@@ -17,7 +17,7 @@ use Rattle.base.proofs.BoundedLaws.{any-found, any-intro}
 use Rattle.instance.specs.Limits.{no-arc, cells}
 use Rattle.instance.specs.Instance.{cell, can-be-arc}
 use Rattle.instance.specs.Arborescence.{parent, uses}
-use Rattle.theory.proofs.ArborescenceLaws.{ends}
+use Rattle.instance.proofs.ArcLaws.{ends}
 use Rattle.base.proofs.CountingLaws.{count-more, count-one, sum-one}
 use Rattle.states.specs.Table.{is-used, in-tree, Entered, Counts, state-by}
 use Rattle.base.proofs.FillingLaws.{ltb-more, filled-none, filled-more}

@@ -1,53 +1,17 @@
--- What an arc, a remaining arc and an arborescence are, taken apart and put together. Assumes nothing.
+-- What an arborescence is, taken apart and put together. Assumes nothing.
 use mathlib.Core.Path.{_≡_, refl, sym, _∙_}
-use mathlib.Core.Bool.{Bool, true, false, _&&_, not, cond}
+use mathlib.Core.Bool.{Bool, true, false, _&&_, cond}
 use mathlib.Core.List.{List}
 use Prim.Native.Nat.{ℕ, _<_}
-use lib.Dec.{ltb, eqb}
+use lib.Dec.{eqb}
 use lib.ListN.{length}
-use borrow.Author.Tests.{ltb-true, eqb-true, eq-eqb, not-true}
+use borrow.Author.Tests.{eqb-true, eq-eqb}
 use Rattle.base.specs.Bounded.{all-below}
 use Rattle.base.proofs.Tests.{and-left, and-right, and-both}
 use Rattle.base.proofs.BoundedLaws.{all-at, all-intro}
-use Rattle.instance.specs.Limits.{no-arc, banned, no-parent}
-use Rattle.instance.specs.Instance.{Instance, weight, mark, can-be-arc, is-arc}
-use Rattle.instance.specs.Arborescence.{other-pinned, remaining, parent, reaches, parent-ok, is-arborescence, uses}
-
--- ARCS
--- the ends of a cell where an arc can be
-pub record Ends (n r t h : ℕ) : Type 0 where
-  pub tail-below : t < n
-  pub head-below : h < n
-  pub differ : eqb t h ≡ false
-  pub not-root : eqb h r ≡ false
-
-pub ends : (n r t h : ℕ) → can-be-arc n r t h ≡ true → Ends n r t h
-unfolding can-be-arc
-ends n r t h e =
-    let below = and-left (ltb t n && ltb h n) (not (eqb t h) && not (eqb h r)) e in
-    let apart = and-right (ltb t n && ltb h n) (not (eqb t h) && not (eqb h r)) e in
-    record {
-      tail-below = ltb-true t n (and-left (ltb t n) (ltb h n) below);
-      head-below = ltb-true h n (and-right (ltb t n) (ltb h n) below);
-      differ = not-true (eqb t h) (and-left (not (eqb t h)) (not (eqb h r)) apart);
-      not-root = not-true (eqb h r) (and-right (not (eqb t h)) (not (eqb h r)) apart);
-    }
-
-module _ (s : Instance) (t h : ℕ) where
-  pub arc-ends : is-arc s t h ≡ true → Ends (s .n) (s .root) t h
-  unfolding is-arc
-  arc-ends e = ends (s .n) (s .root) t h (and-left (can-be-arc (s .n) (s .root) t h) (not (eqb (weight s t h) no-arc)) e)
-
-  pub arc-weight : is-arc s t h ≡ true → eqb (weight s t h) no-arc ≡ false
-  unfolding is-arc
-  arc-weight e = not-true (eqb (weight s t h) no-arc) (and-right (can-be-arc (s .n) (s .root) t h) (not (eqb (weight s t h) no-arc)) e)
-
-  pub remaining-arc : remaining s t h ≡ true → is-arc s t h ≡ true
-  unfolding remaining
-  remaining-arc e = and-left (is-arc s t h) (not (eqb (mark s t h) banned) && not (other-pinned s t h)) e
-
-  pub remaining-ends : remaining s t h ≡ true → Ends (s .n) (s .root) t h
-  remaining-ends e = arc-ends (remaining-arc e)
+use Rattle.instance.specs.Limits.{no-parent}
+use Rattle.instance.specs.Instance.{Instance}
+use Rattle.instance.specs.Arborescence.{remaining, parent, reaches, parent-ok, is-arborescence, uses}
 
 -- ARBORESCENCES
 module _ (s : Instance) (ps : List ℕ) where

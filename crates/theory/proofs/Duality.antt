@@ -21,7 +21,8 @@ use Rattle.instance.specs.Instance.{Instance, weight}
 use Rattle.instance.specs.Arborescence.{remaining, parent, reaches, is-arborescence, total, uses}
 use Rattle.instance.specs.Cuts.{Cut, inside, enters, charged, values, set-ok, sets-ok, Feasible, reduced-cost, No-entry}
 use Rattle.instance.specs.States.{bound, fits}
-use Rattle.theory.proofs.ArborescenceLaws.{remaining-ends, joined}
+use Rattle.instance.proofs.ArcLaws.{remaining-ends}
+use Rattle.theory.proofs.ArborescenceLaws.{joined}
 use Rattle.theory.proofs.StateLaws.{fits-arborescence, fits-total}
 
 -- a set below 2 ^ n that is not empty has a member below n

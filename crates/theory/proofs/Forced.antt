@@ -9,7 +9,7 @@ use borrow.Author.Tests.{eqb-true, eq-eqb}
 use Rattle.instance.specs.Instance.{Instance}
 use Rattle.instance.specs.Arborescence.{remaining, parent, is-arborescence, uses}
 use Rattle.theory.specs.Usable.{restricted, forced}
-use Rattle.theory.proofs.ArborescenceLaws.{remaining-ends}
+use Rattle.instance.proofs.ArcLaws.{remaining-ends}
 use Rattle.theory.proofs.Restriction.{restricted-arborescence}
 
 module _ (s : Instance) (t₀ h₀ : ℕ) (small : s .n ≤ 32) (r : remaining s t₀ h₀ ≡ true) where

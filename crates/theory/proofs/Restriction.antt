@@ -8,29 +8,18 @@ use Prim.Native.Nat.{ℕ, _+_, _*_, _/_, _%_, _≤_, _<_}
 use native.Mathlib.Omega.{arith}
 use lib.Dec.{eqb}
 use borrow.Author.Tests.{eq-eqb}
-use Rattle.base.proofs.Tests.{not-both, is-true, same-test, and-left, and-right, and-both, and-false-right}
-use Rattle.base.proofs.BoundedLaws.{any-false, sum-eq}
+use Rattle.base.proofs.Tests.{not-both, is-true, same-test, and-left, and-right, and-both}
+use Rattle.base.proofs.BoundedLaws.{sum-eq}
 use Rattle.base.proofs.ListLaws.{getD-tabulate}
 use Rattle.instance.specs.Limits.{no-arc, cells}
-use Rattle.instance.specs.Instance.{Instance, weight-at, weight, mark, can-be-arc, is-arc}
-use Rattle.instance.specs.Arborescence.{is-pinned, other-pinned, remaining, parent, is-arborescence, total}
+use Rattle.instance.specs.Instance.{Instance, weight-at, weight, can-be-arc, is-arc}
+use Rattle.instance.specs.Arborescence.{remaining, parent, is-arborescence, total}
 use Rattle.instance.specs.Cuts.{Cut, Proves, No-entry}
 use Rattle.instance.specs.Matrix.{matrix-where, matrix, unmarked}
 use Rattle.theory.specs.Usable.{restricted}
-use Rattle.theory.proofs.ArborescenceLaws.{arc-ends, arc-weight, remaining-arc, remaining-ends, parents-size, root-parent, joined, make-arborescence}
+use Rattle.instance.proofs.ArcLaws.{arc-ends, arc-weight, remaining-arc, remaining-ends, unmarked-remaining}
+use Rattle.theory.proofs.ArborescenceLaws.{parents-size, root-parent, joined, make-arborescence}
 use Rattle.theory.proofs.SameArcs.{Same-arcs, same-back, same-arborescence, same-total, same-proves, same-no-entry}
-
--- an unmarked instance has no pins
-unmarked-other : (n r : ℕ) (ws : List ℕ) (t h : ℕ) → other-pinned (unmarked n r ws) t h ≡ false
-unfolding unmarked other-pinned is-pinned mark
-unmarked-other n r ws t h =
-    any-false n (λ g. not (eqb g t) && is-pinned (unmarked n r ws) g h)
-    (λ g l. and-false-right (not (eqb g t)) (is-pinned (unmarked n r ws) g h) (and-false-right (is-arc (unmarked n r ws) g h) false refl))
-
-pub unmarked-remaining : (n r : ℕ) (ws : List ℕ) (t h : ℕ) → remaining (unmarked n r ws) t h ≡ is-arc (unmarked n r ws) t h
-unfolding unmarked remaining mark
-unmarked-remaining n r ws t h =
-    rw (unmarked-other n r ws t h) (and-true (is-arc (unmarked n r ws) t h))
 
 module _ (s : Instance) (q : ℕ → ℕ → Bool) (small : s .n ≤ 32) where
   pub restricted-weight : (t h : ℕ) → t < 32 → h < 32 → weight (restricted s q) t h ≡ cond (remaining s t h && q t h) (weight s t h) no-arc

@@ -14,7 +14,7 @@ use Rattle.instance.specs.States.{Outcome, outcome, fits, fitting, state-over, 
 use Rattle.instance.specs.Same.{Same-instance}
 use Rattle.instance.proofs.SameInstances.{same-turned, same-is-arc, same-arc-weight, same-remaining}
 use Rattle.theory.specs.Readings.{Least-total, No-arborescence, Outcome-reads}
-use Rattle.theory.proofs.ArborescenceLaws.{remaining-arc}
+use Rattle.instance.proofs.ArcLaws.{remaining-arc}
 use Rattle.theory.proofs.SameArcs.{Same-arcs, same-arborescence, same-total}
 use Rattle.theory.proofs.OutcomeLaws.{outcome-reads, outcome-only}
 use Rattle.theory.proofs.StateLaws.{fits-arborescence, fits-total, make-fits, states-tabulate}

@@ -17,7 +17,8 @@ use Rattle.instance.specs.Cuts.{Cut, values, Feasible, reduced-cost}
 use Rattle.instance.specs.States.{bound, fits, fitting, state-over, state}
 use Rattle.theory.specs.Readings.{Some-uses, None-uses, All-use}
 use Rattle.theory.specs.Usable.{usable}
-use Rattle.theory.proofs.ArborescenceLaws.{arc-ends, remaining-ends, joined, uses-one, uses-parent, uses-remains}
+use Rattle.instance.proofs.ArcLaws.{arc-ends, remaining-ends}
+use Rattle.theory.proofs.ArborescenceLaws.{joined, uses-one, uses-parent, uses-remains}
 use Rattle.theory.proofs.CandidateLaws.{any-selected, all-selected, none-passes}
 use Rattle.theory.proofs.StateLaws.{fits-arborescence, state-reads}
 use Rattle.theory.proofs.Duality.{reduced-excludes}

@@ -7,7 +7,7 @@ use borrow.Author.Needs.{needs}
 use Rattle.instance.specs.Instance.{mark}
 use Rattle.board.specs.Model.{accepted, refused, with-mark}
 use Rattle.board.specs.ModelOf.{instance-of, model-of, mark-refusal}
-use Rattle.board.proofs.ArcLaws.{Can-be-arc, arc-can-be}
+use Rattle.instance.proofs.ArcLaws.{Ends, arc-ends}
 use Rattle.board.proofs.BoardLaws.{length-history}
 use Rattle.board.proofs.CommandLaws.{Unrefused, unrefused, mark-refusal-of, mark-accepted, mark-refused}
 use Rattle.board.proofs.commands.set_mark.Statement.{statement}
@@ -31,8 +31,8 @@ allowed c =
     let a = start (c .before) .args in
     unrefused (instance-of (a .t1)) (length (model-of (a .t1) .history)) (a .tail) (a .head) (sym (number (c .before)) ∙ c .if1 .left)
 
-arc : (c : tie.Else1) → let a = start (c .before) .args in Can-be-arc (a .t1 .n) (a .t1 .root) (a .tail) (a .head)
-arc c = let a = start (c .before) .args in arc-can-be (instance-of (a .t1)) (a .tail) (a .head) (allowed c .arc)
+arc : (c : tie.Else1) → let a = start (c .before) .args in Ends (a .t1 .n) (a .t1 .root) (a .tail) (a .head)
+arc c = let a = start (c .before) .args in arc-ends (instance-of (a .t1)) (a .tail) (a .head) (allowed c .arc)
 
 mark-refusal-requires : tie.Need-mark-refusal-requires
 mark-refusal-requires c κs = search needs

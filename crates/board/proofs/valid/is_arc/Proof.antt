@@ -2,7 +2,8 @@
 use mathlib.Core.Path.{sym, _∙_}
 use native.Mathlib.Omega.{arith}
 use borrow.Author.Needs.{needs}
-use Rattle.board.proofs.ArcLaws.{can-be, arc-cell, arc-read, arc-not}
+use Rattle.instance.proofs.ArcLaws.{ends}
+use Rattle.board.proofs.ArcLaws.{arc-cell, arc-read, arc-not}
 use Rattle.board.proofs.valid.is_arc.Statement.{statement}
 use Rattle.board.proofs.valid.is_arc.Tie as tie
 
@@ -12,7 +13,7 @@ can-be-arc-requires c κs = search needs
 mul-i : tie.Need-mul-i
 mul-i c =
     let a = c .before .before .args in
-    omega (arith, can-be (a .n) (a .root) (a .tail) (a .head) (sym (c .before .can-be-arc .ensures) ∙ c .if1 .taken))
+    omega (arith, ends (a .n) (a .root) (a .tail) (a .head) (sym (c .before .can-be-arc .ensures) ∙ c .if1 .taken))
 
 add-i : tie.Need-add-i
 add-i c =

@@ -8,10 +8,10 @@ use Rattle.board.specs.Model.{valid}
 use Rattle.board.specs.ModelOf.{model-of, instance-of}
 use Rattle.board.specs.declared.Board.{Board}
 use Rattle.board.proofs.BoardLaws.{Known, known}
-use Rattle.board.proofs.ValidLaws.{Valid, valid-parts}
+use Rattle.board.proofs.ValidLaws.{Valid, valid-fields, valid-parts}
 use Rattle.states.proofs.ShowLaws.{states-shown}
 use Rattle.planner.specs.Look.{too-short}
-use Rattle.planner.proofs.LookLaws.{shows, looks-invalid, looks-short, looks-shown, Rooms, rooms, valid-fields}
+use Rattle.planner.proofs.LookLaws.{shows, looks-invalid, looks-short, looks-shown, Rooms, rooms}
 use Rattle.planner.proofs.inspect.look.Statement.{statement}
 use Rattle.planner.proofs.inspect.look.Tie as tie
 
