@@ -140,9 +140,7 @@ fn charge(row: &mut [u32; 32], j: usize, n: usize) -> Option<(u32, usize)> {
         return None;
     }
     for x in row[..n].iter_mut() {
-        if *x != INF {
-            *x -= best;
-        }
+        *x = if *x == INF { INF } else { *x - best };
     }
     Some((best, from))
 }
