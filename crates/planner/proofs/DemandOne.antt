@@ -40,12 +40,12 @@ pub data Given : ℕ → Type 0 where
   by-replaying : {ws ks fs gs : List ℕ} {v : View} {xs xs′ : List ℕ} {old new : Buffers} → Replayed ws ks fs gs v xs xs′ old new → Given (answer-of v)
 
 -- what a refusal leaves as it was; a card that is refused gives the blank board
-abbrev pub Kept : {a : ℕ} → Given a → Type 0
-Kept (by-open-card {o = o} p) = o .board ≡ blank
-Kept (by-command {b = b} {r = r} p) = r .board ≡ b
-Kept (by-looking {old = old} {new = new} p) = new ≡ old
-Kept (by-write-card {out = out} {out′ = out′} p) = out′ ≡ out
-Kept (by-replaying {old = old} {new = new} p) = new ≡ old
+abbrev pub As-before : {a : ℕ} → Given a → Type 0
+As-before (by-open-card {o = o} p) = o .board ≡ blank
+As-before (by-command {b = b} {r = r} p) = r .board ≡ b
+As-before (by-looking {old = old} {new = new} p) = new ≡ old
+As-before (by-write-card {out = out} {out′ = out′} p) = out′ ≡ out
+As-before (by-replaying {old = old} {new = new} p) = new ≡ old
 
 -- COMMANDS
 mark-answers : (p q r : Bool) (b : Model) (y : Result) → y .answer ≤ 15 → cond p (refused 9 b) (cond q (refused 10 b) (cond r (refused 12 b) y)) .answer ≤ 15
@@ -127,23 +127,23 @@ replays-at-most zero true t cs k v xs xs′ old new l r = let e = ap answer-of (
 replays-at-most zero false true cs k v xs xs′ old new l r = let e = ap answer-of (r .1 .result) in omega arith
 replays-at-most zero false false cs k v xs xs′ old new l r = let e = shown-answer (effective (calls-after false cs k)) v old new (r .1) in omega arith
 
--- WHAT IS KEPT
-opened-kept : (ws : List ℕ) (o : Opened) → o ≡ opened-from ws → (o .answer ≡ 0 → ⊥) → o .board ≡ blank
+-- AFTER A REFUSAL
+opened-as-before : (ws : List ℕ) (o : Opened) → o ≡ opened-from ws → (o .answer ≡ 0 → ⊥) → o .board ≡ blank
 unfolding opened-from
-opened-kept ws o e n =
+opened-as-before ws o e n =
     let z : card-refusal ws ≡ 0 → ⊥ = λ z. n (opened-answer ws o e ∙ z) in
     let q : o ≡ opened-with (card-refusal ws) blank = e ∙ rw (ne-eqb (card-refusal ws) 0 z) in
     ap (λ (x : Opened). x .board) q
 
-looks-at-kept : (g t : Bool) (s : Instance) (v : View) (old new : Buffers) → Looks-at g t s v old new → (answer-of v ≡ 0 → ⊥) → new ≡ old
+looks-at-as-before : (g t : Bool) (s : Instance) (v : View) (old new : Buffers) → Looks-at g t s v old new → (answer-of v ≡ 0 → ⊥) → new ≡ old
 unfolding Looks-at
-looks-at-kept false t s v old new u n = u .buffers
-looks-at-kept true true s v old new u n = u .buffers
-looks-at-kept true false s v old new x n = absurd (n (shown-answer s v old new x))
+looks-at-as-before false t s v old new u n = u .buffers
+looks-at-as-before true true s v old new u n = u .buffers
+looks-at-as-before true false s v old new x n = absurd (n (shown-answer s v old new x))
 
-writes-kept : (b : Board) (r : Written) (out out′ : List ℕ) → Writes b r out out′ → (r .number ≡ 0 → ⊥) → out′ ≡ out
+writes-as-before : (b : Board) (r : Written) (out out′ : List ℕ) → Writes b r out out′ → (r .number ≡ 0 → ⊥) → out′ ≡ out
 unfolding written buffer-after
-writes-kept b r out out′ w n = go (valid (model-of b)) (ltb (length out) (bytes-needed (b .n))) (w .result) (w .buffer)
+writes-as-before b r out out′ w n = go (valid (model-of b)) (ltb (length out) (bytes-needed (b .n))) (w .result) (w .buffer)
   where
     go : (g t : Bool)
         → r ≡ cond {A = Written} g (cond t (record { number = 14; length = 0 }) (record { number = 0; length = bytes-needed (b .n) })) (record { number = 15; length = 0 })
@@ -152,22 +152,22 @@ writes-kept b r out out′ w n = go (valid (model-of b)) (ltb (length out) (byte
     go true false e q = absurd (n (ap (λ (x : Written). x .number) e))
     go false t e q = q
 
-replays-at-kept :
+replays-at-as-before :
     (a : ℕ) (u t : Bool) (cs : List Call) (k : Log) (v : View) (xs xs′ : List ℕ) (old new : Buffers) → Replays-at a u t cs k v xs xs′ old new → (answer-of v ≡ 0 → ⊥) → new ≡ old
 unfolding Replays-at
-replays-at-kept (suc a) u t cs k v xs xs′ old new r n = r .1 .buffers
-replays-at-kept zero true t cs k v xs xs′ old new r n = r .1 .buffers
-replays-at-kept zero false true cs k v xs xs′ old new r n = r .1 .buffers
-replays-at-kept zero false false cs k v xs xs′ old new r n = absurd (n (shown-answer (effective (calls-after false cs k)) v old new (r .1)))
+replays-at-as-before (suc a) u t cs k v xs xs′ old new r n = r .1 .buffers
+replays-at-as-before zero true t cs k v xs xs′ old new r n = r .1 .buffers
+replays-at-as-before zero false true cs k v xs xs′ old new r n = r .1 .buffers
+replays-at-as-before zero false false cs k v xs xs′ old new r n = absurd (n (shown-answer (effective (calls-after false cs k)) v old new (r .1)))
 
-kept : {a : ℕ} (g : Given a) → (a ≡ 0 → ⊥) → Kept g
+as-before : {a : ℕ} (g : Given a) → (a ≡ 0 → ⊥) → As-before g
 unfolding Looks Replays
-kept (by-open-card {ws = ws} {o = o} p) n = opened-kept ws o (opened-by p) n
-kept (by-command p) n = called-answers p .unchanged n
-kept (by-looking {b = b} {v = v} {old = old} {new = new} p) n =
-    looks-at-kept (valid (model-of b)) (short-for (b .n) old) (instance-of b) v old new (looked p) n
-kept (by-write-card {b = b} {r = r} {out = out} {out′ = out′} p) n = writes-kept b r out out′ (wrote p) n
-kept (by-replaying {ws = ws} {v = v} {xs = xs} {xs′ = xs′} {old = old} {new = new} p) n = replays-at-kept (card-refusal ws) _ _ _ _ v xs xs′ old new (replayed p) n
+as-before (by-open-card {ws = ws} {o = o} p) n = opened-as-before ws o (opened-by p) n
+as-before (by-command p) n = called-answers p .unchanged n
+as-before (by-looking {b = b} {v = v} {old = old} {new = new} p) n =
+    looks-at-as-before (valid (model-of b)) (short-for (b .n) old) (instance-of b) v old new (looked p) n
+as-before (by-write-card {b = b} {r = r} {out = out} {out′ = out′} p) n = writes-as-before b r out out′ (wrote p) n
+as-before (by-replaying {ws = ws} {v = v} {xs = xs} {xs′ = xs′} {old = old} {new = new} p) n = replays-at-as-before (card-refusal ws) _ _ _ _ v xs xs′ old new (replayed p) n
 
 -- EVERY ANSWER IS LISTED
 listed : {a : ℕ} → Given a → a ≤ 15
@@ -180,5 +180,5 @@ listed (by-write-card {b = b} {r = r} {out = out} {out′ = out′} p) = writes-
 listed (by-replaying {ws = ws} {v = v} {xs = xs} {xs′ = xs′} {old = old} {new = new} p) =
     replays-at-most (card-refusal ws) _ _ _ _ v xs xs′ old new (card-refusal-most ws) (replayed p)
 
-pub demand-1 : {a : ℕ} (g : Given a) → (a ≤ 15) × ((a ≡ 0 → ⊥) → Kept g)
-demand-1 g = (listed g, kept g)
+pub demand-1 : {a : ℕ} (g : Given a) → (a ≤ 15) × ((a ≡ 0 → ⊥) → As-before g)
+demand-1 g = (listed g, as-before g)
