@@ -1,19 +1,16 @@
 -- A loop that stores one element a turn, from the front: what is said of each element. Assumes nothing.
-use mathlib.Core.Path.{_≡_, refl, sym, _∙_}
+use mathlib.Core.Path.{_≡_}
 use mathlib.Core.Bool.{true, false}
 use mathlib.Core.Logic.{_≢_, ⊎-elim}
-use mathlib.Core.List.{List, [], _∷_, _++_, append-assoc}
-use Prim.Native.Nat.{ℕ, suc, _+_, _<_}
+use mathlib.Core.List.{List}
+use Prim.Native.Nat.{ℕ, _+_, _<_}
 use native.Mathlib.Omega.{arith}
 use native.Mathlib.Decide.{ℕ-discrete}
-use native.Mathlib.Numerals.{add-one}
 use lib.Dec.{ltb}
-use lib.ListN.{length, getD, set, drop}
-use lib.Seq.{getD-set-same, getD-set-other, set-at, drop-cons}
+use lib.ListN.{length, getD, set}
+use lib.Seq.{getD-set-same, getD-set-other}
 use borrow.Author.Tests.{ltb-true, ltb-false, lt-ltb, le-ltb}
-use Rattle.base.specs.Lists.{tabulate, tabulate-from}
 use Rattle.base.proofs.Tests.{test}
-use Rattle.base.proofs.ListLaws.{length-tabulate, tabulate-more}
 
 -- a bound that has grown by one
 pub ltb-more : (v h : ℕ) → h ≢ v → ltb h (v + 1) ≡ ltb h v
@@ -32,14 +29,3 @@ module _ (P : (i v : ℕ) → Type 0) where
       at : Dec (i ≡ k) → P i (getD (set l k v) i 0)
       at (yes e) = rw (e, getD-set-same l k v 0 b) p
       at (no e) = rw (getD-set-other l k i v 0 e) (h i (omega arith))
-
--- a caller's buffer that is filled from the front by index
-pub front-none : (g : ℕ → ℕ) (old : List ℕ) → old ≡ tabulate 0 g ++ drop 0 old
-unfolding tabulate tabulate-from
-front-none g old = refl
-
-pub front-more : (out old : List ℕ) (k v : ℕ) (g : ℕ → ℕ) → k < length old → out ≡ tabulate k g ++ drop k old → v ≡ g k
-    → set out k v ≡ tabulate (k + 1) g ++ drop (k + 1) old
-front-more out old k v g h e q =
-    rw (e, q, tabulate-more k g, add-one, drop-cons old k 0 h)
-    (set-at (tabulate k g) (getD old k 0) (drop (suc k) old) (g k) k (length-tabulate k g) ∙ sym (append-assoc (tabulate k g) (g k ∷ []) (drop (suc k) old)))

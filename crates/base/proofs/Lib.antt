@@ -5,3 +5,4 @@ pub mod ListLaws
 pub mod AllOfLaws
 pub mod CountingLaws
 pub mod FillingLaws
+pub mod FrontLaws

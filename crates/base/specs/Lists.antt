@@ -1,7 +1,8 @@
 -- Lists made by index, and tests of a list's elements. Assumes nothing: these are definitions.
 use mathlib.Core.Bool.{Bool, true, false, _&&_, _||_, cond}
-use mathlib.Core.List.{List, [], _∷_}
+use mathlib.Core.List.{List, [], _∷_, _++_}
 use Prim.Native.Nat.{ℕ, zero, suc}
+use lib.ListN.{length, drop}
 
 -- g a, g (a + 1), and so on: count elements
 unfoldable pub tabulate-from : (count a : ℕ) → (g : ℕ → ℕ) → List ℕ
@@ -24,3 +25,7 @@ any-of q (x ∷ xs) = q x || any-of q xs
 unfoldable pub all-of : {A : Type 0} → (q : A → Bool) → List A → Bool
 all-of q [] = true
 all-of q (x ∷ xs) = q x && all-of q xs
+
+-- the front of a list replaced, the rest kept (document 01: "Bytes and words after those keep their contents.")
+abbrev pub in-front : (new old : List ℕ) → List ℕ
+in-front new old = new ++ drop (length new) old

@@ -15,7 +15,7 @@ use Rattle.instance.specs.Matrix.{unmarked}
 use Rattle.board.specs.Model.{Command, pin, ban, clear, set-budget, undo, old-mark, old-budget, Model, Result, with-mark, with-budget, restored, refused, accepted, marked, budgeted, undone, applied}
 use Rattle.board.specs.ModelOf.{mark-refusal}
 use Rattle.board.specs.Changes.{is-undo}
-use Rattle.board.proofs.ArcLaws.{arcs-of}
+use Rattle.board.proofs.RecordLaws.{arcs-of}
 
 -- REFUSED OR ACCEPTED: whatever holds of each refusal and of what is accepted holds of the result
 mark-chain :

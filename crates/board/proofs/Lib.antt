@@ -1,5 +1,5 @@
 -- Laws of the model and of lists of commands, and what they say of the program's own boards. Assumes nothing.
-pub mod ArcLaws
+pub mod RecordLaws
 pub mod CommandLaws
 pub mod ValidLaws
 pub mod ChangeLaws

@@ -18,11 +18,11 @@ use Rattle.base.proofs.BoundedLaws.{all-at, all-intro}
 use Rattle.instance.specs.Limits.{max-vertices, max-budget, free, pinned, banned, max-records, cells}
 use Rattle.instance.specs.Instance.{Instance, cell, weight, mark, can-be-arc, is-arc}
 use Rattle.instance.specs.Valid.{cell-ok, cell-valid, header-valid, valid-instance}
-use Rattle.instance.proofs.ValidLaws.{valid-some, valid-small, valid-root, valid-budget, valid-cells}
+use Rattle.instance.proofs.ValidLaws.{valid-some, valid-small, valid-root, valid-budget, valid-cells, arc-in-range}
 use Rattle.board.specs.Model.{Command, pin, ban, clear, set-budget, undo, Replaced, old-mark, old-budget, Model, opened, with-mark, with-budget, restored, refused, accepted, marked, budgeted, undone, applied, record-ok, valid, answered}
 use Rattle.board.specs.Changes.{is-undo}
 use Rattle.base.proofs.AllOfLaws.{all-of-first, all-of-rest, all-of-more}
-use Rattle.board.proofs.ArcLaws.{arc-in-range, records-ok-of, cells-valid-of}
+use Rattle.board.proofs.RecordLaws.{records-ok-of, cells-valid-of}
 use Rattle.board.proofs.CommandLaws.{mark-cases, budget-cases, undo-restores}
 
 -- what a valid board is, part by part

@@ -1,79 +1,20 @@
 // Whether a board is valid: every field in its range, no mark where there is no arc, at most 200 records, and each of them naming
 // an arc and restoring a mark or a budget in range (document 01, refusal 15).
 ghost use mathlib.Core.Path.{_≡_};
-ghost use Prim.Native.Nat.{_≤_, _<_};
+ghost use Prim.Native.Nat.{_≤_};
 ghost use lib.ListN.{length};
-ghost use Rattle.base.specs.Bounded.{all-below};
 ghost use Rattle.base.specs.Lists.{all-of};
-ghost use Rattle.instance.specs.Instance.{is-arc, instance-with};
 ghost use Rattle.instance.specs.Matrix.{unmarked};
-ghost use Rattle.instance.specs.Valid.{cell-ok, cell-valid, header-valid};
 ghost use Rattle.board.specs.Model.{record-ok, valid};
 ghost use Rattle.board.specs.ModelOf.{instance-of, replaced-of, history-of, model-of};
 use crate::Board;
 use crate::Replaced;
-use instance::can_be_arc;
+use instance::arc::is_arc;
 use instance::limits::BANNED;
-use instance::limits::FREE;
 use instance::limits::MAX_BUDGET;
 use instance::limits::MAX_RECORDS;
-use instance::limits::MAX_VERTICES;
-use instance::limits::MAX_WEIGHT;
-use instance::limits::NO_ARC;
-
-pub fn is_arc(weights: &[u32; 1024], n: u32, root: u32, tail: u32, head: u32) -> bool
-    requires { ⌜ (n ≤ 32) × (length (now weights) ≡ 1024) ⌝ }
-    ensures { λ r. ⌜ r ≡ is-arc (unmarked n root (now (weights .entry))) tail head ⌝ }
-{
-    if can_be_arc(n, root, tail, head) {
-        let i = (32 * tail + head) as usize;
-        return weights[i] != NO_ARC;
-    }
-    false
-}
-
-fn cell_ok(weight: u32, mark: u8) -> bool
-    ensures { λ r. ⌜ r ≡ cell-ok weight mark ⌝ }
-{
-    if weight <= MAX_WEIGHT {
-        return mark <= BANNED;
-    }
-    if weight == NO_ARC {
-        return mark == FREE;
-    }
-    false
-}
-
-fn cell_valid<'a>(
-    weights: &'a [u32; 1024],
-    marks: &'a [u8; 1024],
-    n: u32,
-    root: u32,
-    i: usize,
-) -> bool
-    requires { ⌜ i < 1024 ⌝ }
-    requires { ⌜ (length (now weights) ≡ 1024) × (length (now marks) ≡ 1024) ⌝ }
-    ensures { λ r. ⌜ r ≡ cell-valid (instance-with n root 0 (now (weights .entry)) (now (marks .entry))) i ⌝ }
-{
-    if can_be_arc(n, root, (i / 32) as u32, (i % 32) as u32) {
-        return cell_ok(weights[i], marks[i]);
-    }
-    true
-}
-
-fn cells_valid<'a>(weights: &'a [u32; 1024], marks: &'a [u8; 1024], n: u32, root: u32) -> bool
-    requires { ⌜ (length (now weights) ≡ 1024) × (length (now marks) ≡ 1024) ⌝ }
-    ensures { λ r. ⌜ r ≡ all-below 1024 (cell-valid (instance-with n root 0 (now (weights .entry)) (now (marks .entry)))) ⌝ }
-{
-    let mut k: usize = 1024;
-    while 0 < k {
-        k -= 1;
-        if !cell_valid(weights, marks, n, root, k) {
-            return false;
-        }
-    }
-    true
-}
+use instance::valid::cells_valid;
+use instance::valid::header_valid;
 
 fn record_ok(replaced: Replaced, weights: &[u32; 1024], n: u32, root: u32) -> bool
     requires { ⌜ (n ≤ 32) × (length (now weights) ≡ 1024) ⌝ }
@@ -107,21 +48,6 @@ fn records_valid(b: Board) -> bool
         }
     }
     true
-}
-
-fn header_valid(n: u32, root: u32, budget: u32) -> bool
-    ensures { λ r. ⌜ r ≡ header-valid n root budget ⌝ }
-{
-    if n < 1 {
-        return false;
-    }
-    if MAX_VERTICES < n {
-        return false;
-    }
-    if n <= root {
-        return false;
-    }
-    budget <= MAX_BUDGET
 }
 
 // What may be judged depends on what was judged before: cells on n and root, records on n and the count.

@@ -6,7 +6,7 @@ ghost use Rattle.bits.specs.Bits.{bits-in};
 ghost use Rattle.card.specs.Card.{on-card, cell-refusal};
 ghost use Rattle.card.specs.Offsets.{offset};
 ghost use Rattle.card.specs.Reading.{Cell-read, Cells-read};
-use instance::can_be_arc;
+use instance::arc::can_be_arc;
 use instance::limits::MAX_WEIGHT;
 use instance::limits::NO_ARC;
 

@@ -1,14 +1,17 @@
--- What an arc and a remaining arc are, taken apart; with no marks every arc remains. Assumes nothing.
+-- What an arc and a remaining arc are, taken apart; an arc as a program reads it; with no marks every arc remains. Assumes nothing.
 use mathlib.Core.Path.{_≡_, refl}
 use mathlib.Core.Bool.{true, false, _&&_, not, and-true}
 use mathlib.Core.List.{List}
-use Prim.Native.Nat.{ℕ, _<_}
+use Prim.Native.Nat.{ℕ, _≤_, _<_}
+use native.Mathlib.Omega.{arith}
 use lib.Dec.{ltb, eqb}
+use lib.ListN.{length, getD}
 use borrow.Author.Tests.{ltb-true, not-true}
 use Rattle.base.proofs.Tests.{and-left, and-right, and-false-right}
 use Rattle.base.proofs.BoundedLaws.{any-false}
-use Rattle.instance.specs.Limits.{no-arc, banned}
-use Rattle.instance.specs.Instance.{Instance, weight, mark, can-be-arc, is-arc}
+use Rattle.base.proofs.ListLaws.{default}
+use Rattle.instance.specs.Limits.{max-vertices, no-arc, banned, cells}
+use Rattle.instance.specs.Instance.{Instance, cell, weight, mark, can-be-arc, is-arc}
 use Rattle.instance.specs.Arborescence.{is-pinned, other-pinned, remaining}
 use Rattle.instance.specs.Matrix.{unmarked}
 
@@ -46,6 +49,22 @@ module _ (s : Instance) (t h : ℕ) where
 
   pub remaining-ends : remaining s t h ≡ true → Ends (s .n) (s .root) t h
   remaining-ends e = arc-ends (remaining-arc e)
+
+-- AS A PROGRAM READS IT: an array has 1,024 elements, so what is read past its end (0 there, no arc in the definitions) never matters
+pub arc-cell : (n r t h : ℕ) → n ≤ max-vertices → can-be-arc n r t h ≡ true → cell t h < cells
+arc-cell n r t h l e = let k = ends n r t h e in omega arith
+
+pub arc-read :
+    (n r : ℕ) (ws : List ℕ) (t h : ℕ) → n ≤ max-vertices → length ws ≡ cells → can-be-arc n r t h ≡ true →
+    not (eqb (getD ws (cell t h) 0) no-arc) ≡ is-arc (unmarked n r ws) t h
+unfolding is-arc weight unmarked
+arc-read n r ws t h l k e =
+    let b : cell t h < length ws = omega (arith, arc-cell n r t h l e) in
+    rw (e, default ws (cell t h) 0 no-arc b)
+
+pub arc-not : (n r : ℕ) (ws : List ℕ) (t h : ℕ) → can-be-arc n r t h ≡ false → false ≡ is-arc (unmarked n r ws) t h
+unfolding is-arc unmarked
+arc-not n r ws t h e = rw e
 
 -- an unmarked instance has no pins
 unmarked-other : (n r : ℕ) (ws : List ℕ) (t h : ℕ) → other-pinned (unmarked n r ws) t h ≡ false

@@ -15,7 +15,8 @@ use Rattle.instance.specs.Instance.{Instance, weight, mark, can-be-arc, 
 use Rattle.instance.specs.Arborescence.{is-pinned, other-pinned, remaining, reaches, parent-ok, is-arborescence, total, uses}
 use Rattle.instance.specs.Candidates.{prefixed, choices, candidates-from, candidates, arborescences, lesser, least-total, cheapest}
 use Rattle.instance.specs.Cuts.{Cut, cuts-from, cuts-in, inside, enters, charged, values, set-ok, sets-ok, all-positive, Proves, reduced-cost, No-entry}
-use Rattle.instance.specs.States.{plan, outcome-at, outcome, fits, fitting, state-over, state, states}
+use Rattle.instance.specs.declared.Outcome.the-variants.{Plan}
+use Rattle.instance.specs.States.{outcome-at, outcome, fits, fitting, state-over, state, states}
 use Rattle.instance.proofs.WorkedCases.{At, arc, filled, instance-of, instance-q, two, optimal-in, computed}
 use Rattle.instance.proofs.ArcLaws.{remaining-ends}
 
@@ -151,7 +152,7 @@ root-two =
     instance-of 3 2 3 (arc 2 0 0 ∷ arc 0 1 0 ∷ arc 2 1 3 ∷ arc 1 0 4 ∷ arc 0 2 7 ∷ arc 1 1 0 ∷ arc 3 1 0 ∷ [])
     (arc 0 2 pinned ∷ arc 1 1 pinned ∷ arc 3 1 pinned ∷ [])
 
-pub root-two-worked : computed root-two ≡ record { gives = plan 0; optimal = (2 ∷ 0 ∷ 255 ∷ []) ∷ []; shows = 0 ∷ 2 ∷ 0 ∷ 1 ∷ 0 ∷ 0 ∷ 3 ∷ 2 ∷ 0 ∷ [] }
+pub root-two-worked : computed root-two ≡ record { gives = Plan 0; optimal = (2 ∷ 0 ∷ 255 ∷ []) ∷ []; shows = 0 ∷ 2 ∷ 0 ∷ 1 ∷ 0 ∷ 0 ∷ 3 ∷ 2 ∷ 0 ∷ [] }
 unfolding
     computed root-two instance-of filled optimal-in all-below any-below sum-below tabulate-from tabulate select any-of all-of weight mark can-be-arc
     is-arc is-pinned other-pinned remaining reaches parent-ok is-arborescence total uses prefixed choices candidates-from candidates arborescences

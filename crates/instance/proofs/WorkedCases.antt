@@ -11,7 +11,9 @@ use Rattle.instance.specs.Limits.{no-arc, pinned, banned, free, cells}
 use Rattle.instance.specs.Instance.{Instance, cell, weight, mark, can-be-arc, is-arc}
 use Rattle.instance.specs.Arborescence.{is-pinned, other-pinned, remaining, reaches, parent-ok, is-arborescence, total, uses}
 use Rattle.instance.specs.Candidates.{prefixed, choices, candidates-from, candidates, arborescences, lesser, least-total, cheapest}
-use Rattle.instance.specs.States.{Outcome, plan, over, no-tree, outcome-at, outcome, fits, fitting, state-over, states}
+use Rattle.instance.specs.declared.Outcome.{Outcome}
+use Rattle.instance.specs.declared.Outcome.the-variants.{Plan, Over, NoTree}
+use Rattle.instance.specs.States.{outcome-at, outcome, fits, fitting, state-over, states}
 
 -- an arc with its weight, or its mark
 pub record At : Type 0 where
@@ -51,9 +53,9 @@ pub record Case : Type 0 where
   pub row : Row
 
 unfoldable pub optimal-in : Instance → Outcome → List (List ℕ)
-optimal-in s (plan v) = select (λ ps. eqb (total s ps) v) (arborescences s)
-optimal-in s (over v) = select (λ ps. eqb (total s ps) v) (arborescences s)
-optimal-in s no-tree = []
+optimal-in s (Plan v) = select (λ ps. eqb (total s ps) v) (arborescences s)
+optimal-in s (Over v) = select (λ ps. eqb (total s ps) v) (arborescences s)
+optimal-in s NoTree = []
 
 unfoldable pub computed : Instance → Row
 computed s = record { gives = outcome s; optimal = optimal-in s (outcome s); shows = states s }
@@ -62,23 +64,23 @@ computed s = record { gives = outcome s; optimal = optimal-in s (outcome s); sho
 unfoldable pub cases : (b : ℕ) → List Case
 cases b =
     -- P1, P2: 2→3 closed, the other seven open
-    record { of = instance-q 16 []; row = record { gives = plan 15; optimal = (255 ∷ 0 ∷ 1 ∷ 1 ∷ []) ∷ []; shows = 0 ∷ 2 ∷ 2 ∷ 2 ∷ 0 ∷ 0 ∷ 2 ∷ 2 ∷ 0 ∷ 2 ∷ 0 ∷ 1 ∷ 0 ∷ 2 ∷ 0 ∷ 0 ∷ [] } } ∷
+    record { of = instance-q 16 []; row = record { gives = Plan 15; optimal = (255 ∷ 0 ∷ 1 ∷ 1 ∷ []) ∷ []; shows = 0 ∷ 2 ∷ 2 ∷ 2 ∷ 0 ∷ 0 ∷ 2 ∷ 2 ∷ 0 ∷ 2 ∷ 0 ∷ 1 ∷ 0 ∷ 2 ∷ 0 ∷ 0 ∷ [] } } ∷
     -- P3: 0→1, 1→2, 1→3 sure, others closed
-    record { of = instance-q 15 []; row = record { gives = plan 15; optimal = (255 ∷ 0 ∷ 1 ∷ 1 ∷ []) ∷ []; shows = 0 ∷ 3 ∷ 1 ∷ 1 ∷ 0 ∷ 0 ∷ 3 ∷ 3 ∷ 0 ∷ 1 ∷ 0 ∷ 1 ∷ 0 ∷ 1 ∷ 0 ∷ 0 ∷ [] } } ∷
+    record { of = instance-q 15 []; row = record { gives = Plan 15; optimal = (255 ∷ 0 ∷ 1 ∷ 1 ∷ []) ∷ []; shows = 0 ∷ 3 ∷ 1 ∷ 1 ∷ 0 ∷ 0 ∷ 3 ∷ 3 ∷ 0 ∷ 1 ∷ 0 ∷ 1 ∷ 0 ∷ 1 ∷ 0 ∷ 0 ∷ [] } } ∷
     -- P4: over 15
-    record { of = instance-q 14 []; row = record { gives = over 15; optimal = (255 ∷ 0 ∷ 1 ∷ 1 ∷ []) ∷ []; shows = 0 ∷ 1 ∷ 1 ∷ 1 ∷ 0 ∷ 0 ∷ 1 ∷ 1 ∷ 0 ∷ 1 ∷ 0 ∷ 1 ∷ 0 ∷ 1 ∷ 0 ∷ 0 ∷ [] } } ∷
+    record { of = instance-q 14 []; row = record { gives = Over 15; optimal = (255 ∷ 0 ∷ 1 ∷ 1 ∷ []) ∷ []; shows = 0 ∷ 1 ∷ 1 ∷ 1 ∷ 0 ∷ 0 ∷ 1 ∷ 1 ∷ 0 ∷ 1 ∷ 0 ∷ 1 ∷ 0 ∷ 1 ∷ 0 ∷ 0 ∷ [] } } ∷
     -- P5: 2→1 pinned: all three sure
-    record { of = instance-q 16 (arc 2 1 pinned ∷ []); row = record { gives = plan 16; optimal = (255 ∷ 2 ∷ 0 ∷ 1 ∷ []) ∷ []; shows = 0 ∷ 1 ∷ 3 ∷ 1 ∷ 0 ∷ 0 ∷ 1 ∷ 3 ∷ 0 ∷ 3 ∷ 0 ∷ 1 ∷ 0 ∷ 1 ∷ 0 ∷ 0 ∷ [] } } ∷
+    record { of = instance-q 16 (arc 2 1 pinned ∷ []); row = record { gives = Plan 16; optimal = (255 ∷ 2 ∷ 0 ∷ 1 ∷ []) ∷ []; shows = 0 ∷ 1 ∷ 3 ∷ 1 ∷ 0 ∷ 0 ∷ 1 ∷ 3 ∷ 0 ∷ 3 ∷ 0 ∷ 1 ∷ 0 ∷ 1 ∷ 0 ∷ 0 ∷ [] } } ∷
     -- P6: 0→1 banned: 2→3 and 0→1 closed, six open
-    record { of = instance-q 16 (arc 0 1 banned ∷ []); row = record { gives = plan 16; optimal = (255 ∷ 2 ∷ 0 ∷ 1 ∷ []) ∷ (255 ∷ 3 ∷ 1 ∷ 0 ∷ []) ∷ []; shows = 0 ∷ 1 ∷ 2 ∷ 2 ∷ 0 ∷ 0 ∷ 2 ∷ 2 ∷ 0 ∷ 2 ∷ 0 ∷ 1 ∷ 0 ∷ 2 ∷ 0 ∷ 0 ∷ [] } } ∷
+    record { of = instance-q 16 (arc 0 1 banned ∷ []); row = record { gives = Plan 16; optimal = (255 ∷ 2 ∷ 0 ∷ 1 ∷ []) ∷ (255 ∷ 3 ∷ 1 ∷ 0 ∷ []) ∷ []; shows = 0 ∷ 1 ∷ 2 ∷ 2 ∷ 0 ∷ 0 ∷ 2 ∷ 2 ∷ 0 ∷ 2 ∷ 0 ∷ 1 ∷ 0 ∷ 2 ∷ 0 ∷ 0 ∷ [] } } ∷
     -- P7: 2→1 and 1→2 pinned: none, and no budget is named
-    record { of = instance-q b (arc 2 1 pinned ∷ arc 1 2 pinned ∷ []); row = record { gives = no-tree; optimal = []; shows = 0 ∷ 1 ∷ 1 ∷ 1 ∷ 0 ∷ 0 ∷ 1 ∷ 1 ∷ 0 ∷ 1 ∷ 0 ∷ 1 ∷ 0 ∷ 1 ∷ 0 ∷ 0 ∷ [] } } ∷
+    record { of = instance-q b (arc 2 1 pinned ∷ arc 1 2 pinned ∷ []); row = record { gives = NoTree; optimal = []; shows = 0 ∷ 1 ∷ 1 ∷ 1 ∷ 0 ∷ 0 ∷ 1 ∷ 1 ∷ 0 ∷ 1 ∷ 0 ∷ 1 ∷ 0 ∷ 1 ∷ 0 ∷ 0 ∷ [] } } ∷
     -- P8: n = 1, budget 0
-    record { of = instance-of 1 0 0 [] []; row = record { gives = plan 0; optimal = (255 ∷ []) ∷ []; shows = 0 ∷ [] } } ∷
+    record { of = instance-of 1 0 0 [] []; row = record { gives = Plan 0; optimal = (255 ∷ []) ∷ []; shows = 0 ∷ [] } } ∷
     -- P9: link sure
-    record { of = two 5 []; row = record { gives = plan 5; optimal = (255 ∷ 0 ∷ []) ∷ []; shows = 0 ∷ 3 ∷ 0 ∷ 0 ∷ [] } } ∷
+    record { of = two 5 []; row = record { gives = Plan 5; optimal = (255 ∷ 0 ∷ []) ∷ []; shows = 0 ∷ 3 ∷ 0 ∷ 0 ∷ [] } } ∷
     -- P10
-    record { of = two 4 []; row = record { gives = over 5; optimal = (255 ∷ 0 ∷ []) ∷ []; shows = 0 ∷ 1 ∷ 0 ∷ 0 ∷ [] } } ∷ []
+    record { of = two 4 []; row = record { gives = Over 5; optimal = (255 ∷ 0 ∷ []) ∷ []; shows = 0 ∷ 1 ∷ 0 ∷ 0 ∷ [] } } ∷ []
 
 -- THE CLAIM
 pub worked : (b : ℕ) → map (λ c. computed (c .of)) (cases b) ≡ map (λ c. c .row) (cases b)

@@ -1,5 +1,5 @@
 -- The outcome of an instance, and the state of each arc. Assumes nothing: these are definitions.
-use mathlib.Core.Bool.{Bool, _&&_, cond}
+use mathlib.Core.Bool.{Bool, true, false, _&&_, cond}
 use mathlib.Core.List.{List}
 use mathlib.Core.Option.{Option, none, some}
 use Prim.Native.Nat.{ℕ, _*_, _/_, _%_}
@@ -8,17 +8,19 @@ use Rattle.base.specs.Lists.{tabulate, select, any-of, all-of}
 use Rattle.instance.specs.Instance.{Instance, is-arc}
 use Rattle.instance.specs.Arborescence.{is-arborescence, total, uses}
 use Rattle.instance.specs.Candidates.{candidates, cheapest}
+use Rattle.instance.specs.declared.Outcome.{Outcome}
+use Rattle.instance.specs.declared.Outcome.the-variants.{Plan, Over, NoTree}
 
--- "plan with its total; over with the cheapest total; none"
-pub data Outcome : Type 0 where
-  plan : (total : ℕ) → Outcome
-  over : (total : ℕ) → Outcome
-  no-tree : Outcome
+-- which outcomes show a tree: feeders are 255 "everywhere when over or none", and after over or none "no feed lines follow"
+abbrev pub shows-tree : Outcome → Bool
+shows-tree (Plan v) = true
+shows-tree (Over v) = false
+shows-tree NoTree = false
 
--- within budget "if its total is at most the budget"
+-- "plan with its total; over with the cheapest total; none": the program's own enum, so that there is one. Within budget "if its total is at most the budget"
 unfoldable pub outcome-at : (budget : ℕ) → (cheapest : Option ℕ) → Outcome
-outcome-at b none = no-tree
-outcome-at b (some v) = cond (leb v b) (plan v) (over v)
+outcome-at b none = NoTree
+outcome-at b (some v) = cond (leb v b) (Plan v) (Over v)
 
 unfoldable pub outcome : Instance → Outcome
 outcome s = outcome-at (s .budget) (cheapest s)

@@ -1,8 +1,16 @@
-// The limits of document 01, the numbers that the planner's calls take, and where an arc can be.
-pub mod limits;
+// The problem in the program's terms: document 01's limits and refusals, vertices, cuts, marks and outcomes, and the checks of an
+// instance's fields. What the words mean is defined in specs/.
+pub mod arc; // arc.rt: where an arc can be, and where one is
+pub mod limits; // limits.rt: the numbers of document 01
+pub mod refusals; // refusals.rt: the refusals of document 01
+pub mod valid; // valid.rt: whether the fields of an instance are in range
 
 ghost use mathlib.Core.Path.{_≡_};
-ghost use Rattle.instance.specs.Instance.{can-be-arc};
+ghost use Rattle.instance.specs.Marks.{mark-number};
+ghost use Rattle.instance.specs.States.{shows-tree};
+use limits::BANNED;
+use limits::FREE;
+use limits::PINNED;
 
 // A vertex of an instance (document 01: a position). A vertex and a cut are kept apart, so that neither can be handed in where the
 // other is meant.
@@ -11,18 +19,37 @@ pub struct Vertex(pub u32);
 // The place of a cut among the cuts found, from 0.
 pub struct CutIndex(pub u32);
 
-// Whether there can be an arc from tail to head.
-pub fn can_be_arc(n: u32, root: u32, tail: u32, head: u32) -> bool
-    ensures { λ r. ⌜ r ≡ can-be-arc n root tail head ⌝ }
+// A mark to set. The cells of an instance hold its number.
+pub enum Mark {
+    Free,
+    Pinned,
+    Banned,
+}
+
+// What planning an instance comes to: the total of a plan, or the cheapest total where it is over the budget, or that there is no tree.
+pub enum Outcome {
+    Plan(u32),
+    Over(u32),
+    NoTree,
+}
+
+pub fn mark_number(mark: Mark) -> u8
+    ensures { λ r. ⌜ r ≡ mark-number mark ⌝ }
 {
-    if n <= tail {
-        return false;
+    match mark {
+        Mark::Free => FREE,
+        Mark::Pinned => PINNED,
+        Mark::Banned => BANNED,
     }
-    if n <= head {
-        return false;
+}
+
+// Whether a tree is shown with the outcome.
+pub fn shows_tree(outcome: Outcome) -> bool
+    ensures { λ r. ⌜ r ≡ shows-tree outcome ⌝ }
+{
+    match outcome {
+        Outcome::Plan(_) => true,
+        Outcome::Over(_) => false,
+        Outcome::NoTree => false,
     }
-    if tail == head {
-        return false;
-    }
-    head != root
 }

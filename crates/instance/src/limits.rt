@@ -20,5 +20,8 @@ pub const NO_PARENT: u8 = 255;
 
 pub const MAX_RECORDS: usize = 200;
 
+// Weights and marks are kept with a stride of 32: 32 times 32 cells.
+pub const CELLS: usize = 1024;
+
 // Words for 61 cuts, a set and a value each.
 pub const CUT_WORDS: usize = 122;

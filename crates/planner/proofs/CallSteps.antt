@@ -8,7 +8,9 @@ use lib.ListN.{length, drop, length-append, length-drop}
 use lib.Seq.{drop-at}
 use Rattle.instance.specs.Limits.{cut-words}
 use Rattle.instance.specs.Instance.{Instance}
-use Rattle.instance.specs.States.{Outcome, plan, over, no-tree, outcome, states}
+use Rattle.instance.specs.declared.Outcome.{Outcome}
+use Rattle.instance.specs.declared.Outcome.the-variants.{Plan, Over, NoTree}
+use Rattle.instance.specs.States.{outcome, states}
 use Rattle.theory.proofs.StateLaws.{states-read}
 use Rattle.board.specs.Model.{Command, Result, valid, applied, answered}
 use Rattle.board.specs.Log.{Log, note, unnoted}
@@ -60,9 +62,9 @@ since-then a b =
 
 -- a shown view is no refusal
 view-answers : (o : Outcome) (k : ℕ) → answer-of (view o k) ≡ 0
-view-answers (plan v) k = refl
-view-answers (over v) k = refl
-view-answers no-tree k = refl
+view-answers (Plan v) k = refl
+view-answers (Over v) k = refl
+view-answers NoTree k = refl
 
 -- A LOOK at a valid board: 14 exactly when a buffer is too short
 pub record Look-step (t : Bool) (n : ℕ) (v : View) (old new : Buffers) : Type 0 where

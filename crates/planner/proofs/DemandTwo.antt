@@ -11,7 +11,9 @@ use Rattle.instance.specs.Limits.{cut-words}
 use Rattle.instance.specs.Instance.{Instance}
 use Rattle.instance.specs.Arborescence.{is-arborescence, total}
 use Rattle.instance.specs.Cuts.{Cut, cuts-in, values}
-use Rattle.instance.specs.States.{Outcome, plan, over, no-tree, outcome}
+use Rattle.instance.specs.declared.Outcome.{Outcome}
+use Rattle.instance.specs.declared.Outcome.the-variants.{Plan, Over, NoTree}
+use Rattle.instance.specs.States.{outcome}
 use Rattle.theory.specs.Readings.{Outcome-reads}
 use Rattle.theory.proofs.Duality.{weak-duality, no-entry}
 use Rattle.theory.proofs.OutcomeLaws.{outcome-reads}
@@ -26,29 +28,29 @@ use Rattle.planner.proofs.Learnt.{Looked, looked}
 pub record Demand-2 (s : Instance) (v : View) (new : Buffers) : Type 0 where
   pub shown : v ≡ view (outcome s) (pairs v)
   pub right : Outcome-reads s (outcome s)
-  pub price : (w : ℕ) → (outcome s ≡ plan w) ⊎ (outcome s ≡ over w) → values (cuts-in (pairs v) (new .cuts)) ≡ w
+  pub price : (w : ℕ) → (outcome s ≡ Plan w) ⊎ (outcome s ≡ Over w) → values (cuts-in (pairs v) (new .cuts)) ≡ w
   pub cheapest : (ps : List ℕ) → is-arborescence s ps ≡ true → values (cuts-in (pairs v) (new .cuts)) ≤ total s ps
   pub tree : Parents-shown (outcome s) s (take (s .n) (new .parents))
   pub cuts : Cuts-shown (outcome s) s (cuts-in (pairs v) (new .cuts))
   pub zeros : take (cut-words - 2 * pairs v) (drop (2 * pairs v) (new .cuts)) ≡ replicate (cut-words - 2 * pairs v) 0
 
-plan-price : (o : Outcome) (s : Instance) (cs : List Cut) (w : ℕ) → Cuts-shown o s cs → o ≡ plan w → values cs ≡ w
+plan-price : (o : Outcome) (s : Instance) (cs : List Cut) (w : ℕ) → Cuts-shown o s cs → o ≡ Plan w → values cs ≡ w
 unfolding Cuts-shown
-plan-price (plan u) s cs w c e = c .adds ∙ cc
-plan-price (over u) s cs w c e = cc
-plan-price no-tree s cs w c e = cc
+plan-price (Plan u) s cs w c e = c .adds ∙ cc
+plan-price (Over u) s cs w c e = cc
+plan-price NoTree s cs w c e = cc
 
-over-price : (o : Outcome) (s : Instance) (cs : List Cut) (w : ℕ) → Cuts-shown o s cs → o ≡ over w → values cs ≡ w
+over-price : (o : Outcome) (s : Instance) (cs : List Cut) (w : ℕ) → Cuts-shown o s cs → o ≡ Over w → values cs ≡ w
 unfolding Cuts-shown
-over-price (plan u) s cs w c e = cc
-over-price (over u) s cs w c e = c .adds ∙ cc
-over-price no-tree s cs w c e = cc
+over-price (Plan u) s cs w c e = cc
+over-price (Over u) s cs w c e = c .adds ∙ cc
+over-price NoTree s cs w c e = cc
 
 no-cheaper : (o : Outcome) (s : Instance) (cs : List Cut) → Cuts-shown o s cs → (ps : List ℕ) → is-arborescence s ps ≡ true → values cs ≤ total s ps
 unfolding Cuts-shown
-no-cheaper (plan u) s cs c ps a = weak-duality s ps a cs (c .feasible)
-no-cheaper (over u) s cs c ps a = weak-duality s ps a cs (c .feasible)
-no-cheaper no-tree s cs c ps a = absurd (no-entry s ps a (c .0) (c .2))
+no-cheaper (Plan u) s cs c ps a = weak-duality s ps a cs (c .feasible)
+no-cheaper (Over u) s cs c ps a = weak-duality s ps a cs (c .feasible)
+no-cheaper NoTree s cs c ps a = absurd (no-entry s ps a (c .0) (c .2))
 
 pub demand-2 :
     (b : Board) (v : View) (old new : Buffers) → Looked b v old new → valid (model-of b) ≡ true → short-for (b .n) old ≡ false → Demand-2 (instance-of b) v new
@@ -60,7 +62,7 @@ demand-2 b v old new l g t =
     record {
       shown = x .result;
       right = outcome-reads s;
-      price = λ w e. ⊎-elim (λ (p : outcome s ≡ plan w). plan-price (outcome s) s cs w (x .cuts-shown) p) (λ (p : outcome s ≡ over w). over-price (outcome s) s cs w (x .cuts-shown) p) e;
+      price = λ w e. ⊎-elim (λ (p : outcome s ≡ Plan w). plan-price (outcome s) s cs w (x .cuts-shown) p) (λ (p : outcome s ≡ Over w). over-price (outcome s) s cs w (x .cuts-shown) p) e;
       cheapest = no-cheaper (outcome s) s cs (x .cuts-shown);
       tree = x .parents-shown;
       cuts = x .cuts-shown;

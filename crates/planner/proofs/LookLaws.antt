@@ -13,7 +13,9 @@ use Rattle.base.proofs.Tests.{or-false-left, or-false-right}
 use Rattle.instance.specs.Limits.{cut-words}
 use Rattle.instance.specs.Instance.{Instance}
 use Rattle.instance.specs.Cuts.{Cut, cuts-from, cuts-in, Proves}
-use Rattle.instance.specs.States.{Outcome, plan, over, no-tree, outcome, states}
+use Rattle.instance.specs.declared.Outcome.{Outcome}
+use Rattle.instance.specs.declared.Outcome.the-variants.{Plan, Over, NoTree}
+use Rattle.instance.specs.States.{outcome, states}
 use Rattle.board.specs.Model.{valid}
 use Rattle.board.specs.ModelOf.{model-of, instance-of}
 use Rattle.board.specs.declared.Board.{Board}
@@ -48,9 +50,9 @@ proved-few s k v ws h p = omega (arith, p .few, length-cuts k 0 ws)
 
 pub pairs-few : (o : Outcome) (s : Instance) (k : ℕ) (ws : List ℕ) → s .n ≤ 32 → Cuts-shown o s (cuts-in k ws) → 2 * k ≤ cut-words
 unfolding Cuts-shown cuts-in
-pairs-few (plan v) s k ws h c = proved-few s k v ws h c
-pairs-few (over v) s k ws h c = proved-few s k v ws h c
-pairs-few no-tree s k ws h c =
+pairs-few (Plan v) s k ws h c = proved-few s k v ws h c
+pairs-few (Over v) s k ws h c = proved-few s k v ws h c
+pairs-few NoTree s k ws h c =
     let e : k ≡ 1 = sym (length-cuts k 0 ws) ∙ ap length (c .1) in
     omega arith
 

@@ -10,7 +10,8 @@ use Rattle.instance.specs.Instance.{Instance, instance-with}
 use Rattle.instance.specs.Arborescence.{is-arborescence, total}
 use Rattle.instance.specs.Cuts.{Cut, cuts-from, cuts-in, Proves}
 use Rattle.instance.specs.Matrix.{matrix, unmarked}
-use Rattle.instance.specs.States.{plan, over, no-tree, outcome}
+use Rattle.instance.specs.declared.Outcome.the-variants.{Plan, Over, NoTree}
+use Rattle.instance.specs.States.{outcome}
 use Rattle.theory.proofs.Restriction.{matrix-arborescence, matrix-total, matrix-proves, matrix-no-entry}
 use Rattle.theory.proofs.Optimality.{proved-plan, proved-over, shut-outcome}
 use Rattle.edmonds.specs.Planned.{Planned-matrix}
@@ -66,7 +67,7 @@ module _ (s : Instance) (small : s .n ≤ 32) (reduced words ps : List ℕ) (fou
     unfolding Parents-shown Cuts-shown
     over-survey v e past =
         let q : v ≡ total s (take (s .n) ps) = e ∙ same-total in
-        let o : outcome s ≡ over v = proved-over s (take (s .n) ps) cs found-tree (found-proves .feasible) (found-proves .adds) (omega arith) ∙ ap over (sym q) in
+        let o : outcome s ≡ Over v = proved-over s (take (s .n) ps) cs found-tree (found-proves .feasible) (found-proves .adds) (omega arith) ∙ ap Over (sym q) in
         record {
           parents-size = refl;
           cuts-size = p .cuts-size;
@@ -83,7 +84,7 @@ module _ (s : Instance) (small : s .n ≤ 32) (reduced words ps : List ℕ) (fou
     unfolding Parents-shown Cuts-shown
     plan-survey v used e within table =
         let q : v ≡ total s (take (s .n) ps) = e ∙ same-total in
-        let o : outcome s ≡ plan v = proved-plan s (take (s .n) ps) cs found-tree (found-proves .feasible) (found-proves .adds) (omega arith) ∙ ap plan (sym q) in
+        let o : outcome s ≡ Plan v = proved-plan s (take (s .n) ps) cs found-tree (found-proves .feasible) (found-proves .adds) (omega arith) ∙ ap Plan (sym q) in
         record {
           parents-size = p .parents-size;
           cuts-size = p .cuts-size;
@@ -101,7 +102,7 @@ module _ (s : Instance) (small : s .n ≤ 32) (reduced words ps : List ℕ) (fou
   none-survey f =
       let x : Cut = record { set = c; value = 0 } in
       let e = matrix-no-entry s small x .0 (p .no-entry f) in
-      let o : outcome s ≡ no-tree = shut-outcome s x e in
+      let o : outcome s ≡ NoTree = shut-outcome s x e in
       record {
         parents-size = refl;
         cuts-size = refl;

@@ -10,7 +10,9 @@ use lib.ListN.{length, take, drop, replicate}
 use Rattle.instance.specs.Limits.{no-parent, cut-words}
 use Rattle.instance.specs.Instance.{Instance}
 use Rattle.instance.specs.Arborescence.{is-arborescence, total}
-use Rattle.instance.specs.States.{Outcome, plan, over, no-tree, outcome, states}
+use Rattle.instance.specs.declared.Outcome.{Outcome}
+use Rattle.instance.specs.declared.Outcome.the-variants.{Plan, Over, NoTree}
+use Rattle.instance.specs.States.{outcome, states}
 use Rattle.instance.specs.Cuts.{Cut, cuts-in, Proves, No-entry}
 use Rattle.board.specs.Model.{valid}
 use Rattle.board.specs.ModelOf.{model-of, instance-of}
@@ -22,9 +24,9 @@ use Rattle.planner.specs.declared.View.the-variants.{Plan, Over, NoTree,
 
 -- "plan with its total; over with the cheapest total; none"; "the number of pairs is in the result"
 abbrev pub view : Outcome → (pairs : ℕ) → View
-view (plan v) k = Plan v k
-view (over v) k = Over v k
-view no-tree k = NoTree k
+view (Plan v) k = Plan v k
+view (Over v) k = Over v k
+view NoTree k = NoTree k
 
 abbrev pub pairs : View → ℕ
 pairs (Plan v k) = k
@@ -57,15 +59,15 @@ short-for n x = too-short n (length (x .parents)) (length (x .states)) (length (
 
 -- "255 at the root, and everywhere when over or none"
 unfoldable pub Parents-shown : Outcome → Instance → (parents : List ℕ) → Type 0
-Parents-shown (plan v) s ps = (is-arborescence s ps ≡ true) × (total s ps ≡ v)
-Parents-shown (over v) s ps = ps ≡ replicate (s .n) no-parent
-Parents-shown no-tree s ps = ps ≡ replicate (s .n) no-parent
+Parents-shown (Plan v) s ps = (is-arborescence s ps ≡ true) × (total s ps ≡ v)
+Parents-shown (Over v) s ps = ps ≡ replicate (s .n) no-parent
+Parents-shown NoTree s ps = ps ≡ replicate (s .n) no-parent
 
 -- cuts that prove the cheapest total; or "exactly one pair": the set that no remaining arc enters
 unfoldable pub Cuts-shown : Outcome → Instance → List Cut → Type 0
-Cuts-shown (plan v) s cs = Proves s cs v
-Cuts-shown (over v) s cs = Proves s cs v
-Cuts-shown no-tree s cs = (c : Cut) × (cs ≡ c ∷ []) × No-entry s c
+Cuts-shown (Plan v) s cs = Proves s cs v
+Cuts-shown (Over v) s cs = Proves s cs v
+Cuts-shown NoTree s cs = (c : Cut) × (cs ≡ c ∷ []) × No-entry s c
 
 -- a look at an instance: the result, and the buffers before and after
 pub record Shows (s : Instance) (r : View) (old new : Buffers) : Type 0 where

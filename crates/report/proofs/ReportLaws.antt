@@ -13,7 +13,9 @@ use Rattle.base.proofs.Tests.{or-both-false}
 use Rattle.instance.specs.Limits.{cut-words}
 use Rattle.instance.specs.Instance.{Instance}
 use Rattle.instance.specs.Arborescence.{is-arborescence}
-use Rattle.instance.specs.States.{Outcome, plan, over, no-tree, outcome, states}
+use Rattle.instance.specs.declared.Outcome.{Outcome}
+use Rattle.instance.specs.declared.Outcome.the-variants.{Plan, Over, NoTree}
+use Rattle.instance.specs.States.{outcome, states}
 use Rattle.instance.specs.Valid.{valid-instance}
 use Rattle.instance.proofs.ValidLaws.{valid-small}
 use Rattle.theory.proofs.StateLaws.{states-read}
@@ -42,16 +44,16 @@ use Rattle.report_text.proofs.RoomLaws.{report-length}
 -- WHAT A LOOK FOUND
 found-outcome : (o : Outcome) (k : ℕ) → outcome-of (found-in (view o k)) ≡ o
 unfolding found-in outcome-of
-found-outcome (plan v) k = refl
-found-outcome (over v) k = refl
-found-outcome no-tree k = refl
+found-outcome (Plan v) k = refl
+found-outcome (Over v) k = refl
+found-outcome NoTree k = refl
 
 -- a plan's parents are those of an arborescence
-plan-parents : (o : Outcome) (s : Instance) (ps : List ℕ) (v : ℕ) → Parents-shown o s ps → o ≡ plan v → is-arborescence s ps ≡ true
+plan-parents : (o : Outcome) (s : Instance) (ps : List ℕ) (v : ℕ) → Parents-shown o s ps → o ≡ Plan v → is-arborescence s ps ≡ true
 unfolding Parents-shown
-plan-parents (plan w) s ps v p e = p .0
-plan-parents (over w) s ps v p e = cc
-plan-parents no-tree s ps v p e = cc
+plan-parents (Plan w) s ps v p e = p .0
+plan-parents (Over w) s ps v p e = cc
+plan-parents NoTree s ps v p e = cc
 
 -- buffers of 32 bytes, 1,024 bytes and 122 words are long enough
 enough : (n a b c : ℕ) → n ≤ 32 → 32 ≤ a → 1024 ≤ b → cut-words ≤ c → too-short n a b c ≡ false

@@ -10,7 +10,9 @@ use lib.ListN.{getD, take}
 use lib.Seq.{getD-take}
 use Rattle.instance.specs.Limits.{no-parent}
 use Rattle.instance.specs.Instance.{Instance, weight}
-use Rattle.instance.specs.States.{Outcome, plan, over, no-tree, states}
+use Rattle.instance.specs.declared.Outcome.{Outcome}
+use Rattle.instance.specs.declared.Outcome.the-variants.{Plan, Over, NoTree}
+use Rattle.instance.specs.States.{states}
 use Rattle.report_text.specs.Text.{decimal, join-below, feed-line, row-line, feed-at, feed-lines, row-lines, text, report-text}
 use Rattle.report_text.specs.Found.{weight-in}
 use Rattle.report_text.proofs.RowLaws.{row-in}
@@ -22,11 +24,11 @@ join-same (suc n) f g h = rw (join-same n f g (λ k l. h k (omega arith)), h n (
 
 feeds-same : (n r : ℕ) (o : Outcome) (ps : List ℕ) (w : ℕ → ℕ → ℕ) → feed-lines n r o ps w ≡ feed-lines n r o (take n ps) w
 unfolding feed-lines feed-at
-feeds-same n r (plan v) ps w =
+feeds-same n r (Plan v) ps w =
     join-same n (feed-at r ps w) (feed-at r (take n ps) w)
     (λ k l. ap (λ (t : ℕ). cond (eqb k r) [] (feed-line k t (w t k))) (sym (getD-take n ps k no-parent l)))
-feeds-same n r (over v) ps w = refl
-feeds-same n r no-tree ps w = refl
+feeds-same n r (Over v) ps w = refl
+feeds-same n r NoTree ps w = refl
 
 rows-same : (n : ℕ) (ss : List ℕ) → row-lines n ss ≡ row-lines n (take (n * n) ss)
 unfolding row-lines row-line

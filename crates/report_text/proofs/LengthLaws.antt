@@ -16,7 +16,8 @@ use lib.ListN.{length, getD, replicate, length-append}
 use Rattle.base.specs.Bounded.{sum-below}
 use Rattle.base.proofs.BoundedLaws.{sum-mono, sum-room}
 use Rattle.instance.specs.Arborescence.{parent}
-use Rattle.instance.specs.States.{Outcome, plan, over, no-tree}
+use Rattle.instance.specs.declared.Outcome.{Outcome}
+use Rattle.instance.specs.declared.Outcome.the-variants.{Plan, Over, NoTree}
 use Rattle.report_text.specs.Text.{codes, decimal-in, decimal, field, line, join-below, header-line, outcome-line, feed-line, row-line, feed-at, feed-lines, row-lines, text, refused-text, max-text}
 use Rattle.report_text.proofs.DecimalLaws.{decimal-length, length-few}
 
@@ -54,15 +55,15 @@ header-length n r b hn hb =
 
 -- the total that an outcome shows
 unfoldable pub total-in : Outcome → ℕ
-total-in (plan v) = v
-total-in (over v) = v
-total-in no-tree = 0
+total-in (Plan v) = v
+total-in (Over v) = v
+total-in NoTree = 0
 
 outcome-length : (o : Outcome) → total-in o < 10 ^ 8 → length (outcome-line o) ≤ 14
 unfolding outcome-line total-in codes
-outcome-length (plan v) h = let d = decimal-length 8 v (omega arith) h in omega (arith, line-length "plan " v)
-outcome-length (over v) h = let d = decimal-length 8 v (omega arith) h in omega (arith, line-length "over " v)
-outcome-length no-tree h = omega arith
+outcome-length (Plan v) h = let d = decimal-length 8 v (omega arith) h in omega (arith, line-length "plan " v)
+outcome-length (Over v) h = let d = decimal-length 8 v (omega arith) h in omega (arith, line-length "over " v)
+outcome-length NoTree h = omega arith
 
 feed-length : (h t w : ℕ) → t < 100 → w < 10 ^ 7 → length (feed-line h t w) ≤ 28 + length (decimal h)
 unfolding feed-line codes
@@ -147,15 +148,15 @@ rows-length n ss hn d =
     omega (arith, rows-most)
 
 -- THE TEXT
-all-feeds-length : (n r : ℕ) (o : Outcome) (ps : List ℕ) (w : ℕ → ℕ → ℕ) → n ≤ 32 → r < n → ((v : ℕ) → o ≡ plan v → Short-feeds n r ps w)
+all-feeds-length : (n r : ℕ) (o : Outcome) (ps : List ℕ) (w : ℕ → ℕ → ℕ) → n ≤ 32 → r < n → ((v : ℕ) → o ≡ Plan v → Short-feeds n r ps w)
     → length (feed-lines n r o ps w) + feed-most r ≤ 950
 unfolding feed-lines
-all-feeds-length n r (plan v) ps w hn hr short = feeds-length n r ps w hn hr (short v refl)
-all-feeds-length n r (over v) ps w hn hr short = let d = decimal-length 2 r (omega arith) (omega arith) in omega arith
-all-feeds-length n r no-tree ps w hn hr short = let d = decimal-length 2 r (omega arith) (omega arith) in omega arith
+all-feeds-length n r (Plan v) ps w hn hr short = feeds-length n r ps w hn hr (short v refl)
+all-feeds-length n r (Over v) ps w hn hr short = let d = decimal-length 2 r (omega arith) (omega arith) in omega arith
+all-feeds-length n r NoTree ps w hn hr short = let d = decimal-length 2 r (omega arith) (omega arith) in omega arith
 
 pub text-length : (n r b : ℕ) (o : Outcome) (ps ss : List ℕ) (w : ℕ → ℕ → ℕ) → n ≤ 32 → r < n → b < 10 ^ 8 → total-in o < 10 ^ 8
-    → ((v : ℕ) → o ≡ plan v → Short-feeds n r ps w) → Digits n ss → length (text n r b o ps ss w) ≤ max-text
+    → ((v : ℕ) → o ≡ Plan v → Short-feeds n r ps w) → Digits n ss → length (text n r b o ps ss w) ≤ max-text
 unfolding text
 text-length n r b o ps ss w hn hr hb ho short d =
     let e = length-append (header-line n r b ++ outcome-line o ++ feed-lines n r o ps w) (row-lines n ss) in
@@ -168,7 +169,7 @@ text-length n r b o ps ss w hn hr hb ho short d =
     omega arith
 
 -- no shorter buffer would do
-pub longest : length (text 32 0 31000000 (plan 31000000) (replicate 32 31) (replicate 1024 3) (λ t h. 1000000)) ≡ max-text
+pub longest : length (text 32 0 31000000 (Plan 31000000) (replicate 32 31) (replicate 1024 3) (λ t h. 1000000)) ≡ max-text
 unfolding
     codes decimal-in decimal field line join-below header-line outcome-line feed-line row-line feed-at feed-lines row-lines text
 longest = refl

@@ -14,7 +14,9 @@ use Rattle.base.proofs.BoundedLaws.{all-at, sum-room}
 use Rattle.instance.specs.Limits.{max-weight, no-arc, max-budget, free, banned, cells}
 use Rattle.instance.specs.Instance.{Instance, cell, mark-at, weight, can-be-arc, is-arc}
 use Rattle.instance.specs.Arborescence.{parent, is-arborescence, total}
-use Rattle.instance.specs.States.{Outcome, plan, over, no-tree, outcome, states}
+use Rattle.instance.specs.declared.Outcome.{Outcome}
+use Rattle.instance.specs.declared.Outcome.the-variants.{Plan, Over, NoTree}
+use Rattle.instance.specs.States.{outcome, states}
 use Rattle.instance.specs.Valid.{cell-ok, cell-valid, valid-instance}
 use Rattle.instance.proofs.ValidLaws.{valid-small, valid-root, valid-budget, valid-cells}
 use Rattle.theory.specs.Readings.{Least-total}
@@ -81,9 +83,9 @@ module _ (s : Instance) (valid : valid-instance s ≡ true) where
       least v l = subst (λ (t : ℕ). t ≤ max-budget) (l .attained) (total-light (l .parents) (l .found))
 
       go : (o : Outcome) → outcome s ≡ o → total-in o ≤ max-budget
-      go (plan v) e = least v (outcome-reads s .plans v .0 e .0)
-      go (over v) e = least v (outcome-reads s .exceeds v .0 e .0)
-      go no-tree e = omega arith
+      go (Plan v) e = least v (outcome-reads s .plans v .0 e .0)
+      go (Over v) e = least v (outcome-reads s .exceeds v .0 e .0)
+      go NoTree e = omega arith
 
   digits : Digits (s .n) (states s)
   digits t h lt lh =
@@ -97,7 +99,7 @@ module _ (s : Instance) (valid : valid-instance s ≡ true) where
       let n = valid-small s valid in
       (omega (arith, arc-ends s (parent ps v) v arc .tail-below), omega (arith, arc-light (parent ps v) v arc))
 
-  pub report-length : (ps : List ℕ) → ((v : ℕ) → outcome s ≡ plan v → is-arborescence s ps ≡ true) → length (report-text s (outcome s) ps) ≤ max-text
+  pub report-length : (ps : List ℕ) → ((v : ℕ) → outcome s ≡ Plan v → is-arborescence s ps ≡ true) → length (report-text s (outcome s) ps) ≤ max-text
   unfolding report-text
   report-length ps a =
       let b = valid-budget s valid in

@@ -2,7 +2,7 @@
 use mathlib.Core.List.{List, _++_}
 use Prim.Native.Nat.{ℕ, _≤_}
 use lib.ListN.{length}
-use Rattle.instance.specs.States.{Outcome}
+use Rattle.instance.specs.declared.Outcome.{Outcome}
 use Rattle.report_text.specs.Text.{header-line, outcome-line, feed-lines, row-lines, text}
 use Rattle.report_text.specs.Written.{Room, Wrote, Filled}
 use Rattle.report_text.proofs.Writing.{room-whole, room-first, wrote-room, wrote-then, filled}

@@ -8,7 +8,9 @@ use lib.Dec.{ltb, eqb}
 use lib.ListN.{getD}
 use Rattle.instance.specs.Instance.{Instance, weight}
 use Rattle.instance.specs.Arborescence.{parent}
-use Rattle.instance.specs.States.{Outcome, plan, over, no-tree, states}
+use Rattle.instance.specs.declared.Outcome.{Outcome}
+use Rattle.instance.specs.declared.Outcome.the-variants.{Plan, Over, NoTree}
+use Rattle.instance.specs.States.{states}
 
 -- WORDS AND NUMBERS
 
@@ -51,9 +53,9 @@ header-line n r b = field "positions " n ++ field " root " r ++ line " budget " 
 
 -- "total"; "The second line is 'over' with a total, or 'none'"
 unfoldable pub outcome-line : Outcome → List ℕ
-outcome-line (plan v) = line "plan " v
-outcome-line (over v) = line "over " v
-outcome-line no-tree = codes "none\n"
+outcome-line (Plan v) = line "plan " v
+outcome-line (Over v) = line "over " v
+outcome-line NoTree = codes "none\n"
 
 -- "fed, feeder, price"
 unfoldable pub feed-line : (head tail weight : ℕ) → List ℕ
@@ -71,9 +73,9 @@ feed-at r ps w v = cond (eqb v r) [] (feed-line v (parent ps v) (w (parent ps v)
 
 -- "by fed position"; after "over" or "none" "no feed lines follow"
 unfoldable pub feed-lines : (n root : ℕ) → Outcome → (parents : List ℕ) → (weight : (tail head : ℕ) → ℕ) → List ℕ
-feed-lines n r (plan v) ps w = join-below n (feed-at r ps w)
-feed-lines n r (over v) ps w = []
-feed-lines n r no-tree ps w = []
+feed-lines n r (Plan v) ps w = join-below n (feed-at r ps w)
+feed-lines n r (Over v) ps w = []
+feed-lines n r NoTree ps w = []
 
 unfoldable pub row-lines : (n : ℕ) → (states : List ℕ) → List ℕ
 row-lines n ss = join-below n (row-line n ss)

@@ -29,7 +29,7 @@ fn is_pinned<'a>(
     requires { ⌜ (n ≤ 32) × (length (now weights) ≡ 1024) × (length (now marks) ≡ 1024) ⌝ }
     ensures { λ r. ⌜ r ≡ pinned-arc (instance-with n root 0 (now (weights .entry)) (now (marks .entry))) tail head ⌝ }
 {
-    if !instance::can_be_arc(n, root, tail, head) {
+    if !instance::arc::can_be_arc(n, root, tail, head) {
         return false;
     }
     let i = (32 * tail + head) as usize;
@@ -82,7 +82,7 @@ fn pin_table<'a>(weights: &'a [u32; 1024], marks: &'a [u8; 1024], n: u32, root: 
 fn remaining_weight(weight: u32, mark: u8, pin: u32, n: u32, root: u32, tail: u32, head: u32) -> u32
     ensures { λ r. ⌜ r ≡ cond (can-be-arc n root tail head && (not (eqb mark banned) && allows pin tail)) weight no-arc ⌝ }
 {
-    if !instance::can_be_arc(n, root, tail, head) {
+    if !instance::arc::can_be_arc(n, root, tail, head) {
         return NO_ARC;
     }
     if mark == BANNED {

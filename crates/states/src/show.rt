@@ -44,7 +44,7 @@ fn counts_into(used: &[u8; 1024], n: u32) -> [u32; 32]
 fn state_of(used: u8, weight: u32, count: u32, n: u32, root: u32, tail: u32, head: u32) -> u8
     ensures { λ r. ⌜ r ≡ cond (can-be-arc n root tail head && not (eqb weight no-arc)) (cond (eqb used 1) (cond (eqb count 1) 3 2) 1) 0 ⌝ }
 {
-    if !instance::can_be_arc(n, root, tail, head) {
+    if !instance::arc::can_be_arc(n, root, tail, head) {
         return 0;
     }
     if weight == NO_ARC {

@@ -9,7 +9,8 @@ use Rattle.base.proofs.Tests.{not-both, is-false}
 use Rattle.instance.specs.Instance.{Instance, is-arc}
 use Rattle.instance.specs.Arborescence.{is-arborescence, total}
 use Rattle.instance.specs.Cuts.{Cut, values, Feasible, No-entry}
-use Rattle.instance.specs.States.{plan, over, no-tree, outcome, fits, state}
+use Rattle.instance.specs.declared.Outcome.the-variants.{Plan, Over, NoTree}
+use Rattle.instance.specs.States.{outcome, fits, state}
 use Rattle.theory.specs.Readings.{None-uses, Least-total, No-arborescence}
 use Rattle.theory.proofs.StateLaws.{fits-arborescence, fits-total, state-reads}
 use Rattle.theory.proofs.OutcomeLaws.{outcome-reads}
@@ -21,17 +22,17 @@ module _ (s : Instance) where
     pub proved-least : Least-total s (total s ps)
     proved-least = record { parents = ps; found = a; attained = refl; least = λ qs b. let w = weak-duality s qs b cs f in omega arith }
 
-    pub proved-plan : total s ps ≤ s .budget → outcome s ≡ plan (total s ps)
+    pub proved-plan : total s ps ≤ s .budget → outcome s ≡ Plan (total s ps)
     proved-plan l = outcome-reads s .plans (total s ps) .1 (proved-least, l)
 
-    pub proved-over : s .budget < total s ps → outcome s ≡ over (total s ps)
+    pub proved-over : s .budget < total s ps → outcome s ≡ Over (total s ps)
     proved-over l = outcome-reads s .exceeds (total s ps) .1 (proved-least, l)
 
   -- A SET THAT NO REMAINING ARC ENTERS
   pub shut-none : (c : Cut) → No-entry s c → No-arborescence s
   shut-none c e ps = is-false (is-arborescence s ps) (λ a. no-entry s ps a c e)
 
-  pub shut-outcome : (c : Cut) → No-entry s c → outcome s ≡ no-tree
+  pub shut-outcome : (c : Cut) → No-entry s c → outcome s ≡ NoTree
   shut-outcome c e = outcome-reads s .fails .1 (shut-none c e)
 
   -- STATES
@@ -43,11 +44,11 @@ module _ (s : Instance) where
     pub unfit-excluded : ((ps : List ℕ) → fits s ps ≡ true → ⊥) → state s t h ≡ 1
     unfit-excluded u = unused-excluded (λ ps p. absurd (u ps p))
 
-    pub none-excluded : outcome s ≡ no-tree → state s t h ≡ 1
+    pub none-excluded : outcome s ≡ NoTree → state s t h ≡ 1
     none-excluded e =
         unfit-excluded (λ ps p. not-both (is-arborescence s ps) (fits-arborescence s ps p) (outcome-reads s .fails .0 e ps))
 
-    pub over-excluded : (v : ℕ) → outcome s ≡ over v → state s t h ≡ 1
+    pub over-excluded : (v : ℕ) → outcome s ≡ Over v → state s t h ≡ 1
     over-excluded v e =
         let r = outcome-reads s .exceeds v .0 e in
         unfit-excluded

@@ -14,7 +14,9 @@ use Rattle.base.proofs.ListLaws.{all-mono}
 use Rattle.instance.specs.Instance.{Instance}
 use Rattle.instance.specs.Arborescence.{is-arborescence, total}
 use Rattle.instance.specs.Candidates.{arborescences, lesser, least-total, cheapest}
-use Rattle.instance.specs.States.{Outcome, plan, over, no-tree, outcome-at, outcome}
+use Rattle.instance.specs.declared.Outcome.{Outcome}
+use Rattle.instance.specs.declared.Outcome.the-variants.{Plan, Over, NoTree}
+use Rattle.instance.specs.States.{outcome-at, outcome}
 use Rattle.theory.specs.Readings.{Least-total, No-arborescence, Outcome-reads}
 use Rattle.theory.proofs.CandidateLaws.{any-selected, all-selected}
 
@@ -97,39 +99,39 @@ module _ (s : Instance) where
 
 -- THE OUTCOME
 -- no outcome is two of these
-pub plan-once : (v w : ℕ) → plan v ≡ plan w → v ≡ w
+pub plan-once : (v w : ℕ) → Plan v ≡ Plan w → v ≡ w
 plan-once v w e = cc
 
-pub over-once : (v w : ℕ) → over v ≡ over w → v ≡ w
+pub over-once : (v w : ℕ) → Over v ≡ Over w → v ≡ w
 over-once v w e = cc
 
-pub plan-not-over : (v w : ℕ) → plan v ≡ over w → ⊥
+pub plan-not-over : (v w : ℕ) → Plan v ≡ Over w → ⊥
 plan-not-over v w e = let z : _≡_ {A = ℕ} 0 1 = cc in omega arith
 
-pub plan-not-none : (v : ℕ) → plan v ≡ no-tree → ⊥
+pub plan-not-none : (v : ℕ) → Plan v ≡ NoTree → ⊥
 plan-not-none v e = let z : _≡_ {A = ℕ} 0 1 = cc in omega arith
 
-pub over-not-none : (v : ℕ) → over v ≡ no-tree → ⊥
+pub over-not-none : (v : ℕ) → Over v ≡ NoTree → ⊥
 over-not-none v e = let z : _≡_ {A = ℕ} 0 1 = cc in omega arith
 
 module _ (s : Instance) where
-  plan-reads : (w : ℕ) → Least-total s w → w ≤ s .budget → Outcome-reads s (plan w)
+  plan-reads : (w : ℕ) → Least-total s w → w ≤ s .budget → Outcome-reads s (Plan w)
   plan-reads w a l =
       record {
-        plans = λ v. ((λ e. subst (λ (x : ℕ). Least-total s x × (x ≤ s .budget)) (plan-once w v e) (a, l)), (λ b. ap plan (least-once s w v a (b .0))));
+        plans = λ v. ((λ e. subst (λ (x : ℕ). Least-total s x × (x ≤ s .budget)) (plan-once w v e) (a, l)), (λ b. ap Plan (least-once s w v a (b .0))));
         exceeds = λ v. ((λ e. absurd (plan-not-over w v e)), (λ b. let same = least-once s w v a (b .0) in absurd (omega (arith, b .1))));
         fails = ((λ e. absurd (plan-not-none w e)), (λ b. absurd (least-some s w a b)));
       }
 
-  over-reads : (w : ℕ) → Least-total s w → s .budget < w → Outcome-reads s (over w)
+  over-reads : (w : ℕ) → Least-total s w → s .budget < w → Outcome-reads s (Over w)
   over-reads w a l =
       record {
         plans = λ v. ((λ e. absurd (plan-not-over v w (sym e))), (λ b. let same = least-once s w v a (b .0) in absurd (omega (arith, b .1))));
-        exceeds = λ v. ((λ e. subst (λ (x : ℕ). Least-total s x × (s .budget < x)) (over-once w v e) (a, l)), (λ b. ap over (least-once s w v a (b .0))));
+        exceeds = λ v. ((λ e. subst (λ (x : ℕ). Least-total s x × (s .budget < x)) (over-once w v e) (a, l)), (λ b. ap Over (least-once s w v a (b .0))));
         fails = ((λ e. absurd (over-not-none w e)), (λ b. absurd (least-some s w a b)));
       }
 
-  none-reads : No-arborescence s → Outcome-reads s no-tree
+  none-reads : No-arborescence s → Outcome-reads s NoTree
   none-reads a =
       record {
         plans = λ v. ((λ e. absurd (plan-not-none v (sym e))), (λ b. absurd (least-some s v (b .0) a)));
@@ -141,7 +143,7 @@ module _ (s : Instance) where
   unfolding outcome outcome-at Cheapest-reads
   outcome-reads = at (cheapest s) (cheapest-reads s)
     where
-      within : (w : ℕ) → Least-total s w → (b : Bool) → leb w (s .budget) ≡ b → Outcome-reads s (cond b (plan w) (over w))
+      within : (w : ℕ) → Least-total s w → (b : Bool) → leb w (s .budget) ≡ b → Outcome-reads s (cond b (Plan w) (Over w))
       within w a true e = plan-reads w a (leb-true w (s .budget) e)
       within w a false e = over-reads w a (leb-false w (s .budget) e)
 
@@ -151,9 +153,9 @@ module _ (s : Instance) where
 
   -- whatever reads so is one outcome
   pub outcome-once : (o p : Outcome) → Outcome-reads s o → Outcome-reads s p → o ≡ p
-  outcome-once (plan v) p a b = sym (b .plans v .1 (a .plans v .0 refl))
-  outcome-once (over v) p a b = sym (b .exceeds v .1 (a .exceeds v .0 refl))
-  outcome-once no-tree p a b = sym (b .fails .1 (a .fails .0 refl))
+  outcome-once (Plan v) p a b = sym (b .plans v .1 (a .plans v .0 refl))
+  outcome-once (Over v) p a b = sym (b .exceeds v .1 (a .exceeds v .0 refl))
+  outcome-once NoTree p a b = sym (b .fails .1 (a .fails .0 refl))
 
   pub outcome-only : (o : Outcome) → Outcome-reads s o → o ≡ outcome s
   outcome-only o r = outcome-once o (outcome s) r outcome-reads

@@ -10,7 +10,8 @@ use Rattle.instance.specs.Limits.{no-parent}
 use Rattle.instance.specs.Instance.{Instance}
 use Rattle.instance.specs.Arborescence.{is-arborescence, total}
 use Rattle.instance.specs.Candidates.{prefixed, choices, candidates-from, candidates}
-use Rattle.instance.specs.States.{Outcome, outcome, fits, fitting, state-over, state, states}
+use Rattle.instance.specs.declared.Outcome.{Outcome}
+use Rattle.instance.specs.States.{outcome, fits, fitting, state-over, state, states}
 use Rattle.instance.specs.Same.{Same-instance}
 use Rattle.instance.proofs.SameInstances.{same-turned, same-is-arc, same-arc-weight, same-remaining}
 use Rattle.theory.specs.Readings.{Least-total, No-arborescence, Outcome-reads}

@@ -8,7 +8,9 @@ use Prim.Native.Nat.{ℕ, _+_, _*_, _≤_, _<_}
 use lib.ListN.{length, getD}
 use Rattle.instance.specs.Instance.{Instance, is-arc}
 use Rattle.instance.specs.Arborescence.{is-arborescence, total, uses}
-use Rattle.instance.specs.States.{Outcome, plan, over, no-tree, fits}
+use Rattle.instance.specs.declared.Outcome.{Outcome}
+use Rattle.instance.specs.declared.Outcome.the-variants.{Plan, Over, NoTree}
+use Rattle.instance.specs.States.{fits}
 
 -- FITTING LISTS AND AN ARC ("Over the feed trees within budget")
 abbrev pub Some-fits : Instance → Type 0
@@ -52,6 +54,6 @@ No-arborescence s = (ps : List ℕ) → is-arborescence s ps ≡ false
 
 -- o is the outcome: "plan with its total; over with the cheapest total; none"
 pub record Outcome-reads (s : Instance) (o : Outcome) : Type 0 where
-  pub plans : (v : ℕ) → (o ≡ plan v) ↔ (Least-total s v × (v ≤ s .budget))
-  pub exceeds : (v : ℕ) → (o ≡ over v) ↔ (Least-total s v × (s .budget < v))
-  pub fails : (o ≡ no-tree) ↔ No-arborescence s
+  pub plans : (v : ℕ) → (o ≡ Plan v) ↔ (Least-total s v × (v ≤ s .budget))
+  pub exceeds : (v : ℕ) → (o ≡ Over v) ↔ (Least-total s v × (s .budget < v))
+  pub fails : (o ≡ NoTree) ↔ No-arborescence s

@@ -2,7 +2,7 @@
 use mathlib.Core.Path.{refl}
 use borrow.Author.Needs.{needs}
 use Rattle.board.specs.Model.{restored, with-mark, with-budget}
-use Rattle.board.proofs.ArcLaws.{record-cell}
+use Rattle.board.proofs.RecordLaws.{record-cell}
 use Rattle.board.proofs.commands.restored.Statement.{statement}
 use Rattle.board.proofs.commands.restored.Tie as tie
 

@@ -8,7 +8,7 @@ use Rattle.instance.specs.Valid.{header-valid, cell-valid}
 use Rattle.board.specs.Model.{with-budget}
 use Rattle.board.specs.ModelOf.{instance-of, model-of}
 use Rattle.board.specs.declared.Board.{Board}
-use Rattle.board.proofs.ArcLaws.{cells-valid-of}
+use Rattle.board.proofs.RecordLaws.{cells-valid-of}
 use Rattle.board.proofs.ValidLaws.{header-n-high, bad-header, bad-cell, bad-count, only-records}
 use Rattle.board.proofs.BoardLaws.{length-history}
 use Rattle.board.proofs.valid.is_valid.Statement.{statement}

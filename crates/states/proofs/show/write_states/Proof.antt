@@ -7,7 +7,7 @@ use lib.ListN.{length, length-set, drop}
 use Rattle.base.specs.Lists.{tabulate}
 use Rattle.states.specs.Table.{state-by}
 use Rattle.states.proofs.CellLaws.{square, dense-some, dense-tail, dense-head}
-use Rattle.base.proofs.FillingLaws.{front-none, front-more}
+use Rattle.base.proofs.FrontLaws.{front-none, front-more}
 use Rattle.states.proofs.TableLaws.{state-counted}
 use Rattle.states.proofs.show.write_states.Statement.{statement}
 use Rattle.states.proofs.show.write_states.Tie as tie

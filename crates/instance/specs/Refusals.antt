@@ -1,0 +1,67 @@
+-- The refusals of document 01, each under one name with its sentence; 0 is accepted. Assumes nothing: these are definitions.
+use Prim.Native.Nat.{ℕ}
+
+-- a card that is refused with one of these gives "no board"
+
+-- "card under 5 bytes"
+abbrev pub card-short : ℕ
+card-short = 1
+
+-- "positions field 0 or 33 to 63"
+abbrev pub bad-count : ℕ
+bad-count = 2
+
+-- "card length not the needed one"
+abbrev pub bad-length : ℕ
+bad-length = 3
+
+-- "root not below positions"
+abbrev pub bad-root : ℕ
+bad-root = 4
+
+-- "budget field above 31,000,000"
+abbrev pub bad-card-budget : ℕ
+bad-card-budget = 5
+
+-- "price field 1,000,001 to 1,048,574"
+abbrev pub bad-weight : ℕ
+bad-weight = 6
+
+-- "mark 3, or a mark other than 0 on no link"
+abbrev pub bad-mark : ℕ
+bad-mark = 7
+
+-- "a filling bit is 1"
+abbrev pub bad-filling : ℕ
+bad-filling = 8
+
+-- "board as before" after these
+
+-- "press names a position not below n"
+abbrev pub no-vertex : ℕ
+no-vertex = 9
+
+-- "press names no link"
+abbrev pub no-such-arc : ℕ
+no-such-arc = 10
+
+-- "budget press above 31,000,000"
+abbrev pub bad-budget : ℕ
+bad-budget = 11
+
+-- "press with 200 recorded"
+abbrev pub history-full : ℕ
+history-full = 12
+
+-- "take-back with none recorded"
+abbrev pub history-empty : ℕ
+history-empty = 13
+
+-- "a lent buffer too short"
+abbrev pub buffer-short : ℕ
+buffer-short = 14
+
+-- "board handed in has a field outside the ranges above, a mark other than 0 on no link, more than 200 recorded, or a record
+-- naming no link or restoring a value out of range"
+abbrev pub invalid-board : ℕ
+invalid-board = 15

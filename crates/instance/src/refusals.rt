@@ -1,0 +1,46 @@
+// The refusals of document 01, as the program has them; specs/Refusals.antt has them for the contracts. 0 is accepted.
+
+// 1: card under 5 bytes.
+pub const CARD_SHORT: u32 = 1;
+
+// 2: positions field 0 or 33 to 63.
+pub const BAD_COUNT: u32 = 2;
+
+// 3: card length not the needed one.
+pub const BAD_LENGTH: u32 = 3;
+
+// 4: root not below positions.
+pub const BAD_ROOT: u32 = 4;
+
+// 5: budget field above 31,000,000.
+pub const BAD_CARD_BUDGET: u32 = 5;
+
+// 6: price field 1,000,001 to 1,048,574.
+pub const BAD_WEIGHT: u32 = 6;
+
+// 7: mark 3, or a mark other than 0 on no link.
+pub const BAD_MARK: u32 = 7;
+
+// 8: a filling bit is 1.
+pub const BAD_FILLING: u32 = 8;
+
+// 9: press names a position not below n.
+pub const NO_VERTEX: u32 = 9;
+
+// 10: press names no link.
+pub const NO_SUCH_ARC: u32 = 10;
+
+// 11: budget press above 31,000,000.
+pub const BAD_BUDGET: u32 = 11;
+
+// 12: press with 200 recorded.
+pub const HISTORY_FULL: u32 = 12;
+
+// 13: take-back with none recorded.
+pub const HISTORY_EMPTY: u32 = 13;
+
+// 14: a lent buffer too short.
+pub const BUFFER_SHORT: u32 = 14;
+
+// 15: the board handed in is invalid.
+pub const INVALID_BOARD: u32 = 15;
