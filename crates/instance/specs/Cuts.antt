@@ -1,11 +1,11 @@
 -- Cuts: sets of vertices as bits, with dual values; what they prove. Assumes nothing: these are definitions.
 use mathlib.Core.Path.{_≡_}
 use mathlib.Core.Bool.{Bool, true, false, _&&_, not, cond}
-use mathlib.Core.List.{List, [], _∷_}
+use mathlib.Core.List.{List, [], _∷_, _++_}
 use Prim.Native.Nat.{ℕ, zero, suc, _+_, _*_, _-_, _/_, _%_, _^_, _≤_}
 use lib.Dec.{ltb, leb, eqb}
-use lib.ListN.{length, getD}
-use Rattle.instance.specs.Limits.{cut-limit}
+use lib.ListN.{length, getD, replicate}
+use Rattle.instance.specs.Limits.{cut-limit, cut-words}
 use Rattle.instance.specs.Instance.{Instance, weight}
 use Rattle.instance.specs.Arborescence.{remaining}
 
@@ -21,6 +21,14 @@ cuts-from (suc k) i ws = record { set = getD ws (2 * i) 0; value = getD ws (2 * 
 
 unfoldable pub cuts-in : (count : ℕ) → (words : List ℕ) → List Cut
 cuts-in k ws = cuts-from k 0 ws
+
+-- and the other way: "Cuts: the first 122 words as pairs (set, amount), .. then zeros"
+unfoldable pub pair-words : List Cut → List ℕ
+pair-words [] = []
+pair-words (c ∷ cs) = c .set ∷ c .value ∷ pair-words cs
+
+unfoldable pub words-of : List Cut → List ℕ
+words-of cs = pair-words cs ++ replicate (cut-words - 2 * length cs) 0
 
 unfoldable pub inside : (set v : ℕ) → Bool
 inside c v = eqb (c / 2 ^ v % 2) 1

@@ -17,7 +17,14 @@ shows-tree (Plan v) = true
 shows-tree (Over v) = false
 shows-tree NoTree = false
 
--- "plan with its total; over with the cheapest total; none": the program's own enum, so that there is one. Within budget "if its total is at most the budget"
+-- the total that an outcome comes with; none has no total, and 0 stands for it
+abbrev pub total-in : Outcome → ℕ
+total-in (Plan v) = v
+total-in (Over v) = v
+total-in NoTree = 0
+
+-- "plan with its total; over with the cheapest total; none": the program's own enum, so that there is one. Within budget "if
+-- its total is at most the budget"
 unfoldable pub outcome-at : (budget : ℕ) → (cheapest : Option ℕ) → Outcome
 outcome-at b none = NoTree
 outcome-at b (some v) = cond (leb v b) (Plan v) (Over v)

@@ -9,16 +9,18 @@ use borrow.Author.Tests.{not-true, not-false}
 use Rattle.instance.specs.Instance.{Instance, instance-with}
 use Rattle.instance.specs.Arborescence.{total}
 use Rattle.instance.specs.Matrix.{matrix, unmarked}
+use Rattle.instance.specs.declared.Outcome.{Outcome}
+use Rattle.instance.specs.States.{shows-tree}
 use Rattle.edmonds.specs.Planned.{Weights, Planned-matrix}
 use Rattle.instance.proofs.ValidLaws.{valid-budget}
 use Rattle.states.specs.Judge.{Fitting-plan}
 use Rattle.states.specs.Table.{Usable-table}
 use Rattle.states.specs.Tree.{Matrix-ok, Matrix-tree}
 use Rattle.states.proofs.PlanLaws.{matrix-budget, valid-matrix, planned-fitting}
-use Rattle.planner.specs.Survey.{Surveys}
-use Rattle.planner.proofs.SurveyLaws.{none-survey, level-tree, over-survey, plan-survey}
-use Rattle.planner.proofs.survey.plan_instance.Statement.{statement}
-use Rattle.planner.proofs.survey.plan_instance.Tie as tie
+use Rattle.survey.specs.Survey.{Surveys}
+use Rattle.survey.proofs.SurveyLaws.{shown-within, none-survey, matrix-tree, over-survey, plan-survey}
+use Rattle.survey.proofs.plan_instance.Statement.{statement}
+use Rattle.survey.proofs.plan_instance.Tie as tie
 
 -- AT THE START: the instance, and its matrix can be planned
 abbrev inst : tie.Start → Instance
@@ -94,7 +96,7 @@ tree-total-requires c κs =
     let s = inst-of e in
     let o = ok-of e in
     subst (λ (m : List ℕ). Matrix-tree (s .n) (s .root) m (after e .plan-matrix .result .parents)) (same-matrix e)
-    (level-tree s (o .small) _ _ _ _ _ _ (planned (after e)) (found e) o)
+    (matrix-tree s (o .small) _ _ _ _ _ _ (planned (after e)) (found e) o)
 
 -- AFTER ITS TOTAL
 abbrev found-at : tie.After-tree-total → tie.Else1
@@ -109,26 +111,48 @@ total-is c =
     c .tree-total .ensures
     ∙ ap (λ (m : List ℕ). total (unmarked (s .n) (s .root) m) (take (s .n) (after (found-at c) .plan-matrix .result .parents))) (sym (same-matrix (found-at c)))
 
+-- AFTER ITS OUTCOME
+outcome-at-requires : tie.Need-outcome-at-requires
+outcome-at-requires c κs = search needs
+
+shows-tree-requires : tie.Need-shows-tree-requires
+shows-tree-requires c κs = search needs
+
+blank-requires : tie.Need-blank-requires
+blank-requires c κs = search needs
+
 returns-2 : tie.Need-returns-2
 returns-2 c =
-    let e = found-at (c .before) in
-    over-survey (inst-of e) (ok-of e .small) _ _ _ _ _ _ (planned (after e)) (found e) _ (total-is (c .before)) (c .if2 .taken)
+    let a = c .before .before in
+    let k = a .before .before in
+    let e = found-at k in
+    let hidden = sym (a .shows-tree .ensures) ∙ not-true (a .shows-tree .result) (c .before .if2 .taken) in
+    subst (Surveys (inst-of e)) (sym (c .blank .ensures))
+    (over-survey (inst-of e) (ok-of e .small) _ _ _ _ _ _ (planned (after e)) (found e) _ (total-is k) _ (a .before .outcome-at .ensures) hidden)
+
+-- WITHIN BUDGET
+shown : (c : tie.Else2) → shows-tree (c .before .before .outcome-at .result) ≡ true
+shown c = sym (c .before .shows-tree .ensures) ∙ not-false (c .before .shows-tree .result) (c .if2 .left)
 
 usable-arcs-requires : tie.Need-usable-arcs-requires
 usable-arcs-requires c κs =
-    let k = c .before .before .before in
-    let e = found-at (k .before) in
+    let x = c .before .before .before in
+    let o = x .before .before in
+    let k = o .before in
+    let e = found-at k in
     let s = inst-of e in
     let most = valid-budget s (start-of (after e) .pre .0) in
-    subst (λ (m : List ℕ). Fitting-plan (s .n) (s .root) m (after e .plan-matrix .last .0) (after e .plan-matrix .result .parents) (k .before .tree-total .result) (s .budget)) (same-matrix e)
-    (planned-fitting (s .n) (s .root) _ _ _ _ _ _ _ _ _ _ (ok-of e) (planned (after e)) (found e) (total-is (k .before)) (k .if2 .left) most)
+    let within = shown-within (k .tree-total .result) (s .budget) (subst (λ (y : Outcome). shows-tree y ≡ true) (o .outcome-at .ensures) (shown x)) in
+    subst (λ (m : List ℕ). Fitting-plan (s .n) (s .root) m (after e .plan-matrix .last .0) (after e .plan-matrix .result .parents) (k .tree-total .result) (s .budget)) (same-matrix e)
+    (planned-fitting (s .n) (s .root) _ _ _ _ _ _ _ _ _ _ (ok-of e) (planned (after e)) (found e) (total-is k) within most)
 
 returns-3 : tie.Need-returns-3
 returns-3 c =
-    let k = c .before .before .before .before in
-    let e = found-at (k .before) in
+    let x = c .before .before .before .before in
+    let k = x .before .before .before in
+    let e = found-at k in
     let s = inst-of e in
-    plan-survey s (ok-of e .small) _ _ _ _ _ _ (planned (after e)) (found e) _ _ (total-is (k .before)) (k .if2 .left)
+    plan-survey s (ok-of e .small) _ _ _ _ _ _ (planned (after e)) (found e) _ (total-is k) _ (x .before .before .outcome-at .ensures) _ (shown x)
     (subst (λ (m : List ℕ). Usable-table (instance-with (s .n) (s .root) (s .budget) m []) (c .usable-arcs .result)) (sym (same-matrix e)) (c .usable-arcs .ensures))
 
 pub plan-instance-spec : {M : Type 1} → statement M
@@ -140,6 +164,9 @@ plan-instance-spec =
     no-tree-requires
     returns
     tree-total-requires
+    outcome-at-requires
+    shows-tree-requires
+    blank-requires
     returns-2
     usable-arcs-requires
     returns-3)

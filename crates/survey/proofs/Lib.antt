@@ -1,0 +1,3 @@
+-- Laws of what planning an instance finds. Assumes nothing.
+pub mod WordLaws
+pub mod SurveyLaws

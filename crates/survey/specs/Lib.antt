@@ -1,0 +1,2 @@
+-- What planning finds of an instance. Assumes nothing.
+pub mod Survey
