@@ -3,13 +3,14 @@ use mathlib.Core.Path.{_≡_, refl, sym, subst}
 use mathlib.Core.Bool.{cond}
 use Prim.Native.Nat.{ℕ, zero, suc, _≤_}
 use native.Mathlib.Omega.{arith}
+use Rattle.instance.specs.Refusals.{invalid-board}
 use Rattle.board.specs.Model.{Command, answered, valid}
 use Rattle.board.specs.ModelOf.{model-of, Answers}
 use Rattle.board.specs.declared.Board.{Board}
 use Rattle.board.specs.declared.Answered.{Answered}
 use Rattle.planner.specs.declared.View.{View}
-use Rattle.planner.specs.Look.{Buffers, answer-of, Looks}
-use Rattle.planner.specs.Replay.{Call, command, look, write, call, Makes}
+use Rattle.planner.specs.Looking.{Buffers, answer-of, Looks}
+use Rattle.planner.specs.Replaying.{Call, command, look, write, call, Makes}
 
 call-write : (k a b : ℕ) → 6 ≤ k → call k a b ≡ write
 unfolding call
@@ -35,6 +36,6 @@ module _ (k x y : ℕ) (b : Board) where
   unfolding Makes
   makes-look v a old new e q l = subst (λ (c : Call). Makes c b (record { answer = a; board = b }) old new) (sym (call-look k x y e)) (v, q, refl, l)
 
-  pub makes-write : (a : ℕ) (z : Buffers) → 6 ≤ k → a ≡ cond (valid (model-of b)) 0 15 → Makes (call k x y) b (record { answer = a; board = b }) z z
+  pub makes-write : (a : ℕ) (z : Buffers) → 6 ≤ k → a ≡ cond (valid (model-of b)) 0 invalid-board → Makes (call k x y) b (record { answer = a; board = b }) z z
   unfolding Makes
   makes-write a z h q = subst (λ (c : Call). Makes c b (record { answer = a; board = b }) z z) (sym (call-write k x y h)) (q, refl, refl)

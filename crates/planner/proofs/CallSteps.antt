@@ -1,16 +1,15 @@
 -- One call of a list against the log: a board that is valid and tied to the log stays so, the answer is the log's, and a look between
 -- leaves of the buffers what a later look keeps. Assumes nothing.
-use mathlib.Core.Path.{_≡_, refl, sym, ap, _∙_, subst}
-use mathlib.Core.Bool.{Bool, true, false, cond, true≢false}
-use Prim.Native.Nat.{ℕ, _*_, _-_, _≤_}
+use mathlib.Core.Path.{_≡_, refl, ap, _∙_, subst}
+use mathlib.Core.Bool.{Bool, true, false}
+use Prim.Native.Nat.{ℕ, _*_, _≤_}
 use native.Mathlib.Omega.{arith}
-use lib.ListN.{length, drop, length-append, length-drop}
-use lib.Seq.{drop-at}
-use Rattle.instance.specs.Limits.{cut-words}
+use lib.ListN.{length, drop}
+use Rattle.base.proofs.FrontLaws.{front-length, front-drop}
+use Rattle.instance.specs.Limits.{max-vertices, cut-words}
 use Rattle.instance.specs.Instance.{Instance}
-use Rattle.instance.specs.declared.Outcome.{Outcome}
-use Rattle.instance.specs.declared.Outcome.the-variants.{Plan, Over, NoTree}
-use Rattle.instance.specs.States.{outcome, states}
+use Rattle.instance.specs.Cuts.{words-of}
+use Rattle.instance.specs.States.{shows-tree, total-in, outcome, states}
 use Rattle.theory.proofs.StateLaws.{states-read}
 use Rattle.board.specs.Model.{Command, Result, valid, applied, answered}
 use Rattle.board.specs.Log.{Log, note, unnoted}
@@ -18,88 +17,67 @@ use Rattle.board.specs.ModelOf.{model-of, instance-of, Answers}
 use Rattle.board.specs.declared.Board.{Board}
 use Rattle.board.specs.declared.Answered.{Answered}
 use Rattle.board.proofs.LogLaws.{Tied, step-tied}
-use Rattle.board.proofs.ValidLaws.{answered-applied}
+use Rattle.board.proofs.ValidLaws.{valid-parts, answered-applied}
 use Rattle.board.proofs.CallLaws.{call-board, call-answer, call-valid, call-changes}
+use Rattle.survey.proofs.ShownLaws.{parents-length, words-length}
 use Rattle.planner.specs.declared.View.{View}
-use Rattle.planner.specs.Look.{Buffers, view, pairs, answer-of, short-for, Shows, Looks-at, Looks}
-use Rattle.planner.proofs.LookLaws.{rooms}
-use Rattle.planner.specs.Replay.{Call, command, look, write, log-call, Makes}
+use Rattle.planner.specs.Looking.{Buffers, answer-of, short-for, Shows, Looks-at, Looks}
+use Rattle.planner.specs.Replaying.{Call, command, look, write, log-call, Makes}
+use Rattle.planner.proofs.LookingLaws.{Rooms, rooms}
 
--- how the buffers stand after calls: as they were if one is too short for a look; else as long as they were, and the same after the
--- places that a look fills
-pub record Since (short : Bool) (n : ℕ) (old new : Buffers) : Type 0 where
-  pub untouched : short ≡ true → new ≡ old
-  pub parents-length : length (new .parents) ≡ length (old .parents)
-  pub states-length : length (new .states) ≡ length (old .states)
-  pub cuts-length : length (new .cuts) ≡ length (old .cuts)
+-- how the buffers stand after calls: as long as they were, and the same after the places that a look fills
+pub record Since (n : ℕ) (old new : Buffers) : Type 0 where
+  pub parents-long : length (new .parents) ≡ length (old .parents)
+  pub states-long : length (new .states) ≡ length (old .states)
+  pub cuts-long : length (new .cuts) ≡ length (old .cuts)
   pub parents-after : drop n (new .parents) ≡ drop n (old .parents)
   pub states-after : drop (n * n) (new .states) ≡ drop (n * n) (old .states)
   pub cuts-after : drop cut-words (new .cuts) ≡ drop cut-words (old .cuts)
 
-pub since-same : (t : Bool) (n : ℕ) (old new : Buffers) → new ≡ old → Since t n old new
-since-same t n old new e =
+pub since-same : (n : ℕ) (old new : Buffers) → new ≡ old → Since n old new
+since-same n old new e =
     record {
-      untouched = λ _. e;
-      parents-length = ap (λ (x : Buffers). length (x .parents)) e;
-      states-length = ap (λ (x : Buffers). length (x .states)) e;
-      cuts-length = ap (λ (x : Buffers). length (x .cuts)) e;
+      parents-long = ap (λ (x : Buffers). length (x .parents)) e;
+      states-long = ap (λ (x : Buffers). length (x .states)) e;
+      cuts-long = ap (λ (x : Buffers). length (x .cuts)) e;
       parents-after = ap (λ (x : Buffers). drop n (x .parents)) e;
       states-after = ap (λ (x : Buffers). drop (n * n) (x .states)) e;
       cuts-after = ap (λ (x : Buffers). drop cut-words (x .cuts)) e;
     }
 
-pub since-then : {t : Bool} {n : ℕ} {x y z : Buffers} → Since t n x y → Since t n y z → Since t n x z
+pub since-then : {n : ℕ} {x y z : Buffers} → Since n x y → Since n y z → Since n x z
 since-then a b =
     record {
-      untouched = λ e. b .untouched e ∙ a .untouched e;
-      parents-length = b .parents-length ∙ a .parents-length;
-      states-length = b .states-length ∙ a .states-length;
-      cuts-length = b .cuts-length ∙ a .cuts-length;
+      parents-long = b .parents-long ∙ a .parents-long;
+      states-long = b .states-long ∙ a .states-long;
+      cuts-long = b .cuts-long ∙ a .cuts-long;
       parents-after = b .parents-after ∙ a .parents-after;
       states-after = b .states-after ∙ a .states-after;
       cuts-after = b .cuts-after ∙ a .cuts-after;
     }
 
--- a shown view is no refusal
-view-answers : (o : Outcome) (k : ℕ) → answer-of (view o k) ≡ 0
-view-answers (Plan v) k = refl
-view-answers (Over v) k = refl
-view-answers NoTree k = refl
-
--- A LOOK at a valid board: 14 exactly when a buffer is too short
-pub record Look-step (t : Bool) (n : ℕ) (v : View) (old new : Buffers) : Type 0 where
-  pub answer : answer-of v ≡ cond t 14 0
-  pub since : Since t n old new
-
+-- A LOOK THAT SHOWS: what it shows is as long as the places that it fills
 pub shown-answer : (s : Instance) (v : View) (old new : Buffers) → Shows s v old new → answer-of v ≡ 0
-shown-answer s v old new x = ap answer-of (x .result) ∙ view-answers (outcome s) (pairs v)
+shown-answer s v old new x = ap answer-of (x .result)
 
-module _ (s : Instance) (v : View) (old new : Buffers) (room : s .n * s .n ≤ length (old .states)) (x : Shows s v old new) where
-  states-long : length (states s) ≡ s .n * s .n
-  states-long = states-read s .size
+module _ (s : Instance) (v : View) (old new : Buffers) (small : s .n ≤ max-vertices) (x : Shows s v old new) where
+  pub tree-long : length (x .tree) ≡ s .n
+  tree-long = parents-length (shows-tree (outcome s)) (total-in (outcome s)) s (x .tree) (x .tree-shown)
 
-  shown-step : Look-step false (s .n) v old new
-  shown-step =
+  pub words-long : length (words-of (x .found)) ≡ cut-words
+  words-long = words-length (outcome s) s (x .found) small (x .cuts-shown)
+
+  shown-since : Rooms (s .n) (length (old .parents)) (length (old .states)) (length (old .cuts)) → Since (s .n) old new
+  shown-since r =
+      let size = states-read s .size in
       record {
-        answer = shown-answer s v old new x;
-        since =
-            record {
-              untouched = λ (e : false ≡ true). absurd (true≢false (sym e));
-              parents-length = x .parents-length;
-              states-length =
-                  ap length (x .states-shown) ∙ length-append (states s) (drop (s .n * s .n) (old .states))
-                  ∙ rw (states-long, length-drop (s .n * s .n) (old .states)) (omega arith);
-              cuts-length = x .cuts-length;
-              parents-after = x .parents-after;
-              states-after = rw (x .states-shown) (drop-at (states s) (drop (s .n * s .n) (old .states)) (s .n * s .n) states-long);
-              cuts-after = x .cuts-after;
-            };
+        parents-long = ap length (x .parents-buffer) ∙ front-length (x .tree) (old .parents) (omega (arith, tree-long, r .for-parents));
+        states-long = ap length (x .states-buffer) ∙ front-length (states s) (old .states) (omega (arith, size, r .for-states));
+        cuts-long = ap length (x .cuts-buffer) ∙ front-length (words-of (x .found)) (old .cuts) (omega (arith, words-long, r .for-cuts));
+        parents-after = ap (drop (s .n)) (x .parents-buffer) ∙ front-drop (x .tree) (old .parents) (s .n) tree-long;
+        states-after = ap (drop (s .n * s .n)) (x .states-buffer) ∙ front-drop (states s) (old .states) (s .n * s .n) size;
+        cuts-after = ap (drop cut-words) (x .cuts-buffer) ∙ front-drop (words-of (x .found)) (old .cuts) cut-words words-long;
       }
-
-look-at : (t : Bool) (s : Instance) (v : View) (old new : Buffers) → short-for (s .n) old ≡ t → Looks-at true t s v old new → Look-step t (s .n) v old new
-unfolding Looks-at
-look-at true s v old new e u = record { answer = ap answer-of (u .result); since = since-same true (s .n) old new (u .buffers) }
-look-at false s v old new e x = shown-step s v old new (rooms (s .n) (length (old .parents)) (length (old .states)) (length (old .cuts)) e .for-states) x
 
 -- what a look at a valid board says
 pub looks-valid : (b : Board) (v : View) (old new : Buffers) → valid (model-of b) ≡ true → Looks b v old new →
@@ -107,16 +85,17 @@ pub looks-valid : (b : Board) (v : View) (old new : Buffers) → valid (model-of
 unfolding Looks
 looks-valid b v old new g l = subst (λ (x : Bool). Looks-at x (short-for (b .n) old) (instance-of b) v old new) g l
 
-pub look-step : (b : Board) (v : View) (old new : Buffers) → valid (model-of b) ≡ true → Looks b v old new → Look-step (short-for (b .n) old) (b .n) v old new
-look-step b v old new g l = look-at (short-for (b .n) old) (instance-of b) v old new refl (looks-valid b v old new g l)
+pub looks-long : (b : Board) (v : View) (old new : Buffers) → valid (model-of b) ≡ true → short-for (b .n) old ≡ false → Looks b v old new → Shows (instance-of b) v old new
+unfolding Looks-at
+looks-long b v old new g t l = subst (λ (x : Bool). Looks-at true x (instance-of b) v old new) t (looks-valid b v old new g l)
 
 -- ONE CALL
-pub record Call-step (t : Bool) (e : Call) (b : Board) (k : Log) (r : Answered) (old new : Buffers) : Type 0 where
-  pub answer : r .answer ≡ log-call t e k .answer
-  pub tied : Tied (model-of (r .board)) (log-call t e k .log)
+pub record Call-step (e : Call) (b : Board) (k : Log) (r : Answered) (old new : Buffers) : Type 0 where
+  pub answer : r .answer ≡ log-call e k .answer
+  pub tied : Tied (model-of (r .board)) (log-call e k .log)
   pub good : valid (model-of (r .board)) ≡ true
   pub same-n : r .board .n ≡ b .n
-  pub since : Since t (b .n) old new
+  pub since : Since (b .n) old new
 
 module _ (b : Board) (k : Log) (g : valid (model-of b) ≡ true) (y : Tied (model-of b) k) where
   command-step : (c : Command) (r : Answered) → Answers (answered c (model-of b)) b r → (r .answer ≡ note c k .answer) × Tied (model-of (r .board)) (note c k .log)
@@ -127,25 +106,31 @@ module _ (b : Board) (k : Log) (g : valid (model-of b) ≡ true) (y : Tied (mode
         rw (call-board c b r a ∙ ap (λ (d : Result). d .board) q) (s .tied),
       )
 
-  pub call-step : (e : Call) (r : Answered) (old new : Buffers) → Makes e b r old new → Call-step (short-for (b .n) old) e b k r old new
+  pub call-step : (e : Call) (r : Answered) (old new : Buffers) → short-for (b .n) old ≡ false → Makes e b r old new → Call-step e b k r old new
   unfolding Makes log-call unnoted
-  call-step (command c) r old new m =
+  call-step (command c) r old new t m =
       let s = command-step c r (m .0) in
       record {
         answer = s .0;
         tied = s .1;
         good = call-valid c b r (m .0) g;
         same-n = call-changes c b r (m .0) .n;
-        since = since-same (short-for (b .n) old) (b .n) old new (m .1);
+        since = since-same (b .n) old new (m .1);
       }
-  call-step look r old new m =
-      let l = look-step b (m .0) old new g (m .3) in
-      record { answer = m .1 ∙ l .answer; tied = rw (m .2) y; good = rw (m .2) g; same-n = ap (λ (x : Board). x .n) (m .2); since = l .since }
-  call-step write r old new m =
+  call-step look r old new t m =
+      let x = looks-long b (m .0) old new g t (m .3) in
+      record {
+        answer = m .1 ∙ shown-answer (instance-of b) (m .0) old new x;
+        tied = rw (m .2) y;
+        good = rw (m .2) g;
+        same-n = ap (λ (x : Board). x .n) (m .2);
+        since = shown-since (instance-of b) (m .0) old new (valid-parts (model-of b) g .n-high) x (rooms (b .n) (length (old .parents)) (length (old .states)) (length (old .cuts)) t);
+      }
+  call-step write r old new t m =
       record {
         answer = m .0 ∙ rw g;
         tied = rw (m .1) y;
         good = rw (m .1) g;
         same-n = ap (λ (x : Board). x .n) (m .1);
-        since = since-same (short-for (b .n) old) (b .n) old new (m .2);
+        since = since-same (b .n) old new (m .2);
       }

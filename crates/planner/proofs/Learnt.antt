@@ -9,23 +9,24 @@ use denote.Ref.{now}
 use denote.Triple.Clauses.{AtExit}
 use Rattle.card.specs.declared.write.Written.{Written}
 use Rattle.board.specs.declared.Board.{Board}
-use Rattle.planner.specs.declared.Opened.{Opened}
+use Rattle.board.specs.declared.Answered.{Answered}
 use Rattle.planner.specs.declared.View.{View}
-use Rattle.planner.specs.Calls.{opened-from, Writes}
-use Rattle.planner.specs.Look.{Buffers, buffers, Looks}
-use Rattle.planner.specs.Replay.{Replays}
-use Rattle.planner.proofs.open.open_card.Reads as open-reads
-use Rattle.planner.proofs.open.open_card.Kinds as open-kinds
-use Rattle.planner.proofs.inspect.look.Reads as look-reads
-use Rattle.planner.proofs.inspect.look.Kinds as look-kinds
-use Rattle.planner.proofs.write.write_card.Reads as write-reads
-use Rattle.planner.proofs.write.write_card.Kinds as write-kinds
+use Rattle.planner.specs.Opening.{opened-from}
+use Rattle.planner.specs.Writing.{Writes}
+use Rattle.planner.specs.Looking.{Buffers, buffers, Looks}
+use Rattle.planner.specs.Replaying.{Replays}
+use Rattle.planner.proofs.opening.open_card.Reads as open-reads
+use Rattle.planner.proofs.opening.open_card.Kinds as open-kinds
+use Rattle.planner.proofs.looking.look.Reads as look-reads
+use Rattle.planner.proofs.looking.look.Kinds as look-kinds
+use Rattle.planner.proofs.writing.write_card.Reads as write-reads
+use Rattle.planner.proofs.writing.write_card.Kinds as write-kinds
 use Rattle.planner.proofs.replaying.replay.Reads as replay-reads
 use Rattle.planner.proofs.replaying.replay.Kinds as replay-kinds
 
-pub data Opened-by : (card : List ℕ) → Opened → Type 0 where
+pub data Opened-by : (card : List ℕ) → Answered → Type 0 where
   by-open :
-      (κs : Lfts 1) (a : Dens κs open-kinds.ps) (o : Opened) (e : AtExit (endedOf 1 open-kinds.ps open-kinds.r) κs) → open-reads.Learnt κs a o e →
+      (κs : Lfts 1) (a : Dens κs open-kinds.ps) (o : Answered) (e : AtExit (endedOf 1 open-kinds.ps open-kinds.r) κs) → open-reads.Learnt κs a o e →
       Opened-by (now (a .0)) o
 
 pub data Looked : Board → View → (old new : Buffers) → Type 0 where
@@ -38,7 +39,7 @@ pub data Wrote : Board → Written → (out out′ : List ℕ) → Type 0 where
       (κs : Lfts 1) (a : Dens κs write-kinds.ps) (r : Written) (e : AtExit (endedOf 1 write-kinds.ps write-kinds.r) κs) → write-reads.Learnt κs a r e →
       Wrote (a .0) r (now (a .1 .0)) (now (e .1 .0))
 
-pub opened-by : {ws : List ℕ} {o : Opened} → Opened-by ws o → o ≡ opened-from ws
+pub opened-by : {ws : List ℕ} {o : Answered} → Opened-by ws o → o ≡ opened-from ws
 opened-by (by-open κs a o e l) = l
 
 pub looked : {b : Board} {v : View} {old new : Buffers} → Looked b v old new → Looks b v old new

@@ -1,14 +1,9 @@
--- Laws. Assumes nothing.
-pub mod CopyLaws
-pub mod OpenLaws
-pub mod WriteLaws
-pub mod LookLaws
-pub mod SurveyLaws
+-- Laws of the public calls. Assumes nothing.
+pub mod CopiesLaws
+pub mod OpeningLaws
+pub mod WritingLaws
+pub mod LookingLaws
 pub mod CallKinds
 pub mod CallSteps
-pub mod ReplayLaws
+pub mod ReplayingLaws
 pub mod Learnt
-pub mod RoundTrips
-pub mod DemandOne
-pub mod DemandTwo
-pub mod DemandThree

@@ -1,5 +1,6 @@
 -- What the public calls promise. Assumes nothing.
-pub mod Calls
-pub mod Look
-pub mod Survey
-pub mod Replay
+pub mod Opening
+pub mod Looking
+pub mod Displaying
+pub mod Writing
+pub mod Replaying

@@ -2,21 +2,24 @@
 ghost use mathlib.Core.Path.{_≡_};
 ghost use mathlib.Core.Bool.{cond};
 ghost use Prim.Native.Nat.{_<_};
+ghost use Rattle.instance.specs.Refusals.{invalid-board};
 ghost use Rattle.board.specs.Model.{valid};
 ghost use Rattle.board.specs.ModelOf.{model-of, command-of};
-ghost use Rattle.planner.specs.Look.{buffers, answer-of};
-ghost use Rattle.planner.specs.Replay.{call, Makes, unfit, Replays};
-ghost use Rattle.planner.specs.Replay as calls;
+ghost use Rattle.planner.specs.Looking.{buffers, answer-of};
+ghost use Rattle.planner.specs.Replaying.{call, Makes, unfit, Replays};
+ghost use Rattle.planner.specs.Replaying as calls;
 use crate::View;
-use crate::inspect::look;
-use crate::open::open_card;
-use crate::write::write_card;
+use crate::looking::is_too_short;
+use crate::looking::look;
+use crate::opening::open_card;
+use crate::writing::write_card;
 use board::Answered;
 use board::Board;
 use board::Command;
 use board::commands::execute;
 use card::MAX_CARD;
 use instance::Vertex;
+use instance::refusals::BUFFER_SHORT;
 
 const LOOK: u8 = 5;
 
@@ -24,10 +27,8 @@ fn view_answer(v: View) -> u32
     ensures { λ r. ⌜ r ≡ answer-of v ⌝ }
 {
     match v {
-        View::Plan(_, _) => 0,
-        View::Over(_, _) => 0,
-        View::NoTree(_) => 0,
-        View::Refused(number) => number,
+        View::Shown(_, _) => 0,
+        View::Refused(answer) => answer,
     }
 }
 
@@ -53,7 +54,7 @@ fn command_at(kind: u8, first: u32, second: u32) -> Command
 
 // A write whose card is not wanted: what it answers.
 fn write_away(b: Board) -> u32
-    ensures { λ r. ⌜ r ≡ cond (valid (model-of b)) 0 15 ⌝ }
+    ensures { λ r. ⌜ r ≡ cond (valid (model-of b)) 0 invalid-board ⌝ }
 {
     let mut out = [0u8; MAX_CARD];
     let written = write_card(b, &mut out);
@@ -97,9 +98,10 @@ fn is_unfit(kinds: usize, firsts: usize, seconds: usize, answers: usize) -> bool
     answers < kinds
 }
 
-// Opens the card, makes every call of the lists (kind, first and second number of each; a kind 0 pins, 1 bans, 2 clears, 3 sets the
-// budget, 4 takes back, 5 looks, any other writes), stores every answer, and looks at the end. A look between goes into the same buffers.
-// Where the last look gives 14, its buffers are as they were and the answers of the calls stand.
+// Opens the card, makes every call of the list, stores every answer, and looks at the end; a look between goes into the same buffers.
+// `kinds`, `firsts` and `seconds` are the list, a kind and two numbers for each call: 0 pins, 1 bans, 2 clears (tail and head), 3 sets the
+// budget, 4 takes back, 5 looks, any other kind writes. `answers` takes the answer of each. `parents`, `states` and `cuts` are the buffers of
+// every look. All are judged before anything is done: where one is too short, nothing is touched.
 pub fn replay(
     bytes: &[u8],
     kinds: &[u8],
@@ -113,14 +115,18 @@ pub fn replay(
     ensures { λ r. ⌜ Replays (now (bytes .entry)) (now (kinds .entry)) (now (firsts .entry)) (now (seconds .entry)) r (now (answers .entry)) (now (answers .exit)) (buffers (now (parents .entry)) (now (states .entry)) (now (cuts .entry))) (buffers (now (parents .exit)) (now (states .exit)) (now (cuts .exit))) ⌝ }
 {
     let opened = open_card(bytes);
-    let refusal = opened.answer;
-    if refusal != 0 {
-        return View::Refused(refusal);
+    let answer = opened.answer;
+    if answer != 0 {
+        return View::Refused(answer);
     }
     if is_unfit(kinds.len(), firsts.len(), seconds.len(), answers.len()) {
-        return View::Refused(14);
+        return View::Refused(BUFFER_SHORT);
     }
     let mut b = opened.board;
+    let n = b.n;
+    if is_too_short(n, parents.len(), states.len(), cuts.len()) {
+        return View::Refused(BUFFER_SHORT);
+    }
     let mut i: usize = 0;
     while i < kinds.len() {
         let made = make_call(b, kinds[i], firsts[i], seconds[i], parents, states, cuts);

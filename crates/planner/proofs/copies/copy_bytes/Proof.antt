@@ -4,7 +4,7 @@ use mathlib.Core.List.{_++_}
 use Prim.Native.Nat.{_+_, _-_, _≤_}
 use native.Mathlib.Omega.{arith}
 use lib.ListN.{length, take, drop, length-set}
-use Rattle.planner.proofs.CopyLaws.{copy-step, copy-end}
+use Rattle.planner.proofs.CopiesLaws.{copy-step, copy-end}
 use Rattle.planner.proofs.copies.copy_bytes.Statement.{statement}
 use Rattle.planner.proofs.copies.copy_bytes.Tie as tie
 
@@ -38,7 +38,7 @@ same-length : tie.Need-same-length Inv-loop μ-loop
 same-length c = c .before .loop .inv .1
 
 returns : tie.Need-returns Inv-loop μ-loop
-returns c = copy-end _ _ (c .before .loop .out) (c .before .loop .i) (c .before .before .args .count) (omega arith) (c .before .loop .inv .2)
+returns c = copy-end _ _ (c .before .loop .out) (c .before .loop .i) (c .before .before .args .count) (omega arith) (omega arith) (c .before .loop .inv .2)
 
 pub copy-bytes-spec : {M : Type 1} → statement M
 copy-bytes-spec =

@@ -5,7 +5,8 @@ use Prim.Native.Nat.{ℕ, _+_, _-_, _≤_}
 use native.Mathlib.Omega.{arith}
 use lib.ListN.{length, take, drop, length-set}
 use lib.Seq.{take-all}
-use Rattle.planner.proofs.CopyLaws.{copy-step, copy-end}
+use Rattle.base.specs.Lists.{in-front}
+use Rattle.planner.proofs.CopiesLaws.{copy-step, copy-end}
 use Rattle.planner.proofs.copies.copy_words.Statement.{statement}
 use Rattle.planner.proofs.copies.copy_words.Tie as tie
 
@@ -48,8 +49,8 @@ returns : tie.Need-returns Inv-loop μ-loop
 returns c =
     let l = c .before .loop in
     let a = c .before .before .args in
-    copy-end (a .from .now) (a .out .now) (l .out) (l .i) 122 (omega arith) (l .inv .2)
-    ∙ ap (λ (x : List ℕ). x ++ drop 122 (a .out .now)) (take-all 122 (a .from .now) (omega arith))
+    copy-end (a .from .now) (a .out .now) (l .out) (l .i) 122 (omega arith) (omega arith) (l .inv .2)
+    ∙ ap (λ (x : List ℕ). in-front x (a .out .now)) (take-all 122 (a .from .now) (omega arith))
 
 pub copy-words-spec : {M : Type 1} → statement M
 copy-words-spec =

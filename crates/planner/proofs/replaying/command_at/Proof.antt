@@ -1,7 +1,7 @@
 -- Each way out has its kind. Assumes nothing.
 use mathlib.Core.Path.{_≡_}
 use native.Mathlib.Omega.{arith}
-use Rattle.planner.specs.Replay.{call}
+use Rattle.planner.specs.Replaying.{call}
 use Rattle.planner.proofs.replaying.command_at.Statement.{statement}
 use Rattle.planner.proofs.replaying.command_at.Tie as tie
 

@@ -1,6 +1,6 @@
 -- Each way out answers with the tests that led there. Assumes nothing.
 use borrow.Author.Tests.{lt-ltb, le-ltb}
-use Rattle.planner.specs.Replay.{unfit}
+use Rattle.planner.specs.Replaying.{unfit}
 use Rattle.planner.proofs.replaying.is_unfit.Statement.{statement}
 use Rattle.planner.proofs.replaying.is_unfit.Tie as tie
 

@@ -5,18 +5,20 @@ use native.Mathlib.Omega.{arith}
 use lib.ListN.{length}
 use borrow.Author.Needs.{needs}
 use Rattle.card.specs.Card.{card-refusal}
-use Rattle.planner.specs.Look.{buffers}
-use Rattle.planner.proofs.OpenLaws.{opened-answer, opened-starts}
-use Rattle.planner.proofs.ReplayLaws.{Going, fitting, begun, again, not-opened, not-fitting, ended}
+use Rattle.planner.specs.Looking.{buffers}
+use Rattle.board.specs.ModelOf.{model-of}
+use Rattle.board.proofs.ValidLaws.{valid-parts}
+use Rattle.planner.proofs.OpeningLaws.{Starts, opened-answer, opened-starts}
+use Rattle.planner.proofs.ReplayingLaws.{Going, fitting, begun, again, not-opened, not-fitting, not-long, ended}
 use Rattle.planner.proofs.replaying.replay.Statement.{statement}
 use Rattle.planner.proofs.replaying.replay.Tie as tie
 
 abbrev Inv-loop : tie.InvT-loop
-Inv-loop bytes kinds firsts seconds answers₀ parents₀ states₀ cuts₀ refusal b₀ i₀ answers parents states cuts b i =
+Inv-loop bytes kinds firsts seconds answers₀ parents₀ states₀ cuts₀ answer b₀ n i₀ answers parents states cuts b i =
     Going bytes kinds firsts seconds answers₀ (buffers parents₀ states₀ cuts₀) b i answers (buffers parents states cuts)
 
 abbrev μ-loop : tie.MeasureT-loop
-μ-loop bytes kinds firsts seconds answers₀ parents₀ states₀ cuts₀ refusal b₀ i₀ answers parents states cuts b i = length kinds - i
+μ-loop bytes kinds firsts seconds answers₀ parents₀ states₀ cuts₀ answer b₀ n i₀ answers parents states cuts b i = length kinds - i
 
 -- THE CARD opens
 opens : (c : tie.Else1 Inv-loop μ-loop) → card-refusal (c .before .before .before .before .before .before .before .before .before .before .args .bytes .now) ≡ 0
@@ -34,14 +36,28 @@ is-unfit-requires : tie.Need-is-unfit-requires Inv-loop μ-loop
 is-unfit-requires c κs = search needs
 
 returns-2 : tie.Need-returns-2 Inv-loop μ-loop
-returns-2 c = not-fitting _ _ _ _ _ _ _ (opens (c .before .before)) (sym (c .before .is-unfit .ensures) ∙ c .if2 .taken) refl
+returns-2 c = not-fitting _ _ _ _ _ _ _ (opens (c .before .before)) refl (sym (c .before .is-unfit .ensures) ∙ c .if2 .taken)
+
+-- THE BOARD as opened
+starts : (c : tie.Else1 Inv-loop μ-loop) → Starts (c .before .before .before .before .before .before .before .before .before .before .args .bytes .now) (c .before .open-card .result .board)
+starts c = opened-starts _ (c .before .open-card .result) (c .before .open-card .ensures) (opens c)
+
+is-too-short-requires : tie.Need-is-too-short-requires Inv-loop μ-loop
+is-too-short-requires c κs = let e = c .before .before .before in valid-parts (model-of (e .before .open-card .result .board)) (starts e .good) .n-high
+
+returns-3 : tie.Need-returns-3 Inv-loop μ-loop
+returns-3 c =
+    let e = c .before .before .before .before .before in
+    not-long _ _ _ _ _ _ _ (opens e) refl _ (starts e .same-n) (sym (c .before .is-too-short .ensures) ∙ c .if3 .taken)
 
 loop-holds : tie.Need-loop-holds Inv-loop μ-loop
 loop-holds c =
-    let e = c .before .before .before in
-    let s = opened-starts _ (e .before .open-card .result) (e .before .open-card .ensures) (opens e) in
-    let f = fitting _ _ _ _ (sym (c .before .before .is-unfit .ensures) ∙ c .before .if2 .left) in
+    let u = c .before .before .before in
+    let e = u .before .before in
+    let s = starts e in
+    let f = fitting _ _ _ _ (sym (u .before .is-unfit .ensures) ∙ u .if2 .left) in
     begun _ _ _ _ _ _ (e .before .open-card .result .board) (s .tied) (s .good) (s .same-n) (f .enough-firsts) (f .enough-seconds) (f .room)
+    (sym (c .before .is-too-short .ensures) ∙ c .if3 .left)
 
 shared-slice-read-make-call : tie.Need-shared-slice-read-make-call Inv-loop μ-loop
 shared-slice-read-make-call c = omega arith
@@ -62,13 +78,13 @@ make-call-requires : tie.Need-make-call-requires Inv-loop μ-loop
 make-call-requires c κs = search needs
 
 mul-answers : tie.Need-mul-answers Inv-loop μ-loop
-mul-answers c = omega (arith, c .before .before .before .before .before .before .before .before .before .before .before .before .before .loop-test .taken, c .before .before .before .before .before .before .before .before .before .before .before .before .before .before .loop .inv .room, c .before .before .before .before .before .before .before .before .before .before .before .before .before .before .before .before .before .before .before .before .before .before .before .before .before .before .before .before .good)
+mul-answers c = omega (arith, c .before .before .before .before .before .before .before .before .before .before .before .before .before .loop-test .taken, c .before .before .before .before .before .before .before .before .before .before .before .before .before .before .loop .inv .room, c .before .before .before .before .before .before .before .before .before .before .before .before .before .before .before .before .before .before .before .before .before .before .before .before .before .before .before .before .before .before .good)
 
 slice-write-answers : tie.Need-slice-write-answers Inv-loop μ-loop
 slice-write-answers c = omega (arith, c .before .before .before .before .before .before .before .before .before .before .before .before .before .loop-test .taken, c .before .before .before .before .before .before .before .before .before .before .before .before .before .before .loop .inv .room, c .before .before .before .before .before .before .before .before .before .before .before .before .before .before .loop .inv .size)
 
 add-i : tie.Need-add-i Inv-loop μ-loop
-add-i c = omega (arith, c .before .before .before .before .before .before .before .before .before .before .before .before .before .before .loop-test .taken, c .before .before .before .before .before .before .before .before .before .before .before .before .before .before .before .before .before .before .before .before .before .before .before .before .before .before .before .before .before .good)
+add-i c = omega (arith, c .before .before .before .before .before .before .before .before .before .before .before .before .before .before .loop-test .taken, c .before .before .before .before .before .before .before .before .before .before .before .before .before .before .before .before .before .before .before .before .before .before .before .before .before .before .before .before .before .before .before .good)
 
 loop-less : tie.Need-loop-less Inv-loop μ-loop
 loop-less c = omega (arith, c .before .before .before .before .before .before .before .before .before .before .before .before .before .before .loop-test .taken)
@@ -86,20 +102,20 @@ same-length : tie.Need-same-length Inv-loop μ-loop
 same-length c = c .before .before .before .before .before .before .before .before .before .before .before .loop .inv .size
 
 same-length-2 : tie.Need-same-length-2 Inv-loop μ-loop
-same-length-2 c = c .before .before .before .before .before .before .look .kept .1 .0 ∙ c .before .before .before .before .before .before .before .before .before .before .before .loop .inv .since .parents-length
+same-length-2 c = c .before .before .before .before .before .before .look .kept .1 .0 ∙ c .before .before .before .before .before .before .before .before .before .before .before .loop .inv .since .parents-long
 
 same-length-3 : tie.Need-same-length-3 Inv-loop μ-loop
-same-length-3 c = c .before .before .before .before .before .before .look .kept .1 .1 .0 ∙ c .before .before .before .before .before .before .before .before .before .before .before .loop .inv .since .states-length
+same-length-3 c = c .before .before .before .before .before .before .look .kept .1 .1 .0 ∙ c .before .before .before .before .before .before .before .before .before .before .before .loop .inv .since .states-long
 
 same-length-4 : tie.Need-same-length-4 Inv-loop μ-loop
-same-length-4 c = c .before .before .before .before .before .before .look .kept .1 .1 .1 .0 ∙ c .before .before .before .before .before .before .before .before .before .before .before .loop .inv .since .cuts-length
+same-length-4 c = c .before .before .before .before .before .before .look .kept .1 .1 .1 .0 ∙ c .before .before .before .before .before .before .before .before .before .before .before .loop .inv .since .cuts-long
 
-returns-3 : tie.Need-returns-3 Inv-loop μ-loop
-returns-3 c =
+returns-4 : tie.Need-returns-4 Inv-loop μ-loop
+returns-4 c =
     let l = c .before .before .before .before .before .before in
     let k = l .before .before .before .before in
     ended _ _ _ _ _ _ (k .before .loop .b) (k .before .loop .i) (k .before .loop .answers) _ _ (l .look .result) (k .loop-test .left) (k .before .loop .inv) (l .look .ensures)
-    (opens (k .before .before .before .before .before))
+    (opens (k .before .before .before .before .before .before .before))
 
 pub replay-spec : {M : Type 1} → statement M
 replay-spec =
@@ -111,6 +127,8 @@ replay-spec =
     returns
     is-unfit-requires
     returns-2
+    is-too-short-requires
+    returns-3
     loop-holds
     shared-slice-read-make-call
     mul-make-call
@@ -128,4 +146,4 @@ replay-spec =
     same-length-2
     same-length-3
     same-length-4
-    returns-3)
+    returns-4)

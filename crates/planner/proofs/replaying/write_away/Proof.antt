@@ -1,6 +1,6 @@
 -- A buffer of the longest card's length has room. Assumes nothing.
 use native.Mathlib.Omega.{arith}
-use Rattle.planner.proofs.WriteLaws.{write-answer}
+use Rattle.planner.proofs.WritingLaws.{write-answer}
 use borrow.Author.Needs.{needs}
 use Rattle.planner.proofs.replaying.write_away.Statement.{statement}
 use Rattle.planner.proofs.replaying.write_away.Tie as tie

@@ -1,10 +1,10 @@
 -- A refused card and one that opens, each by its law. Assumes nothing.
 use mathlib.Core.Path.{ap, _∙_}
 use borrow.Author.Needs.{needs}
-use Rattle.planner.specs.Calls.{opened-with}
-use Rattle.planner.proofs.OpenLaws.{open-refused, open-accepted}
-use Rattle.planner.proofs.open.open_card.Statement.{statement}
-use Rattle.planner.proofs.open.open_card.Tie as tie
+use Rattle.planner.specs.Opening.{answered-with}
+use Rattle.planner.proofs.OpeningLaws.{open-refused, open-accepted}
+use Rattle.planner.proofs.opening.open_card.Statement.{statement}
+use Rattle.planner.proofs.opening.open_card.Tie as tie
 
 read-card-requires : tie.Need-read-card-requires
 read-card-requires c κs = search needs
@@ -15,7 +15,7 @@ blank-board-requires c κs = search needs
 returns : tie.Need-returns
 returns c =
     let k = c .before .before in
-    ap (opened-with (k .read-card .result .refusal)) (c .blank-board .ensures) ∙ open-refused _ (k .read-card .result) (k .read-card .ensures) (c .before .if1 .taken)
+    ap (answered-with (k .read-card .result .refusal)) (c .blank-board .ensures) ∙ open-refused _ (k .read-card .result) (k .read-card .ensures) (c .before .if1 .taken)
 
 new-board-requires : tie.Need-new-board-requires
 new-board-requires c κs = search needs
@@ -23,7 +23,7 @@ new-board-requires c κs = search needs
 returns-2 : tie.Need-returns-2
 returns-2 c =
     let k = c .before .before .before .before in
-    ap (opened-with 0) (c .new-board .ensures .board) ∙ open-accepted _ (k .read-card .result) (k .read-card .ensures) (c .before .before .before .if1 .left)
+    ap (answered-with 0) (c .new-board .ensures .board) ∙ open-accepted _ (k .read-card .result) (k .read-card .ensures) (c .before .before .before .if1 .left)
 
 pub open-card-spec : {M : Type 1} → statement M
 open-card-spec = tie.close (tie.spec read-card-requires blank-board-requires returns new-board-requires returns-2)

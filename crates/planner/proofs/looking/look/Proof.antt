@@ -10,10 +10,10 @@ use Rattle.board.specs.declared.Board.{Board}
 use Rattle.board.proofs.BoardLaws.{Known, known}
 use Rattle.board.proofs.ValidLaws.{Valid, valid-fields, valid-parts}
 use Rattle.states.proofs.ShowLaws.{states-shown}
-use Rattle.planner.specs.Look.{too-short}
-use Rattle.planner.proofs.LookLaws.{shows, looks-invalid, looks-short, looks-shown, Rooms, rooms}
-use Rattle.planner.proofs.inspect.look.Statement.{statement}
-use Rattle.planner.proofs.inspect.look.Tie as tie
+use Rattle.planner.specs.Looking.{too-short}
+use Rattle.planner.proofs.LookingLaws.{shows, looks-invalid, looks-short, looks-shown, Rooms, rooms}
+use Rattle.planner.proofs.looking.look.Statement.{statement}
+use Rattle.planner.proofs.looking.look.Tie as tie
 
 -- THE BOARD is valid
 abbrev start-of : tie.After-is-valid → tie.Start
@@ -81,9 +81,8 @@ returns-3 c =
     let b = board-of (e .before .before .before) in
     let g = good (e .before .before) in
     let n = in-range (e .before .before) .n-high in
-    let r = room e in
     looks-shown b _ _ _ g (long e)
-    (shows (instance-of b) (p .plan-instance .result) _ _ n (r .for-parents) (r .for-cuts) (p .plan-instance .ensures) (d .display .ensures)
+    (shows (instance-of b) (p .plan-instance .result) _ _ (p .plan-instance .ensures) (d .display .ensures)
     (states-shown (instance-of b) n (arrays (e .before .before .before) .weights-long) (p .plan-instance .result .used) (p .plan-instance .ensures .table)))
 
 pub look-spec : {M : Type 1} → statement M

@@ -3,16 +3,22 @@
 use mathlib.Core.Path.{_≡_, refl, sym, ap, _∙_, subst}
 use mathlib.Core.Bool.{Bool, true, false, _||_}
 use mathlib.Core.List.{List, [], _∷_, _++_, append-assoc, append-nil}
-use Prim.Native.Nat.{ℕ, zero, suc, _+_, _-_, _≤_, _<_}
+use Prim.Native.Nat.{ℕ, zero, suc, _+_, _*_, _≤_, _<_}
 use native.Mathlib.Omega.{arith}
 use native.Mathlib.Numerals.{add-one}
 use lib.Dec.{ltb}
 use lib.ListN.{length, getD, set, take, drop, length-set, drop-of-length-le, take-append-drop}
 use lib.Seq.{drop-cons, take-suc-set, drop-set-lt}
 use borrow.Author.Tests.{le-ltb, ltb-false}
-use Rattle.base.proofs.Tests.{or-false-left, or-false-right}
+use Rattle.base.specs.Lists.{in-front}
+use Rattle.base.proofs.Tests.{or-false-left, or-false-right, or-right, or-both-false}
+use Rattle.base.proofs.FrontLaws.{front-is}
+use Rattle.instance.specs.Limits.{max-vertices, cut-words}
+use Rattle.instance.specs.Refusals.{buffer-short}
 use Rattle.instance.specs.Instance.{Instance}
 use Rattle.instance.specs.States.{states}
+use Rattle.instance.specs.Cuts.{words-of}
+use Rattle.theory.proofs.StateLaws.{states-read}
 use Rattle.card.specs.Card.{card-refusal, instance-in}
 use Rattle.board.specs.Model.{valid}
 use Rattle.board.specs.Log.{Log, new-log, effective}
@@ -20,11 +26,12 @@ use Rattle.board.specs.ModelOf.{model-of, instance-of}
 use Rattle.board.specs.declared.Board.{Board}
 use Rattle.board.specs.declared.Answered.{Answered}
 use Rattle.board.proofs.LogLaws.{Tied}
+use Rattle.board.proofs.ValidLaws.{valid-parts}
 use Rattle.planner.specs.declared.View.{View}
 use Rattle.planner.specs.declared.View.the-variants.{Refused}
-use Rattle.planner.specs.Look.{Buffers, short-for, Shows, Looks-at, Looks}
-use Rattle.planner.specs.Replay.{Call, call, calls, log-call, call-answers, calls-after, Makes, unfit, Replays-at, Replays}
-use Rattle.planner.proofs.CallSteps.{Since, since-same, since-then, Call-step, call-step, looks-valid}
+use Rattle.planner.specs.Looking.{Buffers, short-for, Shows, Looks}
+use Rattle.planner.specs.Replaying.{Call, call, calls, log-call, call-answers, calls-after, Makes, unfit, Replays-at, Replays}
+use Rattle.planner.proofs.CallSteps.{Since, since-same, since-then, tree-long, words-long, looks-long, Call-step, call-step}
 
 -- the calls from place i on
 abbrev from : (ks fs gs : List ℕ) → (i : ℕ) → List Call
@@ -35,23 +42,24 @@ pub record Going (ws ks fs gs xs₀ : List ℕ) (old : Buffers) (b : Board) (i :
   pub firsts : length ks ≤ length fs
   pub seconds : length ks ≤ length gs
   pub room : length ks ≤ length xs₀
+  pub long : short-for (instance-in ws .n) old ≡ false
   pub size : length xs ≡ length xs₀
   pub log : Log
   pub tied : Tied (model-of b) log
   pub good : valid (model-of b) ≡ true
   pub same-n : b .n ≡ instance-in ws .n
-  pub since : Since (short-for (instance-in ws .n) old) (instance-in ws .n) old new
+  pub since : Since (instance-in ws .n) old new
   pub answered :
-      take i xs ++ call-answers (short-for (instance-in ws .n) old) (from ks fs gs i) log
-      ≡ call-answers (short-for (instance-in ws .n) old) (calls ks fs gs) (new-log (instance-in ws))
+      take i xs ++ call-answers (from ks fs gs i) log
+      ≡ call-answers (calls ks fs gs) (new-log (instance-in ws))
   pub rest : drop i xs ≡ drop i xs₀
   pub after :
-      calls-after (short-for (instance-in ws .n) old) (from ks fs gs i) log
-      ≡ calls-after (short-for (instance-in ws .n) old) (calls ks fs gs) (new-log (instance-in ws))
+      calls-after (from ks fs gs i) log
+      ≡ calls-after (calls ks fs gs) (new-log (instance-in ws))
 
 -- a buffer is too short after calls exactly when it was before
-same-short : (t : Bool) (n : ℕ) (old new : Buffers) → Since t n old new → short-for n new ≡ short-for n old
-same-short t n old new s = rw (s .parents-length, s .states-length, s .cuts-length)
+same-short : (n : ℕ) (old new : Buffers) → Since n old new → short-for n new ≡ short-for n old
+same-short n old new s = rw (s .parents-long, s .states-long, s .cuts-long)
 
 split : (ks fs gs : List ℕ) (i : ℕ) → i < length ks → length ks ≤ length fs → length ks ≤ length gs →
     from ks fs gs i ≡ call (getD ks i 0) (getD fs i 0) (getD gs i 0) ∷ from ks fs gs (suc i)
@@ -89,61 +97,77 @@ fitting k f s a e =
       room = ltb-false a k (or-false-right Q R r);
     }
 
--- lists that do not fit, and a card that does not open
+-- a card that does not open, and lists or buffers that are too short
 pub not-opened : (ws ks fs gs xs : List ℕ) (old : Buffers) (v : View) (a : ℕ) → card-refusal ws ≡ a → (a ≡ 0 → ⊥) → v ≡ Refused a → Replays ws ks fs gs v xs xs old old
 unfolding Replays Replays-at
 not-opened ws ks fs gs xs old v zero e n r = absurd (n refl)
 not-opened ws ks fs gs xs old v (suc a) e n r = rw e (refl, record { result = r; buffers = refl })
 
-pub not-fitting :
-    (ws ks fs gs xs : List ℕ) (old : Buffers) (v : View) → card-refusal ws ≡ 0 → unfit (length ks) (length fs) (length gs) (length xs) ≡ true → v ≡ Refused 14 →
-    Replays ws ks fs gs v xs xs old old
-unfolding Replays Replays-at
-not-fitting ws ks fs gs xs old v z e r = rw (z, e) (refl, record { result = r; buffers = refl })
+too-short-at : (t : Bool) (ws ks fs gs xs : List ℕ) (old : Buffers) (v : View) → t ≡ true → v ≡ Refused buffer-short →
+    Replays-at 0 t (calls ks fs gs) (new-log (instance-in ws)) v xs xs old old
+unfolding Replays-at
+too-short-at t ws ks fs gs xs old v e r = rw e (refl, record { result = r; buffers = refl })
+
+module _ (ws ks fs gs xs : List ℕ) (old : Buffers) (v : View) (z : card-refusal ws ≡ 0) (r : v ≡ Refused buffer-short) where
+  abbrev unfit-lists : Bool
+  unfit-lists = unfit (length ks) (length fs) (length gs) (length xs)
+
+  pub not-fitting : unfit-lists ≡ true → Replays ws ks fs gs v xs xs old old
+  unfolding Replays
+  not-fitting e = rw z (too-short-at (unfit-lists || short-for (instance-in ws .n) old) ws ks fs gs xs old v (rw e) r)
+
+  pub not-long : (n : ℕ) → n ≡ instance-in ws .n → short-for n old ≡ true → Replays ws ks fs gs v xs xs old old
+  unfolding Replays
+  not-long n q e =
+      rw z
+      (too-short-at (unfit-lists || short-for (instance-in ws .n) old) ws ks fs gs xs old v
+      (or-right unfit-lists (short-for (instance-in ws .n) old) (ap (λ (m : ℕ). short-for m old) (sym q) ∙ e)) r)
 
 -- THE LAST LOOK is one from the buffers as they were before the calls
-shows-since : (s : Instance) (v : View) (old mid new : Buffers) → Since false (s .n) old mid → Shows s v mid new → Shows s v old new
-shows-since s v old mid new e x =
+shows-since : (s : Instance) (v : View) (old mid new : Buffers) → s .n ≤ max-vertices → Since (s .n) old mid → Shows s v mid new → Shows s v old new
+shows-since s v old mid new small e x =
+    let same : (k : ℕ) (l a b : List ℕ) → length l ≡ k → drop k a ≡ drop k b → in-front l a ≡ in-front l b =
+            λ k l a b n q. sym (front-is l a k n) ∙ ap (λ (r : List ℕ). l ++ r) q ∙ front-is l b k n in
     record {
+      tree = x .tree;
+      found = x .found;
       result = x .result;
-      states-shown = x .states-shown ∙ ap (λ (l : List ℕ). states s ++ l) (e .states-after);
-      parents-shown = x .parents-shown;
-      parents-length = x .parents-length ∙ e .parents-length;
-      parents-after = x .parents-after ∙ e .parents-after;
+      tree-shown = x .tree-shown;
       cuts-shown = x .cuts-shown;
-      zeros = x .zeros;
-      cuts-length = x .cuts-length ∙ e .cuts-length;
-      cuts-after = x .cuts-after ∙ e .cuts-after;
+      parents-buffer = x .parents-buffer ∙ same (s .n) (x .tree) (mid .parents) (old .parents) (tree-long s v mid new small x) (e .parents-after);
+      states-buffer = x .states-buffer ∙ same (s .n * s .n) (states s) (mid .states) (old .states) (states-read s .size) (e .states-after);
+      cuts-buffer = x .cuts-buffer ∙ same cut-words (words-of (x .found)) (mid .cuts) (old .cuts) (words-long s v mid new small x) (e .cuts-after);
     }
 
-finish :
-    (t : Bool) (cs : List Call) (k : Log) (v : View) (xs₀ xs : List ℕ) (old mid new : Buffers) → Since t (effective (calls-after t cs k) .n) old mid →
-    xs ≡ call-answers t cs k ++ drop (length cs) xs₀ → Looks-at true t (effective (calls-after t cs k)) v mid new → Replays-at 0 false t cs k v xs₀ xs old new
-unfolding Replays-at Looks-at
-finish true cs k v xs₀ xs old mid new e a u = (a, record { result = u .result; buffers = u .buffers ∙ e .untouched refl })
-finish false cs k v xs₀ xs old mid new e a x = (a, shows-since (effective (calls-after false cs k)) v old mid new e x)
+finish : (cs : List Call) (k : Log) (v : View) (xs₀ xs : List ℕ) (old new : Buffers) → xs ≡ in-front (call-answers cs k) xs₀ →
+    Shows (effective (calls-after cs k)) v old new → Replays-at 0 false cs k v xs₀ xs old new
+unfolding Replays-at
+finish cs k v xs₀ xs old new a x = (a, x)
+
+length-answers : (cs : List Call) (k : Log) → length (call-answers cs k) ≡ length cs
+unfolding call-answers
+length-answers [] k = refl
+length-answers (c ∷ cs) k = ap suc (length-answers cs (log-call c k .log))
 
 module _ (ws ks fs gs xs₀ : List ℕ) (old : Buffers) where
-  abbrev t₀ : Bool
-  t₀ = short-for (instance-in ws .n) old
-
   abbrev start : Log
   start = new-log (instance-in ws)
 
   pub begun : (b : Board) → Tied (model-of b) start → valid (model-of b) ≡ true → b .n ≡ instance-in ws .n → length ks ≤ length fs → length ks ≤ length gs →
-      length ks ≤ length xs₀ → Going ws ks fs gs xs₀ old b 0 xs₀ old
-  begun b y g e p q r =
+      length ks ≤ length xs₀ → short-for (b .n) old ≡ false → Going ws ks fs gs xs₀ old b 0 xs₀ old
+  begun b y g e p q r t =
       record {
         within = omega arith;
         firsts = p;
         seconds = q;
         room = r;
+        long = ap (λ (n : ℕ). short-for n old) (sym e) ∙ t;
         size = refl;
         log = start;
         tied = y;
         good = g;
         same-n = e;
-        since = since-same t₀ (instance-in ws .n) old old refl;
+        since = since-same (instance-in ws .n) old old refl;
         answered = refl;
         rest = refl;
         after = refl;
@@ -155,30 +179,31 @@ module _ (ws ks fs gs xs₀ : List ℕ) (old : Buffers) where
   unfolding call-answers calls-after
   again b i xs new next d h g m =
       let e = call (getD ks i 0) (getD fs i 0) (getD gs i 0) in
-      let q : short-for (b .n) new ≡ t₀ = ap (λ (n : ℕ). short-for n new) (g .same-n) ∙ same-short t₀ (instance-in ws .n) old new (g .since) in
-      let s : Call-step t₀ e b (g .log) d new next = subst (λ (t : Bool). Call-step t e b (g .log) d new next) q (call-step b (g .log) (g .good) (g .tied) e d new next m) in
+      let q : short-for (b .n) new ≡ false = ap (λ (n : ℕ). short-for n new) (g .same-n) ∙ same-short (instance-in ws .n) old new (g .since) ∙ g .long in
+      let s : Call-step e b (g .log) d new next = call-step b (g .log) (g .good) (g .tied) e d new next q m in
       let sp = split ks fs gs i h (g .firsts) (g .seconds) in
-      let k = log-call t₀ e (g .log) .log in
+      let k = log-call e (g .log) .log in
       subst (λ (j : ℕ). Going ws ks fs gs xs₀ old (d .board) j (set xs i (d .answer)) next) (sym (add-one i))
       (record {
         within = h;
         firsts = g .firsts;
         seconds = g .seconds;
         room = g .room;
+        long = g .long;
         size = length-set xs i (d .answer) ∙ g .size;
         log = k;
         tied = s .tied;
         good = s .good;
         same-n = s .same-n ∙ g .same-n;
-        since = since-then (g .since) (subst (λ (n : ℕ). Since t₀ n new next) (g .same-n) (s .since));
+        since = since-then (g .since) (subst (λ (n : ℕ). Since n new next) (g .same-n) (s .since));
         answered =
-            ap (λ (l : List ℕ). l ++ call-answers t₀ (from ks fs gs (suc i)) k) (take-suc-set xs i (d .answer) (omega (arith, g .size, g .room)))
-            ∙ append-assoc (take i xs) (d .answer ∷ []) (call-answers t₀ (from ks fs gs (suc i)) k)
-            ∙ ap (λ (a : ℕ). take i xs ++ (a ∷ call-answers t₀ (from ks fs gs (suc i)) k)) (s .answer)
-            ∙ ap (λ (cs : List Call). take i xs ++ call-answers t₀ cs (g .log)) (sym sp)
+            ap (λ (l : List ℕ). l ++ call-answers (from ks fs gs (suc i)) k) (take-suc-set xs i (d .answer) (omega (arith, g .size, g .room)))
+            ∙ append-assoc (take i xs) (d .answer ∷ []) (call-answers (from ks fs gs (suc i)) k)
+            ∙ ap (λ (a : ℕ). take i xs ++ (a ∷ call-answers (from ks fs gs (suc i)) k)) (s .answer)
+            ∙ ap (λ (cs : List Call). take i xs ++ call-answers cs (g .log)) (sym sp)
             ∙ g .answered;
         rest = drop-set-lt (suc i) xs i (d .answer) (omega arith) ∙ drop-later xs xs₀ i (g .rest);
-        after = ap (λ (cs : List Call). calls-after t₀ cs (g .log)) (sym sp) ∙ g .after;
+        after = ap (λ (cs : List Call). calls-after cs (g .log)) (sym sp) ∙ g .after;
       })
 
   past : (i : ℕ) → length ks ≤ i → from ks fs gs i ≡ []
@@ -198,31 +223,30 @@ module _ (ws ks fs gs xs₀ : List ℕ) (old : Buffers) where
     all-made : i ≡ length (calls ks fs gs)
     all-made = omega (arith, g .within, length-calls ks fs gs (g .firsts) (g .seconds))
 
-    answers-made : xs ≡ call-answers t₀ (calls ks fs gs) start ++ drop (length (calls ks fs gs)) xs₀
+    answers-made : xs ≡ in-front (call-answers (calls ks fs gs) start) xs₀
     unfolding call-answers
     answers-made =
         sym (take-append-drop i xs)
         ∙ ap (λ (r : List ℕ). take i xs ++ r) (g .rest)
         ∙ ap (λ (r : List ℕ). r ++ drop i xs₀)
-        (sym (append-nil (take i xs)) ∙ ap (λ (cs : List Call). take i xs ++ call-answers t₀ cs (g .log)) (sym (past i h)) ∙ g .answered)
-        ∙ ap (λ (j : ℕ). call-answers t₀ (calls ks fs gs) start ++ drop j xs₀) all-made
+        (sym (append-nil (take i xs)) ∙ ap (λ (cs : List Call). take i xs ++ call-answers cs (g .log)) (sym (past i h)) ∙ g .answered)
+        ∙ front-is (call-answers (calls ks fs gs) start) xs₀ i (length-answers (calls ks fs gs) start ∙ sym all-made)
 
-    log-made : g .log ≡ calls-after t₀ (calls ks fs gs) start
+    log-made : g .log ≡ calls-after (calls ks fs gs) start
     unfolding calls-after
-    log-made = ap (λ (cs : List Call). calls-after t₀ cs (g .log)) (sym (past i h)) ∙ g .after
+    log-made = ap (λ (cs : List Call). calls-after cs (g .log)) (sym (past i h)) ∙ g .after
 
-    shown-of : instance-of b ≡ effective (calls-after t₀ (calls ks fs gs) start)
+    shown-of : instance-of b ≡ effective (calls-after (calls ks fs gs) start)
     shown-of = g .tied .same-instance ∙ ap effective log-made
 
-    looked : Looks-at true t₀ (effective (calls-after t₀ (calls ks fs gs) start)) v mid new
-    looked =
-        let q : short-for (b .n) mid ≡ t₀ = ap (λ (n : ℕ). short-for n mid) (g .same-n) ∙ same-short t₀ (instance-in ws .n) old mid (g .since) in
-        subst (λ (s : Instance). Looks-at true t₀ s v mid new) shown-of
-        (subst (λ (t : Bool). Looks-at true t (instance-of b) v mid new) q (looks-valid b v mid new (g .good) l))
+    shown : Shows (instance-of b) v old new
+    shown =
+        let q : short-for (b .n) mid ≡ false = ap (λ (n : ℕ). short-for n mid) (g .same-n) ∙ same-short (instance-in ws .n) old mid (g .since) ∙ g .long in
+        shows-since (instance-of b) v old mid new (valid-parts (model-of b) (g .good) .n-high) (subst (λ (n : ℕ). Since n old mid) (sym (g .same-n)) (g .since))
+        (looks-long b v mid new (g .good) q l)
 
     pub ended : card-refusal ws ≡ 0 → Replays ws ks fs gs v xs₀ xs old new
     unfolding Replays
     ended z =
-        let n : effective (calls-after t₀ (calls ks fs gs) start) .n ≡ instance-in ws .n = sym (ap (λ (s : Instance). s .n) shown-of) ∙ g .same-n in
-        rw (z, fit ks fs gs xs₀ (g .firsts) (g .seconds) (g .room))
-        (finish t₀ (calls ks fs gs) start v xs₀ xs old mid new (subst (λ (m : ℕ). Since t₀ m old mid) (sym n) (g .since)) answers-made looked)
+        rw (z, or-both-false (unfit (length ks) (length fs) (length gs) (length xs₀)) (short-for (instance-in ws .n) old) (fit ks fs gs xs₀ (g .firsts) (g .seconds) (g .room)) (g .long))
+        (finish (calls ks fs gs) start v xs₀ xs old new answers-made (subst (λ (s : Instance). Shows s v old new) shown-of shown))

@@ -6,8 +6,8 @@ use borrow.Author.Tests.{not-true, not-false}
 use Rattle.board.specs.Model.{valid}
 use Rattle.board.specs.ModelOf.{model-of}
 use Rattle.board.proofs.ValidLaws.{valid-parts}
-use Rattle.planner.proofs.write.write_card.Statement.{statement}
-use Rattle.planner.proofs.write.write_card.Tie as tie
+use Rattle.planner.proofs.writing.write_card.Statement.{statement}
+use Rattle.planner.proofs.writing.write_card.Tie as tie
 
 is-valid-requires : tie.Need-is-valid-requires
 is-valid-requires c κs = search needs

@@ -2,10 +2,12 @@
 -- definitions.
 use mathlib.Core.Path.{_≡_}
 use mathlib.Core.Bool.{Bool, true, false, _||_, cond}
-use mathlib.Core.List.{List, [], _∷_, _++_}
+use mathlib.Core.List.{List, [], _∷_}
 use Prim.Native.Nat.{ℕ, zero, suc}
 use lib.Dec.{ltb}
-use lib.ListN.{length, drop}
+use lib.ListN.{length}
+use Rattle.base.specs.Lists.{in-front}
+use Rattle.instance.specs.Refusals.{buffer-short, invalid-board}
 use Rattle.card.specs.Card.{card-refusal, instance-in}
 use Rattle.board.specs.Model.{Command, pin, ban, clear, set-budget, undo, valid, answered}
 use Rattle.board.specs.Log.{Log, new-log, Noted, unnoted, note, effective}
@@ -13,7 +15,7 @@ use Rattle.board.specs.ModelOf.{model-of, Answers}
 use Rattle.board.specs.declared.Board.{Board}
 use Rattle.board.specs.declared.Answered.{Answered}
 use Rattle.planner.specs.declared.View.{View}
-use Rattle.planner.specs.Look.{Buffers, answer-of, short-for, Shows, Untouched, Looks}
+use Rattle.planner.specs.Looking.{Buffers, answer-of, short-for, Shows, Untouched, Looks}
 
 -- THE LIST
 -- what it may hold: the log's commands, and "looks and writes", which "leave the board and the book as they were"
@@ -39,42 +41,39 @@ calls (k ∷ ks) (a ∷ as′) [] = []
 calls (k ∷ ks) (a ∷ as′) (b ∷ bs) = call k a b ∷ calls ks as′ bs
 
 -- THE LOG'S ANSWERS
--- a look is refused by 14 exactly when a buffer is too short; a write, into a buffer of its own, never
-unfoldable pub log-call : (short : Bool) → Call → Log → Noted
-log-call short (command c) k = note c k
-log-call short look k = unnoted (cond short 14 0) k
-log-call short write k = unnoted 0 k
+-- looks and writes have room here, and are accepted
+unfoldable pub log-call : Call → Log → Noted
+log-call (command c) k = note c k
+log-call look k = unnoted 0 k
+log-call write k = unnoted 0 k
 
-unfoldable pub call-answers : (short : Bool) → List Call → Log → List ℕ
-call-answers short [] k = []
-call-answers short (c ∷ cs) k = log-call short c k .answer ∷ call-answers short cs (log-call short c k .log)
+unfoldable pub call-answers : List Call → Log → List ℕ
+call-answers [] k = []
+call-answers (c ∷ cs) k = log-call c k .answer ∷ call-answers cs (log-call c k .log)
 
-unfoldable pub calls-after : (short : Bool) → List Call → Log → Log
-calls-after short [] k = k
-calls-after short (c ∷ cs) k = calls-after short cs (log-call short c k .log)
+unfoldable pub calls-after : List Call → Log → Log
+calls-after [] k = k
+calls-after (c ∷ cs) k = calls-after cs (log-call c k .log)
 
 -- ONE CALL on a board: the answer, the board that is left, and the buffers of a look
 unfoldable pub Makes : Call → Board → Answered → (old new : Buffers) → Type 0
 Makes (command c) b r old new = Answers (answered c (model-of b)) b r × (new ≡ old)
 Makes look b r old new = (v : View) × (r .answer ≡ answer-of v) × (r .board ≡ b) × Looks b v old new
-Makes write b r old new = (r .answer ≡ cond (valid (model-of b)) 0 15) × (r .board ≡ b) × (new ≡ old)
+Makes write b r old new = (r .answer ≡ cond (valid (model-of b)) 0 invalid-board) × (r .board ≡ b) × (new ≡ old)
 
 -- THE WHOLE LIST on a freshly opened card, and a look at the end
--- "a lent buffer too short": fewer numbers than kinds, or no room for the answers
+-- fewer numbers than kinds, or no room for the answers
 unfoldable pub unfit : (kinds firsts seconds answers : ℕ) → Bool
 unfit k f s a = ltb f k || (ltb s k || ltb a k)
 
--- A card that does not open, or a list that is too short (14), leaves everything as it was. Else every call is made and its answer is the
--- log's; the last look shows the effective instance, or gives 14 exactly when one of its three buffers is too short, and leaves them as they
--- were. The answers of the calls that were made stand in their list in either case.
-unfoldable pub Replays-at : (refusal : ℕ) → (unfit short : Bool) → List Call → Log → View → (answers answers′ : List ℕ) → (old new : Buffers) → Type 0
-Replays-at (suc a) unfit short cs k r xs xs′ old new = (xs′ ≡ xs) × Untouched (suc a) r old new
-Replays-at zero true short cs k r xs xs′ old new = (xs′ ≡ xs) × Untouched 14 r old new
-Replays-at zero false true cs k r xs xs′ old new = (xs′ ≡ call-answers true cs k ++ drop (length cs) xs) × Untouched 14 r old new
-Replays-at zero false false cs k r xs xs′ old new =
-    (xs′ ≡ call-answers false cs k ++ drop (length cs) xs) × Shows (effective (calls-after false cs k)) r old new
+-- A card that does not open leaves everything as it was, and so does "a lent buffer too short" (14): a list of numbers, the answers, or one of
+-- the look's three. Else every call is made, its answer is the log's, and the last look shows the effective instance.
+unfoldable pub Replays-at : (refusal : ℕ) → (short : Bool) → List Call → Log → View → (answers answers′ : List ℕ) → (old new : Buffers) → Type 0
+Replays-at (suc a) short cs k r xs xs′ old new = (xs′ ≡ xs) × Untouched (suc a) r old new
+Replays-at zero true cs k r xs xs′ old new = (xs′ ≡ xs) × Untouched buffer-short r old new
+Replays-at zero false cs k r xs xs′ old new = (xs′ ≡ in-front (call-answers cs k) xs) × Shows (effective (calls-after cs k)) r old new
 
 unfoldable pub Replays : (card kinds firsts seconds : List ℕ) → View → (answers answers′ : List ℕ) → (old new : Buffers) → Type 0
 Replays ws ks fs gs r xs xs′ old new =
-    Replays-at (card-refusal ws) (unfit (length ks) (length fs) (length gs) (length xs)) (short-for (instance-in ws .n) old) (calls ks fs gs)
+    Replays-at (card-refusal ws) (unfit (length ks) (length fs) (length gs) (length xs) || short-for (instance-in ws .n) old) (calls ks fs gs)
     (new-log (instance-in ws)) r xs xs′ old new

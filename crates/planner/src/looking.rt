@@ -2,17 +2,21 @@
 ghost use mathlib.Core.Path.{_≡_};
 ghost use Prim.Native.Nat.{_*_, _≤_};
 ghost use lib.ListN.{length};
-ghost use Rattle.planner.specs.Look.{buffers, too-short, Looks};
-ghost use Rattle.planner.specs.Survey.{Displays};
+ghost use Rattle.instance.specs.Limits.{max-vertices, cut-words};
+ghost use Rattle.planner.specs.Displaying.{Displays};
+ghost use Rattle.planner.specs.Looking.{buffers, too-short, Looks};
 use crate::View;
 use crate::copies;
-use crate::survey::Survey;
-use crate::survey::plan_instance;
 use board::Board;
+use instance::limits::CELLS;
 use instance::limits::CUT_WORDS;
+use instance::refusals::BUFFER_SHORT;
+use instance::refusals::INVALID_BOARD;
+use survey::Survey;
+use survey::plan_instance;
 
-fn is_too_short(n: u32, parents: usize, states: usize, cuts: usize) -> bool
-    requires { ⌜ n ≤ 32 ⌝ }
+pub fn is_too_short(n: u32, parents: usize, states: usize, cuts: usize) -> bool
+    requires { ⌜ n ≤ max-vertices ⌝ }
     ensures { λ r. ⌜ r ≡ too-short n parents states cuts ⌝ }
 {
     if parents < (n as usize) {
@@ -24,16 +28,17 @@ fn is_too_short(n: u32, parents: usize, states: usize, cuts: usize) -> bool
     cuts < CUT_WORDS
 }
 
+// Copies what was found: the parents, the states by the usable arcs and the weights of the instance, and the words of the cuts.
 fn display(
     found: Survey,
-    weights: &[u32; 1024],
+    weights: &[u32; CELLS],
     n: u32,
     root: u32,
     parents: &mut [u8],
     states: &mut [u8],
     cuts: &mut [u32],
 )
-    requires { ⌜ (n ≤ 32) × (n ≤ length (now parents)) × (n * n ≤ length (now states)) × (122 ≤ length (now cuts)) ⌝ }
+    requires { ⌜ (n ≤ max-vertices) × (n ≤ length (now parents)) × (n * n ≤ length (now states)) × (cut-words ≤ length (now cuts)) ⌝ }
     ensures { λ _. ⌜ Displays found (now (weights .entry)) n root (buffers (now (parents .entry)) (now (states .entry)) (now (cuts .entry))) (buffers (now (parents .exit)) (now (states .exit)) (now (cuts .exit))) ⌝ }
 {
     let tree = found.parents;
@@ -48,16 +53,17 @@ pub fn look(b: Board, parents: &mut [u8], states: &mut [u8], cuts: &mut [u32]) -
     ensures { λ r. ⌜ Looks b r (buffers (now (parents .entry)) (now (states .entry)) (now (cuts .entry))) (buffers (now (parents .exit)) (now (states .exit)) (now (cuts .exit))) ⌝ }
 {
     if !board::valid::is_valid(b) {
-        return View::Refused(15);
+        return View::Refused(INVALID_BOARD);
     }
     let n = b.n;
     let root = b.root;
     let budget = b.budget;
     if is_too_short(n, parents.len(), states.len(), cuts.len()) {
-        return View::Refused(14);
+        return View::Refused(BUFFER_SHORT);
     }
     let found = plan_instance(&b.weights, &b.marks, n, root, budget);
-    let view = found.view;
+    let outcome = found.outcome;
+    let pairs = found.pairs;
     display(found, &b.weights, n, root, parents, states, cuts);
-    view
+    View::Shown(outcome, pairs)
 }

@@ -16,8 +16,8 @@ use Rattle.board.proofs.LogLaws.{Tied}
 use Rattle.board.proofs.RunLaws.{new-board-follows}
 use Rattle.card.proofs.CardAgain.{opened-valid}
 use Rattle.card.proofs.OpensLaws.{marks-long}
-use Rattle.planner.specs.declared.Opened.{Opened}
-use Rattle.planner.specs.Calls.{opened-with, opened-from, fresh}
+use Rattle.board.specs.declared.Answered.{Answered}
+use Rattle.planner.specs.Opening.{answered-with, opened-from, fresh}
 
 -- A FRESH BOARD is valid and follows a new log
 pub record Starts (ws : List ℕ) (b : Board) : Type 0 where
@@ -32,27 +32,27 @@ fresh-starts ws z =
     let f = new-board-follows (s .n) (s .root) (s .budget) (s .weights) (s .marks) (fresh s) (record { board = refl; model = refl }) (opened-valid ws z) (marks-long ws) in
     record { good = f .is-valid; tied = f .tied; same-n = refl }
 
-pub opened-starts : (ws : List ℕ) (o : Opened) → o ≡ opened-from ws → card-refusal ws ≡ 0 → Starts ws (o .board)
+pub opened-starts : (ws : List ℕ) (o : Answered) → o ≡ opened-from ws → card-refusal ws ≡ 0 → Starts ws (o .board)
 unfolding opened-from
 opened-starts ws o e z =
-    let q : o ≡ opened-with 0 (fresh (instance-in ws)) = e ∙ rw (eq-eqb (card-refusal ws) 0 z) in
-    subst (Starts ws) (sym (ap (λ (x : Opened). x .board) q)) (fresh-starts ws z)
+    let q : o ≡ answered-with 0 (fresh (instance-in ws)) = e ∙ rw (eq-eqb (card-refusal ws) 0 z) in
+    subst (Starts ws) (sym (ap (λ (x : Answered). x .board) q)) (fresh-starts ws z)
 
 -- the answer is the card's refusal
-pub opened-answer : (ws : List ℕ) (o : Opened) → o ≡ opened-from ws → o .answer ≡ card-refusal ws
+pub opened-answer : (ws : List ℕ) (o : Answered) → o ≡ opened-from ws → o .answer ≡ card-refusal ws
 unfolding opened-from
-opened-answer ws o e = ap (λ (x : Opened). x .answer) e ∙ go (eqb (card-refusal ws) 0) refl
+opened-answer ws o e = ap (λ (x : Answered). x .answer) e ∙ go (eqb (card-refusal ws) 0) refl
   where
-    go : (b : Bool) → eqb (card-refusal ws) 0 ≡ b → cond b (opened-with 0 (fresh (instance-in ws))) (opened-with (card-refusal ws) blank) .answer ≡ card-refusal ws
+    go : (b : Bool) → eqb (card-refusal ws) 0 ≡ b → cond b (answered-with 0 (fresh (instance-in ws))) (answered-with (card-refusal ws) blank) .answer ≡ card-refusal ws
     go true q = sym (eqb-true (card-refusal ws) 0 q)
     go false q = refl
 
 -- the board of a card that opens holds its instance
-pub opened-instance : (ws : List ℕ) (o : Opened) → o ≡ opened-from ws → card-refusal ws ≡ 0 → instance-of (o .board) ≡ instance-in ws
+pub opened-instance : (ws : List ℕ) (o : Answered) → o ≡ opened-from ws → card-refusal ws ≡ 0 → instance-of (o .board) ≡ instance-in ws
 unfolding opened-from board-with
 opened-instance ws o e z =
-    let q : o ≡ opened-with 0 (fresh (instance-in ws)) = e ∙ rw (eq-eqb (card-refusal ws) 0 z) in
-    ap (λ (x : Opened). instance-of (x .board)) q
+    let q : o ≡ answered-with 0 (fresh (instance-in ws)) = e ∙ rw (eq-eqb (card-refusal ws) 0 z) in
+    ap (λ (x : Answered). instance-of (x .board)) q
 
 -- WHAT A CARD SAYS
 -- contents with the refusal they come with
@@ -68,11 +68,11 @@ module _ (ws : List ℕ) (c : Contents) (e : c ≡ contents-of ws) where
   said : c .refusal ≡ card-refusal ws
   said = ap (λ (x : Contents). x .refusal) e ∙ refusal-said ws
 
-  pub open-refused : (c .refusal ≡ 0 → ⊥) → opened-with (c .refusal) blank ≡ opened-from ws
+  pub open-refused : (c .refusal ≡ 0 → ⊥) → answered-with (c .refusal) blank ≡ opened-from ws
   unfolding opened-from
   open-refused n = rw (← said, ne-eqb (c .refusal) 0 n)
 
-  pub open-accepted : c .refusal ≡ 0 → opened-with 0 (board-with (c .n) (c .root) (c .budget) (c .weights) (c .marks)) ≡ opened-from ws
+  pub open-accepted : c .refusal ≡ 0 → answered-with 0 (board-with (c .n) (c .root) (c .budget) (c .weights) (c .marks)) ≡ opened-from ws
   unfolding opened-from contents-of
   open-accepted z =
       let q : eqb (card-refusal ws) 0 ≡ true = eq-eqb (card-refusal ws) 0 (sym said ∙ z) in

@@ -1,24 +1,24 @@
 // A board from a card.
 ghost use mathlib.Core.Path.{_≡_};
-ghost use Rattle.planner.specs.Calls.{opened-from};
-use crate::Opened;
+ghost use Rattle.planner.specs.Opening.{opened-from};
+use board::Answered;
 
-pub fn open_card(bytes: &[u8]) -> Opened
+pub fn open_card(bytes: &[u8]) -> Answered
     ensures { λ r. ⌜ r ≡ opened-from (now (bytes .entry)) ⌝ }
 {
     let c = card::read::read_card(bytes);
-    let refusal = c.refusal;
-    if refusal != 0 {
+    let answer = c.refusal;
+    if answer != 0 {
         let blank = board::create::blank_board();
-        return Opened {
-            answer: refusal,
+        return Answered {
+            answer,
             board: blank,
         };
     }
     let weights = c.weights;
     let marks = c.marks;
     let fresh = board::create::new_board(c.n, c.root, c.budget, weights, marks);
-    Opened {
+    Answered {
         answer: 0,
         board: fresh,
     }

@@ -1,14 +1,15 @@
 // A board written as a card: the present marks and budget, and not the history.
-ghost use Rattle.planner.specs.Calls.{Writes};
+ghost use Rattle.planner.specs.Writing.{Writes};
 use board::Board;
 use card::write::Written;
+use instance::refusals::INVALID_BOARD;
 
 pub fn write_card(b: Board, out: &mut [u8]) -> Written
     ensures { λ r. ⌜ Writes b r (now (out .entry)) (now (out .exit)) ⌝ }
 {
     if !board::valid::is_valid(b) {
         return Written {
-            number: 15,
+            number: INVALID_BOARD,
             length: 0,
         };
     }

@@ -1,0 +1,77 @@
+-- From what planning found and what was copied out to what a look promises. Assumes nothing.
+use mathlib.Core.Path.{_≡_, refl, sym, ap, _∙_}
+use mathlib.Core.Bool.{true, false, _||_}
+use mathlib.Core.List.{List, _++_}
+use Prim.Native.Nat.{ℕ, _*_, _/_, _%_, _≤_}
+use native.Mathlib.Omega.{arith}
+use lib.ListN.{length, take, drop}
+use lib.Dec.{ltb}
+use borrow.Author.Tests.{ltb-false}
+use Rattle.base.specs.Lists.{tabulate, in-front}
+use Rattle.base.proofs.Tests.{or-false-left, or-false-right}
+use Rattle.base.proofs.FrontLaws.{front-is}
+use Rattle.instance.specs.Limits.{cut-words}
+use Rattle.instance.specs.Refusals.{buffer-short, invalid-board}
+use Rattle.instance.specs.Instance.{Instance}
+use Rattle.instance.specs.States.{states}
+use Rattle.theory.proofs.StateLaws.{states-read}
+use Rattle.board.specs.Model.{valid}
+use Rattle.board.specs.ModelOf.{model-of, instance-of}
+use Rattle.board.specs.declared.Board.{Board}
+use Rattle.states.specs.Table.{state-by}
+use Rattle.survey.specs.declared.Survey.{Survey}
+use Rattle.survey.specs.Survey.{Surveys}
+use Rattle.planner.specs.declared.View.{View}
+use Rattle.planner.specs.declared.View.the-variants.{Shown, Refused}
+use Rattle.planner.specs.Looking.{Buffers, too-short, short-for, Shows, Looks-at, Looks}
+use Rattle.planner.specs.Displaying.{Displays}
+
+-- THE LOOK SHOWS WHAT WAS FOUND
+pub shows :
+    (s : Instance) (r : Survey) (old new : Buffers) → Surveys s r → Displays r (s .weights) (s .n) (s .root) old new →
+    tabulate (s .n * s .n) (λ i. state-by (s .n) (s .root) (r .used) (s .weights) (i / s .n) (i % s .n)) ≡ states s →
+    Shows s (Shown (r .outcome) (r .pairs)) old new
+shows s r old new f d right =
+    record {
+      tree = take (s .n) (r .parents);
+      found = f .found;
+      result = λ i. Shown (f .result i) (f .counted i);
+      tree-shown = f .parents-found;
+      cuts-shown = f .cuts-found;
+      parents-buffer = d .parents;
+      states-buffer =
+          d .states ∙ ap (λ (l : List ℕ). l ++ drop (s .n * s .n) (old .states)) right ∙ front-is (states s) (old .states) (s .n * s .n) (states-read s .size);
+      cuts-buffer = d .cuts ∙ ap (λ (l : List ℕ). in-front l (old .cuts)) (f .words);
+    }
+
+-- THE THREE WAYS of a look
+pub looks-invalid : (b : Board) (x : Buffers) → valid (model-of b) ≡ false → Looks b (Refused invalid-board) x x
+unfolding Looks Looks-at
+looks-invalid b x e = rw e (record { result = refl; buffers = refl })
+
+pub looks-short : (b : Board) (x : Buffers) → valid (model-of b) ≡ true → short-for (b .n) x ≡ true → Looks b (Refused buffer-short) x x
+unfolding Looks Looks-at
+looks-short b x e t = rw (e, t) (record { result = refl; buffers = refl })
+
+pub looks-shown : (b : Board) (v : View) (old new : Buffers) → valid (model-of b) ≡ true → short-for (b .n) old ≡ false → Shows (instance-of b) v old new → Looks b v old new
+unfolding Looks Looks-at
+looks-shown b v old new e t x = rw (e, t) x
+
+-- buffers that are long enough
+pub record Rooms (n parents states cuts : ℕ) : Type 0 where
+  pub for-parents : n ≤ parents
+  pub for-states : n * n ≤ states
+  pub for-cuts : cut-words ≤ cuts
+
+pub rooms : (n a b c : ℕ) → too-short n a b c ≡ false → Rooms n a b c
+unfolding too-short
+rooms n a b c e =
+    let P = ltb a n in
+    let Q = ltb b (n * n) in
+    let R = ltb c cut-words in
+    let r = or-false-right P (Q || R) e in
+    record {
+      for-parents = ltb-false a n (or-false-left P (Q || R) e);
+      for-states = ltb-false b (n * n) (or-false-left Q R r);
+      for-cuts = ltb-false c cut-words (or-false-right Q R r);
+    }

@@ -1,0 +1,69 @@
+-- What a look yields. Unique, and so an equation: the outcome with its total, the states, every refusal, and all that stands after the filled
+-- places. Free, each with what holds of it: the arborescence that is shown, the cuts and how many they are, the set that no arc enters; each
+-- is named here, and the buffers are equations with it. Assumes nothing: these are definitions.
+use mathlib.Core.Path.{_≡_}
+use mathlib.Core.Bool.{Bool, true, false, _||_}
+use mathlib.Core.List.{List}
+use Prim.Native.Nat.{ℕ, _*_}
+use lib.Dec.{ltb}
+use lib.ListN.{length}
+use Rattle.base.specs.Lists.{in-front}
+use Rattle.instance.specs.Limits.{cut-words}
+use Rattle.instance.specs.Refusals.{buffer-short, invalid-board}
+use Rattle.instance.specs.Instance.{Instance}
+use Rattle.instance.specs.States.{outcome, states}
+use Rattle.instance.specs.Cuts.{Cut, words-of}
+use Rattle.board.specs.Model.{valid}
+use Rattle.board.specs.ModelOf.{model-of, instance-of}
+use Rattle.board.specs.declared.Board.{Board}
+use Rattle.survey.specs.Survey.{Parents-shown, Cuts-shown}
+use Rattle.planner.specs.declared.View.{View}
+use Rattle.planner.specs.declared.View.the-variants.{Shown, Refused}
+
+-- document 01's number for a look: 0, or the refusal's
+abbrev pub answer-of : View → ℕ
+answer-of (Shown o k) = 0
+answer-of (Refused a) = a
+
+-- THE BUFFERS
+pub record Buffers : Type 0 where
+  pub parents : List ℕ
+  pub states : List ℕ
+  pub cuts : List ℕ
+
+abbrev pub buffers : (parents states cuts : List ℕ) → Buffers
+buffers ps ss cs = record { parents = ps; states = ss; cuts = cs }
+
+-- "at least n bytes for feeders, n times n bytes for states, and 122 32-bit words for cuts"
+unfoldable pub too-short : (n parents states cuts : ℕ) → Bool
+too-short n a b c = ltb a n || (ltb b (n * n) || ltb c cut-words)
+
+abbrev pub short-for : (n : ℕ) → Buffers → Bool
+short-for n x = too-short n (length (x .parents)) (length (x .states)) (length (x .cuts))
+
+-- A look at an instance: the result, and the buffers before and after. "plan with its total; over with the cheapest total; none"; "the number
+-- of pairs is in the result"; "the first n bytes", "the first n times n bytes, feeder by feeder", "the first 122 words", and "bytes and words
+-- after those keep their contents".
+pub record Shows (s : Instance) (r : View) (old new : Buffers) : Type 0 where
+  pub tree : List ℕ
+  pub found : List Cut
+  pub result : r ≡ Shown (outcome s) (length found)
+  pub tree-shown : Parents-shown (outcome s) s tree
+  pub cuts-shown : Cuts-shown (outcome s) s found
+  pub parents-buffer : new .parents ≡ in-front tree (old .parents)
+  pub states-buffer : new .states ≡ in-front (states s) (old .states)
+  pub cuts-buffer : new .cuts ≡ in-front (words-of found) (old .cuts)
+
+-- a refusal: "board and buffers as before"
+pub record Untouched (answer : ℕ) (r : View) (old new : Buffers) : Type 0 where
+  pub result : r ≡ Refused answer
+  pub buffers : new ≡ old
+
+-- "On a board, 15 comes first; then .. 14 for looks and writes."
+unfoldable pub Looks-at : (valid short : Bool) → Instance → View → (old new : Buffers) → Type 0
+Looks-at false short s r old new = Untouched invalid-board r old new
+Looks-at true true s r old new = Untouched buffer-short r old new
+Looks-at true false s r old new = Shows s r old new
+
+unfoldable pub Looks : Board → View → (old new : Buffers) → Type 0
+Looks b r old new = Looks-at (valid (model-of b)) (short-for (b .n) old) (instance-of b) r old new
