@@ -1,0 +1,96 @@
+-- DEMAND 3, of the public calls themselves and for every caller: one claim about every list of commands on a freshly opened card, refused ones
+-- included, looks and writes between them or not. Assumes nothing.
+use mathlib.Core.Path.{_≡_, refl, sym, ap, _∙_, subst}
+use mathlib.Core.Bool.{Bool, true, false, true≢false}
+use mathlib.Core.List.{List, [], _∷_}
+use Prim.Native.Nat.{ℕ, _*_}
+use lib.ListN.{take}
+use Rattle.base.proofs.FrontLaws.{front-take}
+use Rattle.instance.specs.Instance.{Instance}
+use Rattle.instance.specs.States.{states}
+use Rattle.theory.specs.Readings.{States-read}
+use Rattle.theory.proofs.StateLaws.{states-read}
+use Rattle.card.specs.Card.{card-refusal, instance-in}
+use Rattle.card.specs.declared.write.Written.{Written}
+use Rattle.board.specs.Model.{Command}
+use Rattle.board.specs.Log.{Log, new-log, note, log-answers, log-after, effective}
+use Rattle.board.specs.ModelOf.{instance-of}
+use Rattle.board.specs.declared.Board.{Board}
+use Rattle.board.specs.declared.Answered.{Answered}
+use Rattle.board.proofs.CallLaws.{call-changes}
+use Rattle.board.proofs.RunLaws.{Called, called-answers, Follows, call-follows}
+use Rattle.planner.specs.declared.View.{View}
+use Rattle.planner.specs.Looking.{Buffers, short-for, Looks-at}
+use Rattle.planner.proofs.CallSteps.{looks-valid}
+use Rattle.planner.proofs.Learnt.{Opened-by, opened-by, Looked, looked, Wrote}
+use Rattle.planner.proofs.OpeningLaws.{opened-starts}
+
+-- a run: "each later one the board as the call before left it, refused or not; looks and writes may come between"
+pub data Run : List Command → Board → (answers : List ℕ) → (last : Board) → Type 0 where
+  no-call : {b : Board} → Run [] b [] b
+  then-command :
+      {c : Command} {cs : List Command} {b : Board} {r : Answered} {xs : List ℕ} {e : Board} → Called c b r → Run cs (r .board) xs e →
+      Run (c ∷ cs) b (r .answer ∷ xs) e
+  then-look :
+      {cs : List Command} {b : Board} {xs : List ℕ} {e : Board} {v : View} {old new : Buffers} → Looked b v old new → Run cs b xs e → Run cs b xs e
+  then-write :
+      {cs : List Command} {b : Board} {xs : List ℕ} {e : Board} {r : Written} {out out′ : List ℕ} → Wrote b r out out′ → Run cs b xs e → Run cs b xs e
+
+record Follows-run (cs : List Command) (k : Log) (b : Board) (xs : List ℕ) (e : Board) : Type 0 where
+  same-answers : xs ≡ log-answers cs k
+  follows : Follows e (log-after cs k)
+  same-n : e .n ≡ b .n
+
+run-follows : {cs : List Command} {b : Board} {xs : List ℕ} {e : Board} → Run cs b xs e → (k : Log) → Follows b k → Follows-run cs k b xs e
+unfolding log-answers log-after
+run-follows no-call k f = record { same-answers = refl; follows = f; same-n = refl }
+run-follows (then-command {c = c} {b = b} {r = r} l rest) k f =
+    let a = called-answers l in
+    let s = call-follows c b r k a f in
+    let n = run-follows rest (note c k .log) (s .follows) in
+    record {
+      same-answers = λ i. s .same-answer i ∷ n .same-answers i;
+      follows = n .follows;
+      same-n = n .same-n ∙ call-changes c b r a .n;
+    }
+run-follows (then-look l rest) k f = run-follows rest k f
+run-follows (then-write l rest) k f = run-follows rest k f
+
+-- "every call's answer, accepted or the refusal's number, is the book's. A look at the last board, whatever buffers it is lent, gives 14
+-- exactly when one is too short; otherwise the n times n states are those of 'Link states', over the feed trees of the card's positions,
+-- root and prices under the standing marks, within the standing budget."
+pub record Demand-3 (ws : List ℕ) (cs : List Command) (xs : List ℕ) (v : View) (old new : Buffers) : Type 0 where
+  pub answers : xs ≡ log-answers cs (new-log (instance-in ws))
+  pub last-look : Looks-at true (short-for (instance-in ws .n) old) (effective (log-after cs (new-log (instance-in ws)))) v old new
+  -- the n times n states in the buffer, read in document 01's words and in both directions: closed exactly when no fitting arborescence of the
+  -- effective instance uses the arc, open exactly when some do and some don't, sure exactly when there is one and all use it
+  pub states-shown :
+      short-for (instance-in ws .n) old ≡ false →
+      States-read (effective (log-after cs (new-log (instance-in ws)))) (take (instance-in ws .n * instance-in ws .n) (new .states))
+
+shown-states : (t : Bool) (s : Instance) (v : View) (old new : Buffers) → Looks-at true t s v old new → t ≡ false → States-read s (take (s .n * s .n) (new .states))
+unfolding Looks-at
+shown-states true s v old new l e = absurd (true≢false e)
+shown-states false s v old new x e =
+    let reads = states-read s in
+    subst (States-read s) (sym (ap (take (s .n * s .n)) (x .states-buffer) ∙ front-take (states s) (old .states) (s .n * s .n) (reads .size))) reads
+
+pub demand-3 :
+    (ws : List ℕ) (cs : List Command) (o : Answered) (xs : List ℕ) (last : Board) (v : View) (old new : Buffers) → card-refusal ws ≡ 0 →
+    Opened-by ws o → Run cs (o .board) xs last → Looked last v old new → Demand-3 ws cs xs v old new
+demand-3 ws cs o xs last v old new z p run l =
+    let s = opened-starts ws o (opened-by p) z in
+    let r = run-follows run (new-log (instance-in ws)) (record { is-valid = s .good; tied = s .tied }) in
+    let shown = looks-valid last v old new (r .follows .is-valid) (looked l) in
+    let t = short-for (instance-in ws .n) old in
+    let k = log-after cs (new-log (instance-in ws)) in
+    let same = r .follows .tied .same-instance in
+    let looks : Looks-at true t (effective k) v old new =
+            subst (λ (i : Instance). Looks-at true t i v old new) same
+            (subst (λ (n : ℕ). Looks-at true (short-for n old) (instance-of last) v old new) (r .same-n ∙ s .same-n) shown) in
+    let n : effective k .n ≡ instance-in ws .n = sym (ap (λ (i : Instance). i .n) same) ∙ r .same-n ∙ s .same-n in
+    record {
+      answers = r .same-answers;
+      last-look = looks;
+      states-shown = λ e. subst (λ (m : ℕ). States-read (effective k) (take (m * m) (new .states))) n (shown-states t (effective k) v old new looks e);
+    }
