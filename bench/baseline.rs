@@ -1,20 +1,21 @@
-// The baseline: exact link states by one dense planning for each link, written for speed in plain Rust and from document 01 alone. Reads a
-// card on standard input and prints what the planner prints but for the feed lines, since which cheapest tree is shown is free.
+// The baseline: exact states by one dense planning for each arc, written for speed in plain Rust and from document 01
+// alone. Reads a card on standard input and prints what the planner prints but for the feed lines, since which cheapest
+// tree is shown is free.
 use std::io::{Read, Write};
 
 const NONE: u32 = 1_048_575;
 const INF: u32 = u32::MAX;
 type Rows = [[u32; 32]; 32];
 
-struct Sheet {
+struct Instance {
     n: usize,
     root: usize,
     budget: u32,
-    price: Rows, // price[fed][feeder]
+    weight: Rows, // weight[head][tail]
     mark: [[u8; 32]; 32],
 }
 
-// The positions of the path that grows, the last one last.
+// The vertices of the path that grows, the last one last.
 struct Path {
     places: [usize; 32],
     len: usize,
@@ -60,7 +61,7 @@ fn needed(n: usize) -> usize {
     (36 + 22 * (n - 1) * (n - 1) + 7) / 8
 }
 
-fn open(card: &[u8]) -> Result<Sheet, u32> {
+fn open(card: &[u8]) -> Result<Instance, u32> {
     if card.len() < 5 {
         return Err(1);
     }
@@ -80,7 +81,7 @@ fn open(card: &[u8]) -> Result<Sheet, u32> {
     if budget > 31_000_000 {
         return Err(5);
     }
-    let mut s = Sheet { n, root, budget, price: [[NONE; 32]; 32], mark: [[0; 32]; 32] };
+    let mut s = Instance { n, root, budget, weight: [[NONE; 32]; 32], mark: [[0; 32]; 32] };
     read_cells(&mut s, &mut b)?;
     while b.at < 8 * card.len() {
         if b.take(1) != 0 {
@@ -90,43 +91,43 @@ fn open(card: &[u8]) -> Result<Sheet, u32> {
     Ok(s)
 }
 
-fn read_cells(s: &mut Sheet, b: &mut Bits) -> Result<(), u32> {
+fn read_cells(s: &mut Instance, b: &mut Bits) -> Result<(), u32> {
     let root = s.root;
-    for feeder in 0..s.n {
-        for fed in (0..s.n).filter(|&p| p != feeder && p != root) {
-            let (p, m) = (b.take(20), b.take(2));
-            if p > 1_000_000 && p != NONE {
+    for tail in 0..s.n {
+        for head in (0..s.n).filter(|&h| h != tail && h != root) {
+            let (w, m) = (b.take(20), b.take(2));
+            if w > 1_000_000 && w != NONE {
                 return Err(6);
             }
-            if m == 3 || p == NONE && m != 0 {
+            if m == 3 || w == NONE && m != 0 {
                 return Err(7);
             }
-            s.price[fed][feeder] = p;
-            s.mark[fed][feeder] = m as u8;
+            s.weight[head][tail] = w;
+            s.mark[head][tail] = m as u8;
         }
     }
     Ok(())
 }
 
-fn remaining(s: &Sheet) -> Rows {
+fn remaining(s: &Instance) -> Rows {
     let mut rows = [[INF; 32]; 32];
-    for fed in 0..s.n {
-        let pins = (0..s.n).filter(|&f| s.mark[fed][f] == 1).count();
-        for f in 0..s.n {
+    for head in 0..s.n {
+        let pins = (0..s.n).filter(|&t| s.mark[head][t] == 1).count();
+        for t in 0..s.n {
             let lost = match pins {
                 0 => false,
-                1 => s.mark[fed][f] != 1,
+                1 => s.mark[head][t] != 1,
                 _ => true,
             };
-            if s.price[fed][f] != NONE && s.mark[fed][f] != 2 && !lost {
-                rows[fed][f] = s.price[fed][f];
+            if s.weight[head][t] != NONE && s.mark[head][t] != 2 && !lost {
+                rows[head][t] = s.weight[head][t];
             }
         }
     }
     rows
 }
 
-// The cheapest entering link of position j, and its feeder; all links into j are lowered by its price.
+// The cheapest arc into vertex j: its weight and its tail; all arcs into j are lowered by its weight.
 #[inline(always)]
 fn charge(row: &mut [u32; 32], j: usize, n: usize) -> Option<(u32, usize)> {
     let (mut best, mut from) = (INF, 0);
@@ -145,7 +146,7 @@ fn charge(row: &mut [u32; 32], j: usize, n: usize) -> Option<(u32, usize)> {
     Some((best, from))
 }
 
-// Position p goes up in position `into`.
+// Vertex p goes up in vertex `into`.
 #[inline(always)]
 fn merge(c: &mut Rows, group: &mut [u8; 32], n: usize, p: usize, into: usize) {
     for i in 0..n {
@@ -162,7 +163,7 @@ fn merge(c: &mut Rows, group: &mut [u8; 32], n: usize, p: usize, into: usize) {
     }
 }
 
-// The cheapest total by growing paths backwards and merging rings: O(n²) on a dense matrix.
+// The cheapest total by growing paths backwards and merging cycles: O(n²) on a dense matrix.
 fn cheapest(n: usize, root: usize, rows: &Rows) -> Option<u32> {
     let mut c = *rows;
     let mut done = [false; 32];
@@ -204,7 +205,7 @@ fn cheapest(n: usize, root: usize, rows: &Rows) -> Option<u32> {
     Some(total)
 }
 
-fn usable(s: &Sheet, rows: &Rows) -> [[bool; 32]; 32] {
+fn usable(s: &Instance, rows: &Rows) -> [[bool; 32]; 32] {
     let mut used = [[false; 32]; 32];
     for h in (0..s.n).filter(|&h| h != s.root) {
         for t in 0..s.n {
@@ -219,10 +220,10 @@ fn usable(s: &Sheet, rows: &Rows) -> [[bool; 32]; 32] {
     used
 }
 
-fn state(s: &Sheet, used: &[bool; 32], feeder: usize, fed: usize) -> u8 {
-    if feeder == fed || fed == s.root || s.price[fed][feeder] == NONE {
+fn state(s: &Instance, used: &[bool; 32], tail: usize, head: usize) -> u8 {
+    if tail == head || head == s.root || s.weight[head][tail] == NONE {
         0
-    } else if !used[feeder] {
+    } else if !used[tail] {
         1
     } else if used.iter().filter(|&&u| u).count() == 1 {
         3
@@ -247,10 +248,10 @@ fn text(card: &[u8]) -> String {
             used = usable(&s, &rows);
         }
     }
-    for feeder in 0..s.n {
-        out.push_str(&format!("row {feeder} "));
-        for fed in 0..s.n {
-            out.push((b'0' + state(&s, &used[fed], feeder, fed)) as char);
+    for tail in 0..s.n {
+        out.push_str(&format!("row {tail} "));
+        for head in 0..s.n {
+            out.push((b'0' + state(&s, &used[head], tail, head)) as char);
         }
         out.push('\n');
     }

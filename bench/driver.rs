@@ -1,7 +1,8 @@
-// Makes cards of several families with a fixed seed, runs the planner's print_plan and the baseline on the same cards in turn, checks that
-// they print the same outcome and states, and prints times and ratios. Arguments: PRINT_PLAN BASELINE [valgrind].
-// A time is that of a whole process, its start included: the least of several runs, since other processes only add to it.
-// Under valgrind it also prints what no clock shows: instructions of the planning process after its start, plannings, deepest stack.
+// Makes cards of several families with a fixed seed, runs the planner's print_plan and the baseline on the same cards
+// in turn, checks that they print the same outcome and states, and prints times and ratios. Arguments: PRINT_PLAN
+// BASELINE [valgrind]. A time is that of a whole process, its start included: the least of several runs, since other
+// processes only add to it. Under valgrind it also prints what no clock shows: plannings, the deepest stack, and the
+// instructions of the planning process after its start.
 use std::fs::{self, File};
 use std::process::{Command, Stdio};
 use std::time::Instant;
@@ -22,24 +23,24 @@ impl Random {
 }
 
 #[derive(Clone)]
-struct Sheet {
+struct Instance {
     n: usize,
     root: usize,
     budget: u32,
-    price: Vec<u32>, // feeder by feeder
+    weight: Vec<u32>, // tail by tail
     mark: Vec<u32>,
 }
 
-impl Sheet {
-    fn new(n: usize, root: usize) -> Sheet {
-        Sheet { n, root, budget: 31_000_000, price: vec![NONE; n * n], mark: vec![0; n * n] }
+impl Instance {
+    fn new(n: usize, root: usize) -> Instance {
+        Instance { n, root, budget: 31_000_000, weight: vec![NONE; n * n], mark: vec![0; n * n] }
     }
 
-    fn fill(mut self, mut price: impl FnMut(usize, usize) -> u32) -> Sheet {
-        for f in 0..self.n {
-            for p in 0..self.n {
-                if f != p && p != self.root {
-                    self.price[f * self.n + p] = price(f, p);
+    fn fill(mut self, mut weight: impl FnMut(usize, usize) -> u32) -> Instance {
+        for t in 0..self.n {
+            for h in 0..self.n {
+                if t != h && h != self.root {
+                    self.weight[t * self.n + h] = weight(t, h);
                 }
             }
         }
@@ -52,11 +53,11 @@ impl Sheet {
         put(self.n as u32, 6);
         put(self.root as u32, 5);
         put(self.budget, 25);
-        for f in 0..self.n {
-            for p in 0..self.n {
-                if f != p && p != self.root {
-                    put(self.price[f * self.n + p], 20);
-                    put(self.mark[f * self.n + p], 2);
+        for t in 0..self.n {
+            for h in 0..self.n {
+                if t != h && h != self.root {
+                    put(self.weight[t * self.n + h], 20);
+                    put(self.mark[t * self.n + h], 2);
                 }
             }
         }
@@ -65,46 +66,46 @@ impl Sheet {
     }
 }
 
-fn dense(r: &mut Random, n: usize) -> Sheet {
+fn dense(r: &mut Random, n: usize) -> Instance {
     let root = r.below(n as u64) as usize;
-    Sheet::new(n, root).fill(|_, _| r.below(1_000_001) as u32)
+    Instance::new(n, root).fill(|_, _| r.below(1_000_001) as u32)
 }
 
-fn equal(r: &mut Random, n: usize) -> Sheet {
-    let p = r.below(1_000_001) as u32;
-    Sheet::new(n, 0).fill(|_, _| p)
+fn equal(r: &mut Random, n: usize) -> Instance {
+    let w = r.below(1_000_001) as u32;
+    Instance::new(n, 0).fill(|_, _| w)
 }
 
-fn few(r: &mut Random, n: usize) -> Sheet {
-    Sheet::new(n, 0).fill(|_, _| r.below(4) as u32)
+fn few(r: &mut Random, n: usize) -> Instance {
+    Instance::new(n, 0).fill(|_, _| r.below(4) as u32)
 }
 
-fn sparse(r: &mut Random, n: usize) -> Sheet {
-    Sheet::new(n, 0).fill(|f, p| if f + 1 == p || r.below(8) == 0 { r.below(1_000_001) as u32 } else { NONE })
+fn sparse(r: &mut Random, n: usize) -> Instance {
+    Instance::new(n, 0).fill(|t, h| if t + 1 == h || r.below(8) == 0 { r.below(1_000_001) as u32 } else { NONE })
 }
 
 // Every contraction takes in one vertex more: v + 1 is cheapest from within {1 .. v}, and {1 .. v} cheapest from v + 1.
-fn nested(r: &mut Random, n: usize) -> Sheet {
-    Sheet::new(n, 0).fill(|f, p| match (f, p) {
+fn nested(r: &mut Random, n: usize) -> Instance {
+    Instance::new(n, 0).fill(|t, h| match (t, h) {
         (0, _) => 900_000 + r.below(1000) as u32,
-        (f, 1) => 100 * f as u32 + r.below(50) as u32,
-        (f, p) if f + 1 == p => 1 + r.below(5) as u32,
+        (t, 1) => 100 * t as u32 + r.below(50) as u32,
+        (t, h) if t + 1 == h => 1 + r.below(5) as u32,
         _ => 500_000 + r.below(300_000) as u32,
     })
 }
 
-fn marked(r: &mut Random, n: usize) -> Sheet {
+fn marked(r: &mut Random, n: usize) -> Instance {
     let mut s = dense(r, n);
-    for p in 0..n {
-        for f in 0..n {
-            if f != p && p != s.root && r.below(3) == 0 {
-                s.mark[f * n + p] = 2;
+    for h in 0..n {
+        for t in 0..n {
+            if t != h && h != s.root && r.below(3) == 0 {
+                s.mark[t * n + h] = 2;
             }
         }
         if r.below(6) == 0 {
-            let f = s.root;
-            if f != p {
-                s.mark[f * n + p] = 1;
+            let t = s.root;
+            if t != h {
+                s.mark[t * n + h] = 1;
             }
         }
     }
@@ -172,6 +173,7 @@ fn count(program: &str, card: &str) -> (u64, u64) {
         }
         after_calls = false;
     }
+    assert!(plannings > 0 && instructions > 0, "callgrind names no plan_matrix, or no main");
     (plannings, instructions)
 }
 
@@ -193,23 +195,24 @@ fn times(base: &str, ours: &str) -> (f64, f64) {
 }
 
 // With a budget of the cheapest total, a tenth more, or the largest.
-fn with_budget(mut sheet: Sheet, budget: &str, base: &str) -> Sheet {
-    fs::write(CARD, sheet.card()).unwrap();
+fn with_budget(mut instance: Instance, budget: &str, base: &str) -> Instance {
+    fs::write(CARD, instance.card()).unwrap();
     if let Some(v) = cheapest(&run(base, CARD)) {
-        sheet.budget = match budget {
+        instance.budget = match budget {
             "tight" => v,
             "middling" => v + v / 10,
             _ => 31_000_000,
         };
     }
-    sheet
+    instance
 }
 
-// One line of the table: means of the times and instructions of five cards, the most plannings and the deepest stack.
-fn row(ours: &str, base: &str, deep: bool, sheets: [Sheet; 5]) -> String {
+// One line of the table: means of the times of five cards; under valgrind also the most plannings, the deepest stack
+// and the mean of the instructions. What is not measured has no column.
+fn row(ours: &str, base: &str, deep: bool, instances: [Instance; 5]) -> String {
     let (mut a, mut b, mut plannings, mut stack, mut instructions) = (0.0, 0.0, 0, 0, 0);
-    for sheet in &sheets {
-        fs::write(CARD, sheet.card()).unwrap();
+    for instance in &instances {
+        fs::write(CARD, instance.card()).unwrap();
         assert_eq!(fixed(&run(base, CARD)), fixed(&run(ours, CARD)));
         let (p, q) = times(base, ours);
         a += p / 5.0;
@@ -221,7 +224,8 @@ fn row(ours: &str, base: &str, deep: bool, sheets: [Sheet; 5]) -> String {
             stack = stack.max(peak_stack(ours, CARD));
         }
     }
-    format!("{a:>12.2} {b:>14.2} {:>6.2} {plannings:>10} {stack:>12} {instructions:>13}", b / a)
+    let line = format!("{a:>12.2} {b:>14.2} {:>6.2}", b / a);
+    if deep { format!("{line} {plannings:>10} {stack:>12} {instructions:>13}") } else { line }
 }
 
 fn main() {
@@ -230,17 +234,18 @@ fn main() {
     let deep = args.get(3).is_some_and(|a| a == "valgrind");
     fs::create_dir_all("target/bench").unwrap();
     let mut random = Random(0x9E37_79B9_7F4A_7C15);
-    fs::write(CARD, Sheet::new(1, 0).card()).unwrap();
+    fs::write(CARD, Instance::new(1, 0).card()).unwrap();
     let (p, q) = times(base, ours);
-    println!("one position, that is the start of the process: baseline {p:.2} ms, print_plan {q:.2} ms");
-    println!("family   budget      n  baseline ms  print_plan ms  ratio  plannings  stack bytes  instructions");
-    let families: [(&str, fn(&mut Random, usize) -> Sheet); 6] =
+    println!("one vertex, that is the start of the process: baseline {p:.2} ms, print_plan {q:.2} ms");
+    let more = if deep { "  plannings  stack bytes  instructions" } else { "" };
+    println!("family   budget      n  baseline ms  print_plan ms  ratio{more}");
+    let families: [(&str, fn(&mut Random, usize) -> Instance); 6] =
         [("dense", dense), ("equal", equal), ("few", few), ("nested", nested), ("sparse", sparse), ("marked", marked)];
     for (name, make) in families {
         for budget in ["tight", "middling", "unlimited"] {
             for n in [8, 16, 32] {
-                let sheets = std::array::from_fn(|_| with_budget(make(&mut random, n), budget, base));
-                println!("{name:<8} {budget:<10} {n:>2} {}", row(ours, base, deep, sheets));
+                let instances = std::array::from_fn(|_| with_budget(make(&mut random, n), budget, base));
+                println!("{name:<8} {budget:<10} {n:>2} {}", row(ours, base, deep, instances));
             }
         }
     }

@@ -3,39 +3,40 @@
 import os
 import random
 
-NO_LINK = 1048575
+NO_ARC = 1048575
 FREE, PINNED, BANNED = 0, 1, 2
 
 Q = {(0, 1): 10, (0, 2): 10, (0, 3): 8, (1, 2): 1, (1, 3): 4, (2, 1): 2, (2, 3): 9, (3, 1): 7}
 
 
-def card(n, root, budget, prices, marks={}):
-    """The rig card: prices and marks by (feeder, fed); a pair without a price is no link."""
+def card(n, root, budget, weights, marks={}):
+    """The rig card: weights (prices) and marks by (tail, head), or (feeder, fed); a pair without a weight is no arc."""
     bits = f"{n:06b}{root:05b}{budget:025b}"
-    for feeder in range(n):
-        for fed in range(n):
-            if feeder != fed and fed != root:
-                link = (feeder, fed)
-                bits += f"{prices.get(link, NO_LINK):020b}{marks.get(link, FREE):02b}"
+    for tail in range(n):
+        for head in range(n):
+            if tail != head and head != root:
+                arc = (tail, head)
+                bits += f"{weights.get(arc, NO_ARC):020b}{marks.get(arc, FREE):02b}"
     bits += "0" * (-len(bits) % 8)
     return bytes(int(bits[i : i + 8], 2) for i in range(0, len(bits), 8))
 
 
 def hall():
-    """32 positions on a floor of 24 m by 16 m, the console in the middle of one end. A link costs 350 pence for its two plugs and 120 to 180
-    a metre, 40 more where it runs back towards the console; there is none beyond 25 m, and one pair in fifteen has a wall between."""
+    """32 positions on a floor of 24 m by 16 m, the console in the middle of one end. A link costs 350 pence for its two
+    plugs and 120 to 180 a metre, 40 more where it runs back towards the console; there is none beyond 25 m, and one
+    pair in fifteen has a wall between."""
     draw = random.Random(32)
     floor = [(x, y) for x in range(1, 25) for y in range(17)]
     places = [(0, 8)] + draw.sample(floor, 31)
-    prices = {}
-    for feeder, (x, y) in enumerate(places):
-        for fed, (u, v) in enumerate(places):
+    weights = {}
+    for tail, (x, y) in enumerate(places):
+        for head, (u, v) in enumerate(places):
             metres = abs(x - u) + abs(y - v)
             rate = draw.randrange(120, 181) + (40 if u < x else 0)
             wall = draw.randrange(15) == 0
-            if feeder != fed and fed != 0 and metres <= 25 and not wall:
-                prices[feeder, fed] = 350 + rate * metres
-    return prices
+            if tail != head and head != 0 and metres <= 25 and not wall:
+                weights[tail, head] = 350 + rate * metres
+    return weights
 
 
 def write(name, data):
