@@ -1,4 +1,3 @@
--- Document 01's texts, computed; laws of the report on a card.
-pub mod WorkedTexts
+-- Laws of the report on a card.
 pub mod ReportLaws
 pub mod LongCards

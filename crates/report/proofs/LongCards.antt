@@ -16,7 +16,7 @@ use Rattle.instance.specs.Limits.{max-vertices}
 use Rattle.card.specs.Card.{n-in, bytes-needed, max-card, card-refusal}
 use Rattle.card.proofs.ReadingLaws.{longest-card}
 use Rattle.report.specs.declared.Reported.{Reported}
-use Rattle.report_text.specs.Text.{max-text}
+use Rattle.report_text.specs.Whole.{max-text}
 use Rattle.report.specs.Reports.{Reports-refusal, Reports-by, Reports}
 
 -- 2 by the field of the positions, 3 otherwise

@@ -1,6 +1,6 @@
 -- From the contracts of opening and looking to the text of a card: what a look shows is what the text is made of. Assumes nothing.
 use mathlib.Core.Path.{_≡_, refl, sym, ap, _∙_, subst}
-use mathlib.Core.Bool.{Bool, true, false}
+use mathlib.Core.Bool.{Bool, true, false, true≢false}
 use mathlib.Core.List.{List}
 use Prim.Native.Nat.{ℕ, _*_, _≤_, _<_}
 use native.Mathlib.Omega.{arith}
@@ -15,7 +15,7 @@ use Rattle.instance.specs.Instance.{Instance}
 use Rattle.instance.specs.Arborescence.{is-arborescence}
 use Rattle.instance.specs.declared.Outcome.{Outcome}
 use Rattle.instance.specs.declared.Outcome.the-variants.{Plan, Over, NoTree}
-use Rattle.instance.specs.States.{outcome, states}
+use Rattle.instance.specs.States.{shows-tree, outcome, states}
 use Rattle.instance.specs.Valid.{valid-instance}
 use Rattle.instance.proofs.ValidLaws.{valid-small}
 use Rattle.theory.proofs.StateLaws.{states-read}
@@ -31,29 +31,26 @@ use Rattle.planner.specs.Look.{Buffers, view, pairs, too-short, Parents-shown, 
 use Rattle.board.proofs.ValidLaws.{valid-fields}
 use Rattle.planner.proofs.CallSteps.{looks-valid}
 use Rattle.planner.proofs.OpenLaws.{opened-answer, opened-starts, opened-instance}
-use Rattle.report_text.specs.declared.Found.{Found}
 use Rattle.report.specs.declared.Reported.{Reported}
-use Rattle.report_text.specs.Text.{text, report-text, refused-text, max-text}
-use Rattle.report_text.specs.Found.{outcome-of, weight-in}
-use Rattle.report_text.specs.Written.{Filled}
+use Rattle.text.specs.Buffer.{Filled}
+use Rattle.report_text.specs.Whole.{whole-text, report-text, refused-text, max-text}
 use Rattle.report.specs.Reports.{found-in, Reports-instance, Reports-by, Reports}
-use Rattle.report_text.proofs.BufferLaws.{text-of-instance}
-use Rattle.report_text.proofs.LengthLaws.{refused-length}
-use Rattle.report_text.proofs.RoomLaws.{report-length}
+use Rattle.report_text.proofs.WholeLaws.{text-of-instance}
+use Rattle.report_text.proofs.LengthLaws.{report-length, refused-length}
 
 -- WHAT A LOOK FOUND
-found-outcome : (o : Outcome) (k : ℕ) → outcome-of (found-in (view o k)) ≡ o
-unfolding found-in outcome-of
+found-outcome : (o : Outcome) (k : ℕ) → found-in (view o k) ≡ o
+unfolding found-in
 found-outcome (Plan v) k = refl
 found-outcome (Over v) k = refl
 found-outcome NoTree k = refl
 
--- a plan's parents are those of an arborescence
-plan-parents : (o : Outcome) (s : Instance) (ps : List ℕ) (v : ℕ) → Parents-shown o s ps → o ≡ Plan v → is-arborescence s ps ≡ true
+-- the parents of a tree that is shown are those of an arborescence
+tree-parents : (o : Outcome) (s : Instance) (ps : List ℕ) → Parents-shown o s ps → shows-tree o ≡ true → is-arborescence s ps ≡ true
 unfolding Parents-shown
-plan-parents (Plan w) s ps v p e = p .0
-plan-parents (Over w) s ps v p e = cc
-plan-parents NoTree s ps v p e = cc
+tree-parents (Plan v) s ps p e = p .0
+tree-parents (Over v) s ps p e = absurd (true≢false (sym e))
+tree-parents NoTree s ps p e = absurd (true≢false (sym e))
 
 -- buffers of 32 bytes, 1,024 bytes and 122 words are long enough
 enough : (n a b c : ℕ) → n ≤ 32 → 32 ≤ a → 1024 ≤ b → cut-words ≤ c → too-short n a b c ≡ false
@@ -64,16 +61,16 @@ enough n a b c h ha hb hc =
     let parents : n ≤ a = omega arith in
     or-both-false (ltb a n) _ (le-ltb _ _ parents) (or-both-false (ltb b (n * n)) _ (le-ltb _ _ states) (le-ltb _ _ hc))
 
-abbrev pub board-text : Board → Found → (parents states : List ℕ) → List ℕ
-board-text b f ps ss = text (b .n) (b .root) (b .budget) (outcome-of f) ps ss (weight-in (b .weights))
+abbrev pub board-text : Board → Outcome → (parents states : List ℕ) → List ℕ
+board-text b o ps ss = whole-text (b .weights) ps ss (b .n) (b .root) (b .budget) o
 
 -- what writing the text needs and gives
-pub record Text-of (b : Board) (f : Found) (parents states : List ℕ) : Type 0 where
+pub record Text-of (b : Board) (o : Outcome) (parents states : List ℕ) : Type 0 where
   pub small : b .n ≤ 32
   pub parents-room : b .n ≤ length parents
   pub states-room : b .n * b .n ≤ length states
-  pub text-room : (m : ℕ) → max-text ≤ m → length (board-text b f parents states) ≤ m
-  pub reports : (old new : List ℕ) (r : ℕ) → Filled old (board-text b f parents states) new r → Reports-instance (instance-of b) old new r
+  pub text-room : (m : ℕ) → max-text ≤ m → length (board-text b o parents states) ≤ m
+  pub reports : (old new : List ℕ) (r : ℕ) → Filled (board-text b o parents states) old new r → Reports-instance (instance-of b) old new r
 
 module _
     (b : Board)
@@ -110,8 +107,8 @@ module _
     first-states : take (b .n * b .n) (new .states) ≡ states S
     first-states = rw (shows .states-shown) (take-at (states S) (drop (b .n * b .n) (old .states)) (b .n * b .n) size)
 
-    pub text-shown : (f : Found) → f ≡ found-in v → Text-of b f (new .parents) (new .states)
-    text-shown f e =
+    pub text-shown : (o : Outcome) → o ≡ found-in v → Text-of b o (new .parents) (new .states)
+    text-shown o e =
         record {
           small = small;
           parents-room = let l = small in omega (arith, shows .parents-length);
@@ -122,14 +119,14 @@ module _
           reports = λ out out′ r w. record { parents = Parents; shown = shows .parents-shown; text = rw same at w };
         }
       where
-        found : outcome-of f ≡ outcome S
-        found = ap outcome-of e ∙ ap (λ (x : View). outcome-of (found-in x)) (shows .result) ∙ found-outcome (outcome S) (pairs v)
+        found : o ≡ outcome S
+        found = e ∙ ap found-in (shows .result) ∙ found-outcome (outcome S) (pairs v)
 
-        same : board-text b f (new .parents) (new .states) ≡ report-text S (outcome S) Parents
+        same : board-text b o (new .parents) (new .states) ≡ report-text S (outcome S) Parents
         same = rw found (text-of-instance S (outcome S) (new .parents) (new .states) first-states)
 
-        fits : length (board-text b f (new .parents) (new .states)) ≤ max-text
-        fits = rw same (report-length S valid-S Parents (λ t q. plan-parents (outcome S) S Parents t (shows .parents-shown) q))
+        fits : length (board-text b o (new .parents) (new .states)) ≤ max-text
+        fits = rw same (report-length S valid-S Parents (tree-parents (outcome S) S Parents (shows .parents-shown)))
 
 -- OPENED CARDS
 pub opened-good : (ws : List ℕ) (o : Opened) → o ≡ opened-from ws → o .answer ≡ 0 → valid (model-of (o .board)) ≡ true
@@ -147,7 +144,7 @@ unfolding Reports Reports-by
 too-short-reported ws old h = rw (lt-ltb _ _ h) (record { result = refl; buffer = refl })
 
 pub refusal-reported : (ws old new : List ℕ) (o : Opened) (r : ℕ) → max-text ≤ length old → o ≡ opened-from ws → (o .answer ≡ 0 → ⊥)
-    → Filled old (refused-text (o .answer)) new r → Reports ws old new (record { answer = o .answer; length = r })
+    → Filled (refused-text (o .answer)) old new r → Reports ws old new (record { answer = o .answer; length = r })
 unfolding Reports Reports-by
 refusal-reported ws old new o r h q n f =
     let e = opened-answer ws o q in
@@ -162,8 +159,8 @@ card-reported ws old new o r h q a f =
     rw (le-ltb _ _ h, eq-eqb _ _ z) (record { answer = refl; reports = rw (opened-instance ws o q z) at f })
 
 -- THE LENGTH that is answered lies within the buffer
-filled-within : {old text new : List ℕ} {r : ℕ} → Filled old text new r → r ≤ length new
-filled-within {old} {text} f =
+filled-within : {text old new : List ℕ} {r : ℕ} → Filled text old new r → r ≤ length new
+filled-within {text} {old} f =
     let l = ap length (f .buffer) ∙ length-append text (drop (length text) old) in
     omega (arith, f .place)
 

@@ -7,19 +7,19 @@ use Prim.Native.Nat.{ℕ}
 use lib.Dec.{ltb, eqb}
 use lib.ListN.{length}
 use Rattle.instance.specs.Instance.{Instance}
+use Rattle.instance.specs.declared.Outcome.{Outcome}
+use Rattle.instance.specs.declared.Outcome.the-variants.{Plan, Over, NoTree}
 use Rattle.instance.specs.States.{outcome}
 use Rattle.card.specs.Card.{card-refusal, instance-in}
 use Rattle.planner.specs.Look.{Parents-shown}
 use Rattle.planner.specs.declared.View.{View}
 use Rattle.planner.specs.declared.View.the-variants as views
-use Rattle.report_text.specs.declared.Found.{Found}
-use Rattle.report_text.specs.declared.Found.the-variants.{Plan, Over, NoTree}
 use Rattle.report.specs.declared.Reported.{Reported}
-use Rattle.report_text.specs.Text.{report-text, refused-text, max-text}
-use Rattle.report_text.specs.Written.{Filled}
+use Rattle.text.specs.Buffer.{Filled}
+use Rattle.report_text.specs.Whole.{report-text, refused-text, max-text}
 
 -- "one of: plan with its total; over with the cheapest total; none; or a refusal"; a look that is refused finds nothing
-unfoldable pub found-in : View → Found
+unfoldable pub found-in : View → Outcome
 found-in (views.Plan v k) = Plan v
 found-in (views.Over v k) = Over v
 found-in (views.NoTree k) = NoTree
@@ -30,7 +30,7 @@ found-in (views.Refused a) = NoTree
 pub record Reports-instance (s : Instance) (old new : List ℕ) (next : ℕ) : Type 0 where
   pub parents : List ℕ
   pub shown : Parents-shown (outcome s) s parents
-  pub text : Filled old (report-text s (outcome s) parents) new next
+  pub text : Filled (report-text s (outcome s) parents) old new next
 
 -- 14: "a lent buffer too short", "buffers as before"
 pub record Refuses (old new : List ℕ) (r : Reported) : Type 0 where
@@ -40,7 +40,7 @@ pub record Refuses (old new : List ℕ) (r : Reported) : Type 0 where
 -- 1 to 8: "A refused card prints one line only, as 'refused 3'."
 pub record Reports-refusal (card old new : List ℕ) (r : Reported) : Type 0 where
   pub answer : r .answer ≡ card-refusal card
-  pub text : Filled old (refused-text (card-refusal card)) new (r .length)
+  pub text : Filled (refused-text (card-refusal card)) old new (r .length)
 
 -- 0: "A board opened from a card has that card's marks and budget"; a look at it is what is printed
 pub record Reports-opened (card old new : List ℕ) (r : Reported) : Type 0 where

@@ -5,27 +5,27 @@ ghost use Prim.Native.Nat.{_≤_};
 ghost use lib.ListN.{length};
 ghost use Rattle.board.specs.Model.{valid};
 ghost use Rattle.board.specs.ModelOf.{model-of, instance-of};
-ghost use Rattle.report_text.specs.Text.{max-text};
+ghost use Rattle.report_text.specs.Whole.{max-text};
 ghost use Rattle.report.specs.Reports.{found-in, Reports-instance, Reports};
 use crate::Reported;
 use board::Board;
+use instance::Outcome;
 use planner::View;
 use planner::look;
 use planner::open_card;
-use report_text::Found;
 use report_text::MAX_TEXT;
 use report_text::write_refusal;
 use report_text::write_report;
 
 // What a look found; a look that is refused finds nothing.
-fn found_in(view: View) -> Found
+fn found_in(view: View) -> Outcome
     ensures { λ r. ⌜ r ≡ found-in view ⌝ }
 {
     match view {
-        View::Plan(total, _) => Found::Plan(total),
-        View::Over(total, _) => Found::Over(total),
-        View::NoTree(_) => Found::NoTree,
-        View::Refused(_) => Found::NoTree,
+        View::Plan(total, _) => Outcome::Plan(total),
+        View::Over(total, _) => Outcome::Over(total),
+        View::NoTree(_) => Outcome::NoTree,
+        View::Refused(_) => Outcome::NoTree,
     }
 }
 
@@ -45,7 +45,7 @@ fn report_board(b: Board, out: &mut [u8]) -> usize
     let mut cuts = [0u32; 122];
     let view = look(b, &mut parents, &mut states, &mut cuts);
     let found = found_in(view);
-    write_report(n, root, budget, found, &parents, &states, &weights, out)
+    write_report(&weights, &parents, &states, n, root, budget, found, out)
 }
 
 // Opens a card, looks at it and writes its text, or the line of its refusal, from the buffer's beginning on. A buffer of less than MAX_TEXT

@@ -1,9 +1,8 @@
--- Laws of decimals, of lines, of writing them and of their lengths.
-pub mod DecimalLaws
-pub mod Writing
-pub mod JoinLaws
+-- Laws of the lines, of writing them and of the text's length; document 01's texts, computed.
+pub mod HeadingLaws
+pub mod FeedLaws
 pub mod RowLaws
-pub mod TextLaws
-pub mod BufferLaws
+pub mod WholeLaws
 pub mod LengthLaws
-pub mod RoomLaws
+pub mod LongestText
+pub mod WorkedTexts

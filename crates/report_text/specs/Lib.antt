@@ -1,4 +1,5 @@
--- The text of a report, and what the functions that write it leave in a buffer.
-pub mod Text
-pub mod Written
-pub mod Found
+-- The text of a report, line by line.
+pub mod Heading
+pub mod Feeds
+pub mod Rows
+pub mod Whole

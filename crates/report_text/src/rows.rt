@@ -1,16 +1,19 @@
-// The row lines.
+// The rows of states.
 ghost use Prim.Native.Nat.{_+_, _*_, _≤_, _<_};
 ghost use lib.ListN.{length, getD};
-ghost use Rattle.report_text.specs.Text.{decimal, join-below, row-line, row-lines};
-ghost use Rattle.report_text.specs.Written.{Room, Wrote};
-use crate::words::put_decimal;
-use crate::words::put_field;
+ghost use Rattle.instance.specs.Limits.{max-vertices};
+ghost use Rattle.text.specs.Buffer.{Room, Puts};
+ghost use Rattle.text.specs.Decimal.{decimal};
+ghost use Rattle.text.specs.Join.{join-below};
+ghost use Rattle.report_text.specs.Rows.{row-line, row-lines};
+use text::decimal::put_decimal;
+use text::lines::put_labelled;
 
 // The n states from the place `from` on, each in decimal.
-fn put_states(n: u32, states: &[u8], from: usize, out: &mut [u8], at: usize) -> usize
+fn put_states(states: &[u8], n: u32, from: usize, out: &mut [u8], at: usize) -> usize
     requires { ⌜ from + n ≤ length (now states) ⌝ }
-    requires { ⌜ Room (now out) at (join-below n (λ h. decimal (getD (now states) (from + h) 0))) ⌝ }
-    ensures { λ r. ⌜ Wrote (now (out .entry)) at (join-below n (λ h. decimal (getD (now (states .entry)) (from + h) 0))) (now (out .exit)) r ⌝ }
+    requires { ⌜ Room (join-below n (λ h. decimal (getD (now states) (from + h) 0))) (now out) at ⌝ }
+    ensures { λ r. ⌜ Puts (join-below n (λ h. decimal (getD (now (states .entry)) (from + h) 0))) (now (out .entry)) at (now (out .exit)) r ⌝ }
 {
     let mut h = 0;
     let mut next = at;
@@ -21,30 +24,30 @@ fn put_states(n: u32, states: &[u8], from: usize, out: &mut [u8], at: usize) -> 
     next
 }
 
-fn put_row(n: u32, states: &[u8], tail: u32, out: &mut [u8], at: usize) -> usize
-    requires { ⌜ n ≤ 32 ⌝ }
+fn put_row(states: &[u8], n: u32, tail: u32, out: &mut [u8], at: usize) -> usize
+    requires { ⌜ n ≤ max-vertices ⌝ }
     requires { ⌜ tail < n ⌝ }
     requires { ⌜ n * n ≤ length (now states) ⌝ }
-    requires { ⌜ Room (now out) at (row-line n (now states) tail) ⌝ }
-    ensures { λ r. ⌜ Wrote (now (out .entry)) at (row-line n (now (states .entry)) tail) (now (out .exit)) r ⌝ }
+    requires { ⌜ Room (row-line (now states) n tail) (now out) at ⌝ }
+    ensures { λ r. ⌜ Puts (row-line (now (states .entry)) n tail) (now (out .entry)) at (now (out .exit)) r ⌝ }
 {
-    let named = put_field(b"row ", tail, out, at);
+    let named = put_labelled(b"row ", tail, out, at);
     out[named] = b' ';
-    let last = put_states(n, states, tail as usize * n as usize, out, named + 1);
+    let last = put_states(states, n, tail as usize * n as usize, out, named + 1);
     out[last] = b'\n';
     last + 1
 }
 
-pub fn put_rows(n: u32, states: &[u8], out: &mut [u8], at: usize) -> usize
-    requires { ⌜ n ≤ 32 ⌝ }
+pub fn put_rows(states: &[u8], n: u32, out: &mut [u8], at: usize) -> usize
+    requires { ⌜ n ≤ max-vertices ⌝ }
     requires { ⌜ n * n ≤ length (now states) ⌝ }
-    requires { ⌜ Room (now out) at (row-lines n (now states)) ⌝ }
-    ensures { λ r. ⌜ Wrote (now (out .entry)) at (row-lines n (now (states .entry))) (now (out .exit)) r ⌝ }
+    requires { ⌜ Room (row-lines (now states) n) (now out) at ⌝ }
+    ensures { λ r. ⌜ Puts (row-lines (now (states .entry)) n) (now (out .entry)) at (now (out .exit)) r ⌝ }
 {
     let mut tail = 0;
     let mut next = at;
     while tail < n {
-        next = put_row(n, states, tail, out, next);
+        next = put_row(states, n, tail, out, next);
         tail += 1;
     }
     next

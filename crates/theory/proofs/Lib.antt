@@ -3,6 +3,7 @@ pub mod ArborescenceLaws
 pub mod CandidateLaws
 pub mod StateLaws
 pub mod OutcomeLaws
+pub mod TotalLaws
 pub mod Duality
 pub mod Optimality
 pub mod Usable

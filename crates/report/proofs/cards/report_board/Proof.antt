@@ -43,7 +43,7 @@ write-report-requires c κs =
     let f = c .before .before .before .before in
     let t = shown f in
     let w = known (start-of f .args .b) _ (start-of f .good .0) .weights-long in
-    (t .small, (t .parents-room, (t .states-room, (w, t .text-room _ (start-of f .pre .1)))))
+    (w, (t .small, (t .parents-room, (t .states-room, t .text-room _ (start-of f .pre .1)))))
 
 same-length : tie.Need-same-length
 same-length c = search needs

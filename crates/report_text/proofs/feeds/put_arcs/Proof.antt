@@ -3,19 +3,19 @@ use mathlib.Core.Path.{_≡_, refl, _∙_}
 use Prim.Native.Nat.{_-_, _≤_}
 use native.Mathlib.Omega.{arith}
 use lib.ListN.{length}
-use Rattle.report_text.specs.Text.{join-below, feed-at}
-use Rattle.report_text.specs.Found.{weight-in}
-use Rattle.report_text.specs.Written.{Wrote}
-use Rattle.report_text.proofs.JoinLaws.{join-none, join-room, join-next}
+use Rattle.text.specs.Join.{join-below}
+use Rattle.report_text.specs.Feeds.{feed-at}
+use Rattle.text.specs.Buffer.{Puts}
+use Rattle.text.proofs.JoinLaws.{join-none, join-room, join-next}
 use Rattle.report_text.proofs.feeds.put_arcs.Statement.{statement}
 use Rattle.report_text.proofs.feeds.put_arcs.Tie as tie
 
 abbrev Inv-loop : tie.InvT-loop
-Inv-loop n root parents weights out₀ at v₀ next₀ out v next =
-    Wrote out₀ at (join-below v (feed-at root parents (weight-in weights))) out next × (v ≤ n) × (length out ≡ length out₀)
+Inv-loop weights parents n root out₀ at v₀ next₀ out v next =
+    Puts (join-below v (feed-at weights parents root)) out₀ at out next × (v ≤ n) × (length out ≡ length out₀)
 
 abbrev μ-loop : tie.MeasureT-loop
-μ-loop n root parents weights out₀ at v₀ next₀ out v next = n - v
+μ-loop weights parents n root out₀ at v₀ next₀ out v next = n - v
 
 loop-holds : tie.Need-loop-holds Inv-loop μ-loop
 loop-holds c = (join-none _ _ _, omega arith, refl)

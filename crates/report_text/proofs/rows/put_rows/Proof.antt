@@ -3,17 +3,19 @@ use mathlib.Core.Path.{_≡_, refl, _∙_}
 use Prim.Native.Nat.{_-_, _≤_}
 use native.Mathlib.Omega.{arith}
 use lib.ListN.{length}
-use Rattle.report_text.specs.Text.{join-below, row-line, row-lines}
-use Rattle.report_text.specs.Written.{Wrote}
-use Rattle.report_text.proofs.JoinLaws.{join-none, join-room, join-next}
+use Rattle.text.specs.Join.{join-below}
+use Rattle.report_text.specs.Rows.{row-line, row-lines}
+use Rattle.text.specs.Buffer.{Puts}
+use Rattle.text.proofs.JoinLaws.{join-none, join-room, join-next}
 use Rattle.report_text.proofs.rows.put_rows.Statement.{statement}
 use Rattle.report_text.proofs.rows.put_rows.Tie as tie
 
 abbrev Inv-loop : tie.InvT-loop
-Inv-loop n states out₀ at tail₀ next₀ out tail next = Wrote out₀ at (join-below tail (row-line n states)) out next × (tail ≤ n) × (length out ≡ length out₀)
+Inv-loop states n out₀ at tail₀ next₀ out tail next =
+    Puts (join-below tail (row-line states n)) out₀ at out next × (tail ≤ n) × (length out ≡ length out₀)
 
 abbrev μ-loop : tie.MeasureT-loop
-μ-loop n states out₀ at tail₀ next₀ out tail next = n - tail
+μ-loop states n out₀ at tail₀ next₀ out tail next = n - tail
 
 loop-holds : tie.Need-loop-holds Inv-loop μ-loop
 loop-holds c = (join-none _ _ _, omega arith, refl)

@@ -3,18 +3,19 @@ use mathlib.Core.Path.{_≡_, refl, _∙_}
 use Prim.Native.Nat.{_+_, _-_, _≤_}
 use native.Mathlib.Omega.{arith}
 use lib.ListN.{length, getD}
-use Rattle.report_text.specs.Text.{decimal, join-below}
-use Rattle.report_text.specs.Written.{Wrote}
-use Rattle.report_text.proofs.JoinLaws.{join-none, join-room, join-next}
+use Rattle.text.specs.Decimal.{decimal}
+use Rattle.text.specs.Join.{join-below}
+use Rattle.text.specs.Buffer.{Puts}
+use Rattle.text.proofs.JoinLaws.{join-none, join-room, join-next}
 use Rattle.report_text.proofs.rows.put_states.Statement.{statement}
 use Rattle.report_text.proofs.rows.put_states.Tie as tie
 
 abbrev Inv-loop : tie.InvT-loop
-Inv-loop n states from out₀ at h₀ next₀ out h next =
-    Wrote out₀ at (join-below h (λ i. decimal (getD states (from + i) 0))) out next × (h ≤ n) × (length out ≡ length out₀)
+Inv-loop states n from out₀ at h₀ next₀ out h next =
+    Puts (join-below h (λ i. decimal (getD states (from + i) 0))) out₀ at out next × (h ≤ n) × (length out ≡ length out₀)
 
 abbrev μ-loop : tie.MeasureT-loop
-μ-loop n states from out₀ at h₀ next₀ out h next = n - h
+μ-loop states n from out₀ at h₀ next₀ out h next = n - h
 
 loop-holds : tie.Need-loop-holds Inv-loop μ-loop
 loop-holds c = (join-none _ _ _, omega arith, refl)

@@ -1,0 +1,30 @@
+-- The feed lines of a report: the arcs of the tree that is shown (document 01, "Sheet Q and its outcomes"). Assumes
+-- nothing: these are definitions.
+use mathlib.Core.Bool.{cond}
+use mathlib.Core.List.{List, []}
+use Prim.Native.Nat.{ℕ}
+use lib.Dec.{eqb}
+use lib.ListN.{getD}
+use Rattle.instance.specs.Limits.{no-arc}
+use Rattle.instance.specs.Instance.{cell}
+use Rattle.instance.specs.Arborescence.{parent}
+use Rattle.instance.specs.declared.Outcome.{Outcome}
+use Rattle.instance.specs.States.{shows-tree}
+use Rattle.text.specs.Lines.{codes, line-of-three}
+use Rattle.text.specs.Join.{join-below}
+
+-- "fed, feeder, price"
+unfoldable pub feed-line : (head tail weight : ℕ) → List ℕ
+feed-line h t w = line-of-three (codes "feed ") h (codes " from ") t (codes " price ") w
+
+-- the weight of the arc from tail to head in a list of weights, as an instance has it
+abbrev pub listed-weight : (weights : List ℕ) → (tail head : ℕ) → ℕ
+listed-weight ws t h = getD ws (cell t h) no-arc
+
+-- the arc into v; the root has none
+unfoldable pub feed-at : (weights parents : List ℕ) → (root v : ℕ) → List ℕ
+feed-at ws ps r v = cond (eqb v r) [] (feed-line v (parent ps v) (listed-weight ws (parent ps v) v))
+
+-- "by fed position", where the outcome shows a tree; else "no feed lines follow"
+unfoldable pub feed-lines : (weights parents : List ℕ) → (n root : ℕ) → Outcome → List ℕ
+feed-lines ws ps n r o = cond (shows-tree o) (join-below n (feed-at ws ps r)) []

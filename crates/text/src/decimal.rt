@@ -1,0 +1,17 @@
+// Numbers in decimal.
+ghost use Rattle.text.specs.Buffer.{Room, Puts};
+ghost use Rattle.text.specs.Decimal.{decimal};
+
+// The digits of v / 10 come first, unless that is 0.
+pub fn put_decimal(v: u32, out: &mut [u8], at: usize) -> usize
+    requires { ⌜ Room (decimal v) (now out) at ⌝ }
+    ensures { λ r. ⌜ Puts (decimal v) (now (out .entry)) at (now (out .exit)) r ⌝ }
+{
+    if v < 10 {
+        out[at] = b'0' + v as u8;
+        return at + 1;
+    }
+    let last = put_decimal(v / 10, out, at);
+    out[last] = b'0' + (v % 10) as u8;
+    last + 1
+}
