@@ -6,24 +6,14 @@ use mathlib.Core.List.{List}
 use Prim.Native.Nat.{ℕ}
 use lib.Dec.{ltb, eqb}
 use lib.ListN.{length}
+use Rattle.instance.specs.Refusals.{buffer-short}
 use Rattle.instance.specs.Instance.{Instance}
-use Rattle.instance.specs.declared.Outcome.{Outcome}
-use Rattle.instance.specs.declared.Outcome.the-variants.{Plan, Over, NoTree}
 use Rattle.instance.specs.States.{outcome}
 use Rattle.card.specs.Card.{card-refusal, instance-in}
-use Rattle.planner.specs.Look.{Parents-shown}
-use Rattle.planner.specs.declared.View.{View}
-use Rattle.planner.specs.declared.View.the-variants as views
+use Rattle.survey.specs.Survey.{Parents-shown}
 use Rattle.report.specs.declared.Reported.{Reported}
 use Rattle.text.specs.Buffer.{Filled}
 use Rattle.report_text.specs.Whole.{report-text, refused-text, max-text}
-
--- "one of: plan with its total; over with the cheapest total; none; or a refusal"; a look that is refused finds nothing
-unfoldable pub found-in : View → Outcome
-found-in (views.Plan v k) = Plan v
-found-in (views.Over v k) = Over v
-found-in (views.NoTree k) = NoTree
-found-in (views.Refused a) = NoTree
 
 -- "count, root, budget; total; fed, feeder, price, by fed position; feeder and its n states": the outcome and the states of the instance, and
 -- the parents of one of its cheapest arborescences where it has a plan
@@ -34,7 +24,7 @@ pub record Reports-instance (s : Instance) (old new : List ℕ) (next : ℕ) : T
 
 -- 14: "a lent buffer too short", "buffers as before"
 pub record Refuses (old new : List ℕ) (r : Reported) : Type 0 where
-  pub result : r ≡ record { answer = 14; length = 0 }
+  pub result : r ≡ record { answer = buffer-short; length = 0 }
   pub buffer : new ≡ old
 
 -- 1 to 8: "A refused card prints one line only, as 'refused 3'."

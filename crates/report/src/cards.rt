@@ -6,28 +6,18 @@ ghost use lib.ListN.{length};
 ghost use Rattle.board.specs.Model.{valid};
 ghost use Rattle.board.specs.ModelOf.{model-of, instance-of};
 ghost use Rattle.report_text.specs.Whole.{max-text};
-ghost use Rattle.report.specs.Reports.{found-in, Reports-instance, Reports};
+ghost use Rattle.report.specs.Reports.{Reports-instance, Reports};
 use crate::Reported;
 use board::Board;
-use instance::Outcome;
+use instance::limits::CELLS;
+use instance::limits::CUT_WORDS;
+use instance::refusals::BUFFER_SHORT;
 use planner::View;
 use planner::look;
 use planner::open_card;
 use report_text::MAX_TEXT;
 use report_text::write_refusal;
 use report_text::write_report;
-
-// What a look found; a look that is refused finds nothing.
-fn found_in(view: View) -> Outcome
-    ensures { λ r. ⌜ r ≡ found-in view ⌝ }
-{
-    match view {
-        View::Plan(total, _) => Outcome::Plan(total),
-        View::Over(total, _) => Outcome::Over(total),
-        View::NoTree(_) => Outcome::NoTree,
-        View::Refused(_) => Outcome::NoTree,
-    }
-}
 
 // The text of a valid board, and its length.
 fn report_board(b: Board, out: &mut [u8]) -> usize
@@ -41,11 +31,14 @@ fn report_board(b: Board, out: &mut [u8]) -> usize
     // a copy of the weights alone: a board that is read after the look would be kept whole beside the look's own
     let weights = b.weights;
     let mut parents = [0u8; 32];
-    let mut states = [0u8; 1024];
-    let mut cuts = [0u32; 122];
+    let mut states = [0u8; CELLS];
+    let mut cuts = [0u32; CUT_WORDS];
     let view = look(b, &mut parents, &mut states, &mut cuts);
-    let found = found_in(view);
-    write_report(&weights, &parents, &states, n, root, budget, found, out)
+    // a valid board is not refused, and the buffers are long enough
+    let View::Shown(outcome, _) = view else {
+        return 0;
+    };
+    write_report(&weights, &parents, &states, n, root, budget, outcome, out)
 }
 
 // Opens a card, looks at it and writes its text, or the line of its refusal, from the buffer's beginning on. A buffer of less than MAX_TEXT
@@ -55,7 +48,7 @@ pub fn report(card: &[u8], out: &mut [u8]) -> Reported
 {
     if out.len() < MAX_TEXT {
         return Reported {
-            answer: 14,
+            answer: BUFFER_SHORT,
             length: 0,
         };
     }

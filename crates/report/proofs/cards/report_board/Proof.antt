@@ -1,21 +1,25 @@
--- `report_board` meets its contract: what a look leaves in three buffers of full length is what the text is made of. Assumes nothing.
+-- `report_board` meets its contract: a look at a valid board is not refused, and what it leaves in three buffers of full length is what the
+-- text is made of. Assumes nothing.
 use native.Mathlib.Omega.{arith}
 use borrow.Author.Needs.{needs}
 use Rattle.board.proofs.BoardLaws.{known}
-use Rattle.report.proofs.ReportLaws.{Text-of, text-shown}
+use Rattle.report.proofs.ReportLaws.{Text-of, not-refused, text-shown}
 use Rattle.report.proofs.cards.report_board.Statement.{statement}
 use Rattle.report.proofs.cards.report_board.Tie as tie
 
-abbrev start-of : tie.After-found-in → tie.Start
-start-of c = c .before .before .before .before .before .before .before .before .before .before
+abbrev start-of : tie.After-look → tie.Start
+start-of c = c .before .before .before .before .before .before
 
-shown : (c : tie.After-found-in)
-    → Text-of (start-of c .args .b) (c .found-in .result) (c .before .before .before .before .look .last .1 .0)
-    (c .before .before .before .before .look .last .1 .1 .0)
+-- what the look showed
+abbrev look-of : tie.After-view → tie.After-look
+look-of c = c .before .before .before .before .before
+
+shown : (c : tie.After-view)
+    → Text-of (start-of (look-of c) .args .b) (c .view .given .0 .0) (look-of c .look .last .1 .0) (look-of c .look .last .1 .1 .0)
 shown c =
-    let l = c .before .before .before .before in
-    text-shown (start-of c .args .b) (start-of c .pre .0) (l .look .result) _ _ (omega arith) (omega arith) (omega arith) (l .look .ensures)
-    (c .found-in .result) (c .found-in .ensures)
+    let l = look-of c in
+    text-shown (start-of l .args .b) (start-of l .pre .0) (l .look .result) _ _ (omega arith) (omega arith) (omega arith) (l .look .ensures)
+    (c .view .given .0 .0) (c .view .given .0 .1 .0) (c .view .given .1)
 
 slice-aggregate-look : tie.Need-slice-aggregate-look
 slice-aggregate-look c = search needs
@@ -29,8 +33,18 @@ slice-aggregate-look-3 c = search needs
 look-requires : tie.Need-look-requires
 look-requires c κs = search needs
 
-found-in-requires : tie.Need-found-in-requires
-found-in-requires c κs = search needs
+enum-known-view : tie.Need-enum-known-view
+enum-known-view c = search needs
+
+enum-told : tie.Need-enum-told
+enum-told c = search needs
+
+returns : tie.Need-returns
+returns c =
+    let l = c .before .before .before .before .before in
+    absurd
+    (not-refused (start-of l .args .b) (start-of l .pre .0) (l .look .result) _ _ (omega arith) (omega arith) (omega arith) (l .look .ensures) _
+    (c .enum-told .given .1))
 
 slice-aggregate-write-report : tie.Need-slice-aggregate-write-report
 slice-aggregate-write-report c = search needs
@@ -40,16 +54,19 @@ slice-aggregate-write-report-2 c = search needs
 
 write-report-requires : tie.Need-write-report-requires
 write-report-requires c κs =
-    let f = c .before .before .before .before in
-    let t = shown f in
-    let w = known (start-of f .args .b) _ (start-of f .good .0) .weights-long in
-    (w, (t .small, (t .parents-room, (t .states-room, t .text-room _ (start-of f .pre .1)))))
+    let v = c .before .before .before .before .before in
+    let t = shown v in
+    let s = start-of (look-of v) in
+    let w = known (s .args .b) _ (s .good .0) .weights-long in
+    (w, (t .small, (t .parents-room, (t .states-room, t .text-room _ (s .pre .1)))))
 
 same-length : tie.Need-same-length
 same-length c = search needs
 
-returns : tie.Need-returns
-returns c = shown (c .before .before .before .before .before .before .before) .reports _ _ _ (c .before .before .write-report .ensures)
+returns-2 : tie.Need-returns-2
+returns-2 c =
+    let v = c .before .before .before .before .before .before .before .before in
+    shown v .reports _ _ _ (c .before .before .write-report .ensures)
 
 pub report-board-spec : {M : Type 1} → statement M
 report-board-spec =
@@ -59,9 +76,11 @@ report-board-spec =
     slice-aggregate-look-2
     slice-aggregate-look-3
     look-requires
-    found-in-requires
+    enum-known-view
+    enum-told
+    returns
     slice-aggregate-write-report
     slice-aggregate-write-report-2
     write-report-requires
     same-length
-    returns)
+    returns-2)
