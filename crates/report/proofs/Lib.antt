@@ -1,3 +1,4 @@
 -- Laws of the report on a card.
 pub mod ReportLaws
 pub mod LongCards
+pub mod Learnt
