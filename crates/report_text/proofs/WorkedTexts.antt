@@ -1,5 +1,5 @@
--- The texts of document 01's cases, computed from instance to bytes: P1 as document 01 shows it, P4 (over), P7 (none), P8 (one vertex)
--- and a refused card, as one list with one claim. Assumes nothing.
+-- The texts of document 01's cases, computed from instance to bytes: P1 as document 01 shows it, P4 (over), P7 (none),
+-- P8 (one vertex) and a refused card, as one list with one claim. Assumes nothing.
 use mathlib.Core.Path.{_≡_, refl}
 use mathlib.Core.List.{List, [], _∷_, _++_}
 use Prim.Native.Nat.{ℕ}

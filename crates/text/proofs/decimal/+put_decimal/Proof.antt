@@ -29,7 +29,7 @@ put-decimal-below t =
 -- one digit
 few : (t : ℕ) (c : put-decimal-lts.Then1 (put-decimal-below t, put-decimal.Post) (put-decimal-at t) put-decimal.Post)
     → c .before .before .args .at < length (c .before .before .args .out .now)
-few t c = let l = length-few (c .before .before .args .v) (c .if1 .taken) in omega (arith, c .before .before .pre .1 .fits)
+few t c = let l = length-few (c .before .before .args .v) (omega arith) in omega (arith, c .before .before .pre .1 .fits)
 
 put-decimal-cast-out : (t : ℕ) → put-decimal-lts.Need-cast-out (put-decimal-below t, put-decimal.Post) (put-decimal-at t) put-decimal.Post
 put-decimal-cast-out t c = omega arith
@@ -47,7 +47,7 @@ put-decimal-same-length : (t : ℕ) → put-decimal-lts.Need-same-length (put-de
 put-decimal-same-length t c = simp length-set
 
 put-decimal-returns : (t : ℕ) → put-decimal-lts.Need-returns (put-decimal-below t, put-decimal.Post) (put-decimal-at t) put-decimal.Post
-put-decimal-returns t c = rw (decimal-few (c .before .before .args .v) (c .if1 .taken)) (puts-one _ _ _ (few t c))
+put-decimal-returns t c = rw (decimal-few (c .before .before .args .v) (omega arith)) (puts-one _ _ _ (few t c))
 
 -- several
 in-32 : {v : ℕ} → v < 2 ^ 32 → v < 10 ^ 10
