@@ -11,3 +11,4 @@ pub mod SameArcs
 pub mod Restriction
 pub mod Forced
 pub mod SameOutcomes
+pub mod MarkLaws
