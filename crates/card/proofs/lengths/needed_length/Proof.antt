@@ -10,7 +10,7 @@ use borrow.Author.Tests.{eqb-true}
 use borrow.Author.Needs.{needs}
 use Rattle.base.specs.Bounded.{all-below}
 use Rattle.base.proofs.BoundedLaws.{all-at}
-use Rattle.card.specs.Card.{bits-needed, bytes-needed}
+use Rattle.card_format.specs.Card.{bits-needed, bytes-needed}
 use Rattle.card.proofs.lengths.needed_length.Statement.{statement}
 use Rattle.card.proofs.lengths.needed_length.Tie as tie
 
