@@ -1,4 +1,5 @@
--- Fields of bits: one field as two, a field within a longer one, what is written is read and the other way round. Assumes nothing.
+-- Fields of bits: one field as two, a field within a longer one, what is written is read and the other way round.
+-- Assumes nothing.
 use mathlib.Core.Path.{_≡_, refl, _∙_, sym}
 use mathlib.Core.Bool.{true}
 use mathlib.Core.List.{List, [], _∷_, _++_}

@@ -19,7 +19,8 @@ use Rattle.bits.proofs.NumberLaws.{length-bits-of, bits-of-none, bits-o
 use Rattle.bits.proofs.ByteLaws.{bits-in-append, bits-in-one, packed-bits-in, length-packed}
 
 -- WITHIN ONE CALL
--- The bits that wait and the new ones are one number, `bits`, of which `left` are not stored yet. The loop stores the upper eight.
+-- The bits that wait and the new ones are one number, `bits`, of which `left` are not stored yet. The loop stores the
+-- upper eight.
 pub record Storing (before : List ℕ) (first some bits : ℕ) (out : List ℕ) (at left : ℕ) : Type 0 where
   pub stored : bits-in (take at out) ++ bits-of left bits ≡ bits-in (take first before) ++ bits-of some bits
   pub unchanged : drop at out ≡ drop at before

@@ -16,7 +16,7 @@ use Rattle.instance.specs.Refusals.{bad-filling}
 use Rattle.card_format.specs.Card.{bits-needed, weights-in, marks-in, instance-in, cells-refusal, header-refusal, card-refusal}
 use Rattle.card_format.specs.Offsets.{offset}
 use Rattle.card_format.proofs.LengthLaws.{length-known}
-use Rattle.card_format.proofs.HeaderLaws.{n-of, root-of, budget-of, Header-known, header-known, Cells-end, cells-end}
+use Rattle.card_format.proofs.HeaderLaws.{n-of, root-of, budget-of, header-known, Cells-end, cells-end}
 use Rattle.card_format.proofs.OpensLaws.{rest-refusal, refusal-by-steps}
 use Rattle.card.specs.Cells.{Cells-read}
 use Rattle.card.specs.Read.{no-header, header-with, header-of, no-contents, contents-of}
@@ -25,11 +25,7 @@ use Rattle.card.specs.declared.read.Header.{Header}
 use Rattle.card.specs.declared.read.Contents.{Contents}
 
 -- THE HEADER
-pub header-refused : (ws : List ℕ) (k : ℕ) → header-refusal ws 0 ≡ k → (k ≡ 0 → ⊥) → no-header k ≡ header-of ws
-unfolding header-of
-header-refused ws k e z = simp (e, ne-eqb k 0 z)
-
-pub header-read : (ws : List ℕ) → header-refusal ws 0 ≡ 0 → header-with (n-of ws) (root-of ws) (budget-of ws) ≡ header-of ws
+header-read : (ws : List ℕ) → header-refusal ws 0 ≡ 0 → header-with (n-of ws) (root-of ws) (budget-of ws) ≡ header-of ws
 unfolding header-of
 header-read ws e = simp (e)
 

@@ -1,5 +1,6 @@
 -- A card written into a buffer, step by step: the room that each step has, and the whole. Assumes nothing.
-use mathlib.Core.Path.{_≡_, refl, _∙_}
+use mathlib.Core.Path.{_≡_, _∙_}
+use mathlib.Core.Bool.{true}
 use mathlib.Core.List.{List, _++_}
 use Prim.Native.Nat.{ℕ, _+_, _*_, _-_, _≤_, _<_}
 use native.Mathlib.Omega.{arith}
@@ -17,7 +18,6 @@ use Rattle.card_format.specs.Card.{on-card, bits-needed, bytes-needed, header-b
 use Rattle.card_format.proofs.LengthLaws.{length-known}
 use Rattle.card_format.proofs.WrittenBits.{cell-bits-budget, length-header, length-pair, length-cells, length-instance-bits}
 use Rattle.card.specs.Write.{written-to, buffer-after, Card-written}
-use mathlib.Core.Bool.{true}
 
 pub cell-room : (out : List ℕ) (w : BitWriter) (n r i v m : ℕ) → on-card n r i ≡ true → Ready out w (length (one-cell n r i v m)) → Ready out w cell-width
 cell-room out w n r i v m t h = rw (t, length-pair v m) at h

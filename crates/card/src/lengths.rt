@@ -3,9 +3,10 @@ ghost use mathlib.Core.Path.{_≡_};
 ghost use Prim.Native.Nat.{_≤_};
 ghost use Rattle.instance.specs.Limits.{max-vertices};
 ghost use Rattle.card_format.specs.Card.{bytes-needed};
+use instance::limits::MAX_VERTICES;
 
 // "The needed lengths for 1 to 32 positions are held as a table".
-const LENGTHS: [usize; 32] = [
+const LENGTHS: [usize; MAX_VERTICES as usize] = [
     5,
     8,
     16,

@@ -1,4 +1,5 @@
-// The widths of a card's fields in bits, as the program has them; specs/Widths.antt of card_format has them for the contracts.
+// The widths of a card's fields in bits, as the program has them; specs/Widths.antt of card_format has them for the
+// contracts.
 
 // The header.
 pub const N_WIDTH: usize = 6;

@@ -80,8 +80,8 @@ pub struct Written {
     pub length: usize,
 }
 
-// Writes the card of the instance that the arguments make up; bytes behind it stay. (One lifetime, so that two fields of
-// one struct can be lent.)
+// Writes the card of the instance that the arguments make up; bytes behind it stay. (One lifetime, so that two fields
+// of one struct can be lent.)
 pub fn write_instance<'a>(
     weights: &'a [u32; CELLS],
     marks: &'a [u8; CELLS],

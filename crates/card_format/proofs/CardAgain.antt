@@ -1,10 +1,10 @@
 -- A card that opens, read and written again, is the same bytes. Assumes nothing.
 --
--- Each field that was read is written before the bits that followed it, from the last one to the first: the cells from i on, followed
--- by the filling, are the bits from the offset of cell i on.
+-- Each field that was read is written before the bits that followed it, from the last one to the first: the cells
+-- from i on, followed by the filling, are the bits from the offset of cell i on.
 use mathlib.Core.Path.{_≡_, refl, ap, sym}
 use mathlib.Core.Bool.{Bool, true, false, cond}
-use mathlib.Core.List.{List, [], _∷_, _++_, append-assoc}
+use mathlib.Core.List.{List, [], _++_, append-assoc}
 use Prim.Native.Nat.{ℕ, zero, suc, _+_, _*_, _-_, _≤_, _<_}
 use native.Mathlib.Omega.{arith}
 use native.Mathlib.Nat.{add-zero}

@@ -1,4 +1,5 @@
--- The cells of a card by their index: the fields that are read one after the other, and the first faulty cell. Assumes nothing.
+-- The cells of a card by their index: the fields that are read one after the other, and the first faulty cell.
+-- Assumes nothing.
 use mathlib.Core.Path.{_≡_, refl, ap, _∙_, sym}
 use mathlib.Core.Bool.{Bool, true, false, _&&_, cond, true≢false}
 use mathlib.Core.List.{List, [], _∷_}

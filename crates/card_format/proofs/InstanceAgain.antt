@@ -1,5 +1,5 @@
--- Every valid instance, written as a card and read again, is the same, and its card opens. One that holds no arc and free in every cell
--- that can never be an arc comes back exactly. Assumes nothing.
+-- Every valid instance, written as a card and read again, is the same, and its card opens. One that holds no arc and
+-- free in every cell that can never be an arc comes back exactly. Assumes nothing.
 use mathlib.Core.Path.{_≡_, refl, _∙_, sym}
 use mathlib.Core.Bool.{Bool, true, false, _&&_, cond}
 use mathlib.Core.List.{List, [], _++_, append-assoc}

@@ -8,5 +8,6 @@ pub mod WrittenBits
 pub mod CardAgain
 pub mod InstanceAgain
 pub mod SameCard
+pub mod TooLong
 pub mod WorkedCards
 pub mod WorkedRefusals

@@ -1,8 +1,8 @@
 -- Where the cells stand, and where they end. Assumes nothing.
 --
--- That the last cell ends at `bits-needed n` is a count of the cells on the card: (n − 1)². In the row of a tail t, the heads below
--- n are on the card, without t itself and the root: n − 2 cells, or n − 1 where t is the root. Each row is a run of stretches that
--- are wholly on the card or wholly off it.
+-- That the last cell ends at `bits-needed n` is a count of the cells on the card: (n − 1)². In the row of a tail t,
+-- the heads below n are on the card, without t itself and the root: n − 2 cells, or n − 1 where t is the root. Each
+-- row is a run of stretches that are wholly on the card or wholly off it.
 use mathlib.Core.Path.{_≡_, refl, _∙_}
 use mathlib.Core.Bool.{Bool, true, false, cond}
 use Prim.Native.Nat.{ℕ, zero, suc, _+_, _*_, _-_, _/_, _%_, _≤_, _<_}

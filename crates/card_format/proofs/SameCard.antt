@@ -1,7 +1,8 @@
--- Instances that are the same have the same written card: a card holds no cell that can never be an arc. Assumes nothing.
-use mathlib.Core.Path.{_≡_, refl, sym, ap, _∙_}
+-- Instances that are the same have the same written card: a card holds no cell that can never be an arc. Assumes
+-- nothing.
+use mathlib.Core.Path.{_≡_, refl}
 use mathlib.Core.Bool.{Bool, true, false, cond}
-use mathlib.Core.List.{List, [], _++_}
+use mathlib.Core.List.{[], _++_}
 use Prim.Native.Nat.{ℕ, zero, suc, _+_, _*_, _/_, _%_}
 use native.Mathlib.Omega.{arith}
 use Rattle.bits.specs.Bits.{bits-of}

@@ -1,5 +1,6 @@
--- Cards that are refused and cards that open, at the ends of every range and in the order of document 01: one list with one claim
--- about the whole list; and two cards read, whose weights are all different. Computed. Assumes nothing.
+-- Cards that are refused and cards that open, at the ends of every range and in the order of document 01: one list
+-- with one claim about the whole list; and two cards read, whose weights are all different. Computed. Assumes
+-- nothing.
 use mathlib.Core.Path.{_≡_, refl}
 use mathlib.Core.List.{List, [], _∷_, map}
 use Prim.Native.Nat.{ℕ}
@@ -78,7 +79,8 @@ unfolding
     bytes-needed all-of
 refusals = refl
 
--- READ: instance Q at budget 16 with 2→1 pinned and 0→3 banned; and n = 3, root 1, whose cells are 0→2, 1→0, 1→2 (no arc), 2→0
+-- READ: instance Q at budget 16 with 2→1 pinned and 0→3 banned; and n = 3, root 1, whose cells are 0→2, 1→0, 1→2 (no
+-- arc), 2→0
 unfoldable pub read-cards : List (List ℕ)
 read-cards =
     (0x10 ∷ 0x00 ∷ 0x00 ∷ 0x01 ∷ 0x00 ∷ 0x00 ∷ 0x0a ∷ 0x00 ∷ 0x00 ∷ 0x28 ∷ 0x00 ∷ 0x00 ∷ 0x88 ∷ 0x00 ∷ 0x00 ∷ 0x40 ∷ 0x00 ∷ 0x04 ∷ 0x00 ∷ 0x00 ∷ 0x09 ∷ 0x00 ∷ 0x00 ∷ 0x90 ∷ 0x00 ∷ 0x01 ∷ 0xcf ∷ 0xff ∷ 0xff ∷ 0x00 ∷ [])

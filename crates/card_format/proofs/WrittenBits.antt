@@ -1,8 +1,8 @@
--- The bits of a card that was written: how many they are, that they are bits, and a field of each cell is read where it was written.
--- Assumes nothing.
+-- The bits of a card that was written: how many they are, that they are bits, and a field of each cell is read where
+-- it was written. Assumes nothing.
 --
--- Reading runs through the cells as writing does, so no bits are counted: the card's bits from cell i on are those of the cells from
--- i on.
+-- Reading runs through the cells as writing does, so no place is computed: the card's bits from cell i on are those
+-- of the cells from i on.
 use mathlib.Core.Path.{_≡_, refl, ap, _∙_}
 use mathlib.Core.Bool.{Bool, true, false, cond}
 use mathlib.Core.List.{List, [], _∷_, _++_, append-assoc}

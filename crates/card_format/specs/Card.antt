@@ -23,7 +23,8 @@ root-in bs = field n-width root-width bs
 abbrev pub budget-in : (bits : List ℕ) → ℕ
 budget-in bs = field (n-width + root-width) budget-width bs
 
--- "for each feeder upwards, each fed position upwards, leaving out feeder = fed and fed = root": the cells that can be an arc
+-- "for each feeder upwards, each fed position upwards, leaving out feeder = fed and fed = root": the cells that can
+-- be an arc
 unfoldable pub on-card : (n root i : ℕ) → Bool
 on-card n r i = can-be-arc n r (i / 32) (i % 32)
 
@@ -44,7 +45,8 @@ max-card = 2648
 
 -- READING
 
--- "price 20 bits, mark 2": the field of so many bits at a place among those of each cell on the card; another number for the other cells
+-- "price 20 bits, mark 2": the field of so many bits at a place among those of each cell on the card; another number
+-- for the other cells
 unfoldable pub cell-fields : (at width other : ℕ) → (left i : ℕ) → (n root : ℕ) → (bits : List ℕ) → List ℕ
 cell-fields a w o zero i n r bs = []
 cell-fields a w o (suc k) i n r bs =

@@ -1,4 +1,5 @@
--- `put_bits` meets its contract. The loop's invariant is `Storing`: the bytes stored and the bits left are all the bits. Assumes nothing.
+-- `put_bits` meets its contract. The loop's invariant is `Storing`: the bytes stored and the bits left are all the
+-- bits. Assumes nothing.
 use mathlib.Core.Path.{_≡_, refl}
 use Prim.Native.Nat.{_≤_, _+_, _*_, _%_, _^_}
 use native.Mathlib.Omega.{arith}

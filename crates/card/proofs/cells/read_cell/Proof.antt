@@ -1,4 +1,5 @@
--- `read_cell` meets its contract: a cell on the card ends before the cells do, so its fields are within the bytes. Assumes nothing.
+-- `read_cell` meets its contract: a cell on the card ends before the cells do, so its fields are within the bytes.
+-- Assumes nothing.
 use mathlib.Core.Path.{_≡_, _∙_, sym}
 use mathlib.Core.Bool.{true, false}
 use Prim.Native.Nat.{_+_}

@@ -1,4 +1,4 @@
--- `read_card` meets its contract: each return is one of the steps of `ReadingLaws`. Assumes nothing.
+-- `read_card` meets its contract: each return is one of the steps of `ReadLaws`. Assumes nothing.
 use mathlib.Core.Path.{_∙_}
 use native.Mathlib.Omega.{arith}
 use borrow.Author.Needs.{needs}

@@ -1,4 +1,5 @@
--- `read_header` meets its contract: each return is the case of `header-of` that the tests before it leave. Assumes nothing.
+-- `read_header` meets its contract: each return is the case of `header-of` that the tests before it leave. Assumes
+-- nothing.
 use mathlib.Core.Path.{_∙_}
 use borrow.Author.Tests.{lt-ltb, le-ltb, le-leb, lt-leb, eq-eqb, ne-eqb}
 use borrow.Author.Needs.{needs}

@@ -1,7 +1,6 @@
 -- `put_cell` meets its contract: two fields of a cell on the card, or nothing. Assumes nothing.
 use mathlib.Core.Path.{_≡_, _∙_, sym}
 use mathlib.Core.Bool.{true, false}
-use Prim.Native.Nat.{_+_}
 use native.Mathlib.Omega.{arith}
 use borrow.Author.Needs.{needs}
 use Rattle.bits.proofs.NumberLaws.{length-bits-of}

@@ -1,5 +1,5 @@
--- `write_instance` meets its contract: each step has the room that `WritingLaws` counts, and at the end whole bytes are put. Assumes
--- nothing.
+-- `write_instance` meets its contract: each step has the room that `WriteLaws` counts, and at the end whole bytes are
+-- put. Assumes nothing.
 use Prim.Native.Nat.{_≤_}
 use lib.Dec.{ltb}
 use lib.ListN.{length}
