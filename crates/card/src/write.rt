@@ -33,7 +33,8 @@ fn put_header(n: u32, root: u32, budget: u32, out: &mut [u8]) -> BitWriter
     bits::put_bits(budget, BUDGET_WIDTH, after_root, out)
 }
 
-// The bits of cell `i`, if it is on the card.
+// The bits of a cell: `n`, `root` and `i` say whether it is on the card, `weight` and `mark` are what it holds, and the
+// next bit of `out` goes where `w` says. A cell that is not on the card puts none.
 fn put_cell(
     n: u32,
     root: u32,
