@@ -7,3 +7,4 @@ pub mod CountingLaws
 pub mod FillingLaws
 pub mod FrontLaws
 pub mod SumLaws
+pub mod PartLaws

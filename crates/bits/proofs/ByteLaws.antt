@@ -12,8 +12,8 @@ use borrow.Author.Tests.{ltb-true}
 use Rattle.base.specs.Lists.{all-of}
 use Rattle.base.proofs.Tests.{and-left, and-right}
 use Rattle.bits.specs.Bits.{bits-of, bits-in, number-from, packed, are-bits, are-bytes}
-use Rattle.base.proofs.AllOfLaws.{all-of-append, all-of-take, all-of-drop}
-use Rattle.bits.proofs.NumberLaws.{length-bits-of, bits-of-are-bits, number-bits-of, bits-of-number}
+use Rattle.base.proofs.AllOfLaws.{all-of-take, all-of-drop}
+use Rattle.bits.proofs.NumberLaws.{length-bits-of, bits-of-are-bits, are-bits-append, number-bits-of, bits-of-number}
 
 pub length-bits-in : (ws : List ℕ) → length (bits-in ws) ≡ 8 * length ws
 unfolding bits-in
@@ -23,7 +23,7 @@ length-bits-in (w ∷ ws) = length-append (bits-of 8 w) (bits-in ws) ∙ rw (len
 pub bits-in-are-bits : (ws : List ℕ) → are-bits (bits-in ws) ≡ true
 unfolding bits-in all-of
 bits-in-are-bits [] = refl
-bits-in-are-bits (w ∷ ws) = all-of-append (λ b. ltb b 2) (bits-of 8 w) (bits-in ws) (bits-of-are-bits 8 w) (bits-in-are-bits ws)
+bits-in-are-bits (w ∷ ws) = are-bits-append (bits-of 8 w) (bits-in ws) (bits-of-are-bits 8 w) (bits-in-are-bits ws)
 
 pub bits-in-append : (xs ys : List ℕ) → bits-in (xs ++ ys) ≡ bits-in xs ++ bits-in ys
 unfolding bits-in

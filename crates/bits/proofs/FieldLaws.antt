@@ -1,4 +1,5 @@
--- Fields of bits: one field as two, a field within a longer one, what is written is read and the other way round. Assumes nothing.
+-- Fields of bits: one field as two, a field within a longer one, what is written is read and the other way round.
+-- Assumes nothing.
 use mathlib.Core.Path.{_≡_, refl, _∙_, sym}
 use mathlib.Core.Bool.{true}
 use mathlib.Core.List.{List, [], _∷_, _++_}
@@ -8,11 +9,12 @@ use native.Mathlib.Nat.{suc-mul, zero-mul}
 use lib.Dec.{ltb, eqb}
 use lib.Pow.{pow-pos, pow-mono, high, low}
 use lib.ListN.{length, getD, take, drop, length-drop, take-append-drop}
-use lib.Seq.{take-at, drop-at, take-add, take-all, drop-drop, length-take-le}
+use lib.Seq.{take-at, drop-at, take-add, take-all, drop-drop}
 use borrow.Author.Tests.{ne-eqb}
 use Rattle.base.specs.Lists.{all-of}
 use Rattle.bits.specs.Bits.{bits-of, bits-in, number-from, field, are-bits}
 use Rattle.base.proofs.AllOfLaws.{all-of-take, all-of-drop}
+use Rattle.base.proofs.PartLaws.{length-part}
 use Rattle.bits.proofs.NumberLaws.{length-bits-of, number-from-append, number-from-shift, number-below, number-bits-of, bits-of-number}
 use Rattle.bits.proofs.ByteLaws.{length-bits-in, bits-in-are-bits}
 
@@ -25,19 +27,16 @@ pub field-drop : (d a k : ℕ) (bs : List ℕ) → field a k (drop d bs) ≡ fie
 unfolding field
 field-drop d a k bs = rw (drop-drop a d bs)
 
-taken : (a k : ℕ) (bs : List ℕ) → a + k ≤ length bs → length (take k (drop a bs)) ≡ k
-taken a k bs h = length-take-le k (drop a bs) (rw (length-drop a bs) (omega arith))
-
 pub field-below : (a k : ℕ) (bs : List ℕ) → are-bits bs ≡ true → a + k ≤ length bs → field a k bs < 2 ^ k
 unfolding field
 field-below a k bs e h =
-    rw (taken a k bs h) at (number-below (take k (drop a bs)) (all-of-take (λ b. ltb b 2) k (drop a bs) (all-of-drop (λ b. ltb b 2) a bs e)))
+    rw (length-part a k bs h) at (number-below (take k (drop a bs)) (all-of-take (λ b. ltb b 2) k (drop a bs) (all-of-drop (λ b. ltb b 2) a bs e)))
 
 -- a field as two
 pub field-add : (a j k : ℕ) (bs : List ℕ) → a + j + k ≤ length bs → field a (j + k) bs ≡ field a j bs * 2 ^ k + field (a + j) k bs
 unfolding field
 field-add a j k bs h =
-    rw (take-add j k (drop a bs), drop-drop j a bs, number-from-append, number-from-shift (number-from 0 (take j (drop a bs))), taken (a + j) k bs h)
+    rw (take-add j k (drop a bs), drop-drop j a bs, number-from-append, number-from-shift (number-from 0 (take j (drop a bs))), length-part (a + j) k bs h)
 
 -- a field within a longer one: t bits stand behind it, j before it
 pub field-within : (a j k t : ℕ) (bs : List ℕ) → are-bits bs ≡ true → a + j + k + t ≤ length bs →
@@ -61,7 +60,7 @@ pub field-written : (a k : ℕ) (bs : List ℕ) → are-bits bs ≡ true → a +
 unfolding field
 field-written a k bs e h =
     let b : bits-of k (number-from 0 (take k (drop a bs))) ≡ take k (drop a bs) =
-    rw (taken a k bs h) at (bits-of-number 0 (take k (drop a bs)) (all-of-take (λ b. ltb b 2) k (drop a bs) (all-of-drop (λ b. ltb b 2) a bs e))) in
+    rw (length-part a k bs h) at (bits-of-number 0 (take k (drop a bs)) (all-of-take (λ b. ltb b 2) k (drop a bs) (all-of-drop (λ b. ltb b 2) a bs e))) in
     rw (b, ← drop-drop k a bs) (take-append-drop k (drop a bs))
 
 -- FIELDS OF BYTES

@@ -12,6 +12,8 @@ use lib.ListN.{length, replicate}
 use borrow.Author.Tests.{ltb-true, lt-ltb}
 use Rattle.base.specs.Lists.{all-of}
 use Rattle.base.proofs.Tests.{and-left, and-right, and-both}
+use Rattle.base.proofs.AllOfLaws.{all-of-append}
+use Rattle.base.proofs.PartLaws.{all-of-replicate}
 use Rattle.bits.specs.Bits.{bits-of, number-from, are-bits}
 
 -- a power that a shift computes in a 64-bit word
@@ -32,6 +34,12 @@ unfolding bits-of all-of
 bits-of-are-bits zero v = refl
 bits-of-are-bits (suc k) v =
     and-both (ltb (v / 2 ^ k % 2) 2) (are-bits (bits-of k v)) (lt-ltb (v / 2 ^ k % 2) 2 (omega arith)) (bits-of-are-bits k v)
+
+pub are-bits-append : (xs ys : List ℕ) → are-bits xs ≡ true → are-bits ys ≡ true → are-bits (xs ++ ys) ≡ true
+are-bits-append xs ys p q = all-of-append (λ b. ltb b 2) xs ys p q
+
+pub zeros-are-bits : (k : ℕ) → are-bits (replicate k 0) ≡ true
+zeros-are-bits k = all-of-replicate (λ b. ltb b 2) k 0 refl
 
 -- the upper bits, then the lower ones
 pub bits-of-split : (j k v : ℕ) → bits-of (j + k) v ≡ bits-of j (v / 2 ^ k) ++ bits-of k v

@@ -7,27 +7,26 @@ use native.Mathlib.Omega.{arith}
 use native.Mathlib.Numerals.{add-one}
 use lib.Dec.{ltb}
 use lib.ListN.{length, set, take, drop, length-set, length-append, take-append-drop}
-use lib.Seq.{take-suc-set, drop-set-lt, drop-drop, length-take-le}
+use lib.Seq.{take-suc-set, drop-set-lt, length-take-le}
 use Rattle.bits.specs.Bits.{bits-of, bits-in, packed, are-bytes}
 use Rattle.bits.specs.Writer.{bits-put, Ready, Put}
 use Rattle.bits.specs.declared.BitWriter.{BitWriter}
+use Rattle.base.specs.Lists.{in-front}
 use Rattle.base.proofs.AllOfLaws.{all-of-take}
+use Rattle.base.proofs.FrontLaws.{front-is}
+use Rattle.base.proofs.PartLaws.{drop-later}
 use Rattle.bits.proofs.NumberLaws.{length-bits-of, bits-of-none, bits-of-split, bits-of-cut, bits-of-join}
-use Rattle.bits.proofs.ByteLaws.{bits-in-append, bits-in-one, packed-bits-in}
+use Rattle.bits.proofs.ByteLaws.{bits-in-append, bits-in-one, packed-bits-in, length-packed}
 
 -- WITHIN ONE CALL
--- The bits that wait and the new ones are one number, `bits`, of which `left` are not stored yet. The loop stores the upper eight.
+-- The bits that wait and the new ones are one number, `bits`, of which `left` are not stored yet. The loop stores the
+-- upper eight.
 pub record Storing (before : List ℕ) (first some bits : ℕ) (out : List ℕ) (at left : ℕ) : Type 0 where
   pub stored : bits-in (take at out) ++ bits-of left bits ≡ bits-in (take first before) ++ bits-of some bits
   pub unchanged : drop at out ≡ drop at before
   pub long : length out ≡ length before
   pub fewer : left ≤ some
   pub moved : 8 * at + left ≡ 8 * first + some
-
-dropped : (m n : ℕ) (xs ys : List ℕ) → m ≤ n → drop m xs ≡ drop m ys → drop n xs ≡ drop n ys
-dropped m n xs ys h e =
-    let s : m + (n - m) ≡ n = omega arith in
-    rw (← s) (sym (drop-drop (n - m) m xs) ∙ ap (λ (l : List ℕ). drop (n - m) l) e ∙ drop-drop (n - m) m ys)
 
 byte-then : (k v : ℕ) → 8 ≤ k → bits-of 8 (v / 2 ^ (k - 8) % 256) ++ bits-of (k - 8) v ≡ bits-of k v
 byte-then k v h =
@@ -41,7 +40,7 @@ store-byte {before} {first} {some} {bits} out at left s h l =
     record {
       stored =
           rw (add-one, take-suc-set out at b h, bits-in-append (take at out) (b ∷ []), bits-in-one b, append-assoc, byte-then left bits l) (s .stored);
-      unchanged = drop-set-lt (at + 1) out at b (omega arith) ∙ dropped at (at + 1) out before (omega arith) (s .unchanged);
+      unchanged = drop-set-lt (at + 1) out at b (omega arith) ∙ drop-later at (at + 1) out before (omega arith) (s .unchanged);
       long = length-set out at b ∙ s .long;
       fewer = omega (arith, s .fewer);
       moved = omega (arith, s .moved);
@@ -71,7 +70,7 @@ put-none out w h = record { all-put = sym (append-nil (bits-put out w)); unchang
 pub put-then : (xs ys zs : List ℕ) (p q r : BitWriter) (cs bs : List ℕ) → Put xs p cs ys q → Put ys q bs zs r → Put xs p (cs ++ bs) zs r
 put-then xs ys zs p q r cs bs u v = record {
   all-put = v .all-put ∙ rw (u .all-put, append-assoc);
-  unchanged = v .unchanged ∙ dropped (q .at) (r .at) ys xs (omega (arith, v .moved, v .few, u .few)) (u .unchanged);
+  unchanged = v .unchanged ∙ drop-later (q .at) (r .at) ys xs (omega (arith, v .moved, v .few, u .few)) (u .unchanged);
   long = v .long ∙ u .long;
   few = v .few;
   moved = rw (length-append cs bs) (omega (arith, u .moved, v .moved));
@@ -99,9 +98,9 @@ none-put : (xs : List ℕ) → bits-put xs fresh ≡ []
 unfolding bits-put bits-of bits-in
 none-put xs = refl
 
--- whole bytes were put from the start: the buffer is those bytes, and what it was behind them
+-- whole bytes were put from the start: they replace the front of the buffer
 pub bytes-put : (xs ys : List ℕ) (r : BitWriter) (bs : List ℕ) (k : ℕ) → Put xs fresh bs ys r → length bs ≡ 8 * k → k ≤ length xs → are-bytes ys ≡ true →
-    (r .at ≡ k) × (ys ≡ packed k bs ++ drop k xs)
+    (r .at ≡ k) × (ys ≡ in-front (packed k bs) xs)
 unfolding bits-put
 bytes-put xs ys r bs k u n l b =
     let h : r .count ≡ 0 = omega (arith, u .moved, u .few) in
@@ -109,4 +108,5 @@ bytes-put xs ys r bs k u n l b =
     let e : bits-in (take k ys) ≡ bs = rw (none-put xs, h, a, bits-of-none, append-nil) at (u .all-put) in
     let t : length (take k ys) ≡ k = length-take-le k ys (omega (arith, u .long)) in
     let w : packed k bs ≡ take k ys = rw (t, e) at (packed-bits-in (take k ys) (all-of-take (λ x. ltb x 256) k ys b)) in
-    (a, sym (take-append-drop k ys) ∙ rw (w, ← rw a at (u .unchanged)))
+    let d : take k ys ++ drop k ys ≡ packed k bs ++ drop k xs = rw (w, ← rw a at (u .unchanged)) in
+    (a, sym (take-append-drop k ys) ∙ d ∙ front-is (packed k bs) xs k (length-packed k bs))

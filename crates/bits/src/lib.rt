@@ -34,11 +34,11 @@ pub fn read_bits(bytes: &[u8], at: usize, width: usize) -> u32
 pub struct BitWriter {
     pub at: usize,
     pub partial: u8,
-    pub count: u32,
+    pub count: usize,
 }
 
 // Puts the lowest `width` bits of `value`. A byte is stored when it is full.
-pub fn put_bits(out: &mut [u8], w: BitWriter, value: u32, width: u32) -> BitWriter
+pub fn put_bits(value: u32, width: usize, w: BitWriter, out: &mut [u8]) -> BitWriter
     requires { ⌜ Ready (now out) w width × (width ≤ 32) ⌝ }
     ensures { λ r. ⌜ Put (now (out .entry)) w (bits-of width value) (now (out .exit)) r ⌝ }
 {
@@ -59,10 +59,10 @@ pub fn put_bits(out: &mut [u8], w: BitWriter, value: u32, width: u32) -> BitWrit
 }
 
 // Fills the byte that is not full with zero bits.
-pub fn fill_byte(out: &mut [u8], w: BitWriter) -> BitWriter
+pub fn fill_byte(w: BitWriter, out: &mut [u8]) -> BitWriter
     requires { ⌜ Ready (now out) w (filling (w .count)) ⌝ }
     ensures { λ r. ⌜ Put (now (out .entry)) w (replicate (filling (w .count)) 0) (now (out .exit)) r ⌝ }
 {
     let width = (8 - w.count) % 8;
-    put_bits(out, w, 0, width)
+    put_bits(0, width, w, out)
 }

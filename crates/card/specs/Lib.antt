@@ -1,5 +1,4 @@
--- The rig card. Assumes nothing.
-pub mod Card
-pub mod Offsets
-pub mod Reading
-pub mod Writing
+-- What reading and writing a card gives. Assumes nothing.
+pub mod Cells
+pub mod Read
+pub mod Write

@@ -1,10 +1,12 @@
 // How many bytes a card has.
 ghost use mathlib.Core.Path.{_≡_};
 ghost use Prim.Native.Nat.{_≤_};
-ghost use Rattle.card.specs.Card.{bytes-needed};
+ghost use Rattle.instance.specs.Limits.{max-vertices};
+ghost use Rattle.card_format.specs.Card.{bytes-needed};
+use instance::limits::MAX_VERTICES;
 
 // "The needed lengths for 1 to 32 positions are held as a table".
-const LENGTHS: [usize; 32] = [
+const LENGTHS: [usize; MAX_VERTICES as usize] = [
     5,
     8,
     16,
@@ -40,7 +42,7 @@ const LENGTHS: [usize; 32] = [
 ];
 
 pub fn needed_length(n: u32) -> usize
-    requires { ⌜ (1 ≤ n) × (n ≤ 32) ⌝ }
+    requires { ⌜ (1 ≤ n) × (n ≤ max-vertices) ⌝ }
     ensures { λ r. ⌜ r ≡ bytes-needed n ⌝ }
 {
     LENGTHS[(n - 1) as usize]

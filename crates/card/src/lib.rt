@@ -1,9 +1,12 @@
 // The rig card: reading and writing.
 
+mod widths; // widths.rt: the widths of a card's fields
 mod lengths; // lengths.rt: how many bytes a card has
 mod cells; // cells.rt: the cells of a card, read and judged
 pub mod read; // read.rt: a card of any bytes, read or refused
 pub mod write; // write.rt: a card written into the caller's buffer
 
-// The longest card, of 32 positions.
+// The shortest card, of 1 position, and the longest, of 32.
+pub const MIN_CARD: usize = 5;
+
 pub const MAX_CARD: usize = 2648;

@@ -1,25 +1,37 @@
 // A card of any bytes, read or refused.
+use crate::MIN_CARD;
 use crate::cells;
 use crate::lengths;
+use crate::widths::BUDGET_WIDTH;
+use crate::widths::N_WIDTH;
+use crate::widths::ROOT_WIDTH;
 ghost use mathlib.Core.Path.{_≡_};
-ghost use Rattle.card.specs.Reading.{header-of, no-contents, contents-of};
+ghost use Rattle.card.specs.Read.{no-header, header-of, no-contents, contents-of};
+use instance::limits::CELLS;
+use instance::limits::FREE;
 use instance::limits::MAX_BUDGET;
 use instance::limits::MAX_VERTICES;
 use instance::limits::NO_ARC;
+use instance::refusals::BAD_CARD_BUDGET;
+use instance::refusals::BAD_COUNT;
+use instance::refusals::BAD_FILLING;
+use instance::refusals::BAD_LENGTH;
+use instance::refusals::BAD_ROOT;
+use instance::refusals::CARD_SHORT;
 
-// The fields before the cells, or a refusal.
+// A refusal and nothing else, or 0 and the fields before the cells.
 pub struct Header {
-    pub refusal: u32,
+    pub answer: u32,
     pub n: u32,
     pub root: u32,
     pub budget: u32,
 }
 
-fn no_header(refusal: u32) -> Header
-    ensures { λ r. ⌜ r ≡ record { refusal = refusal; n = 0; root = 0; budget = 0 } ⌝ }
+fn no_header(answer: u32) -> Header
+    ensures { λ r. ⌜ r ≡ no-header answer ⌝ }
 {
     Header {
-        refusal,
+        answer,
         n: 0,
         root: 0,
         budget: 0,
@@ -30,29 +42,29 @@ fn no_header(refusal: u32) -> Header
 fn read_header(card: &[u8]) -> Header
     ensures { λ r. ⌜ r ≡ header-of (now (card .entry)) ⌝ }
 {
-    if card.len() < 5 {
-        return no_header(1);
+    if card.len() < MIN_CARD {
+        return no_header(CARD_SHORT);
     }
-    let n = bits::read_bits(card, 0, 6);
+    let n = bits::read_bits(card, 0, N_WIDTH);
     if n == 0 {
-        return no_header(2);
+        return no_header(BAD_COUNT);
     }
     if MAX_VERTICES < n {
-        return no_header(2);
+        return no_header(BAD_COUNT);
     }
     if card.len() != lengths::needed_length(n) {
-        return no_header(3);
+        return no_header(BAD_LENGTH);
     }
-    let root = bits::read_bits(card, 6, 5);
+    let root = bits::read_bits(card, N_WIDTH, ROOT_WIDTH);
     if n <= root {
-        return no_header(4);
+        return no_header(BAD_ROOT);
     }
-    let budget = bits::read_bits(card, 11, 25);
+    let budget = bits::read_bits(card, N_WIDTH + ROOT_WIDTH, BUDGET_WIDTH);
     if MAX_BUDGET < budget {
-        return no_header(5);
+        return no_header(BAD_CARD_BUDGET);
     }
     Header {
-        refusal: 0,
+        answer: 0,
         n,
         root,
         budget,
@@ -61,24 +73,24 @@ fn read_header(card: &[u8]) -> Header
 
 // What a card says: a refusal and nothing else, or 0 and an instance.
 pub struct Contents {
-    pub refusal: u32,
+    pub answer: u32,
     pub n: u32,
     pub root: u32,
     pub budget: u32,
-    pub weights: [u32; 1024],
-    pub marks: [u8; 1024],
+    pub weights: [u32; CELLS],
+    pub marks: [u8; CELLS],
 }
 
-fn no_contents(refusal: u32) -> Contents
-    ensures { λ r. ⌜ r ≡ no-contents refusal ⌝ }
+fn no_contents(answer: u32) -> Contents
+    ensures { λ r. ⌜ r ≡ no-contents answer ⌝ }
 {
     Contents {
-        refusal,
+        answer,
         n: 0,
         root: 0,
         budget: 0,
-        weights: [NO_ARC; 1024],
-        marks: [0u8; 1024],
+        weights: [NO_ARC; CELLS],
+        marks: [FREE; CELLS],
     }
 }
 
@@ -87,7 +99,7 @@ pub fn read_card(card: &[u8]) -> Contents
     ensures { λ r. ⌜ r ≡ contents-of (now (card .entry)) ⌝ }
 {
     let header = read_header(card);
-    let refusal = header.refusal;
+    let refusal = header.answer;
     if refusal != 0 {
         return no_contents(refusal);
     }
@@ -95,18 +107,18 @@ pub fn read_card(card: &[u8]) -> Contents
     let root = header.root;
     let budget = header.budget;
     let cells = cells::read_cells(card, n, root);
-    let faulty = cells.refusal;
+    let faulty = cells.answer;
     if faulty != 0 {
         return no_contents(faulty);
     }
     let end = cells.end;
     if bits::read_bits(card, end, 8 * card.len() - end) != 0 {
-        return no_contents(8);
+        return no_contents(BAD_FILLING);
     }
     let weights = cells.weights;
     let marks = cells.marks;
     Contents {
-        refusal: 0,
+        answer: 0,
         n,
         root,
         budget,

@@ -1,17 +1,26 @@
 // A card written into the caller's buffer.
 use crate::cells;
 use crate::lengths;
+use crate::widths::BUDGET_WIDTH;
+use crate::widths::MARK_WIDTH;
+use crate::widths::N_WIDTH;
+use crate::widths::ROOT_WIDTH;
+use crate::widths::WEIGHT_WIDTH;
 use bits::BitWriter;
 ghost use mathlib.Core.Path.{_≡_};
 ghost use Prim.Native.Nat.{_*_, _≤_, _<_};
 ghost use lib.ListN.{length};
 ghost use Rattle.bits.specs.Writer.{Ready, Put};
+ghost use Rattle.instance.specs.Limits.{max-vertices, cells};
 ghost use Rattle.instance.specs.Instance.{instance-with};
-ghost use Rattle.card.specs.Card.{cell-bits};
-ghost use Rattle.card.specs.Writing.{header-bits, one-cell, Card-written};
+ghost use Rattle.card_format.specs.Widths.{header-width};
+ghost use Rattle.card_format.specs.Card.{header-bits, one-cell, cell-bits};
+ghost use Rattle.card.specs.Write.{Card-written};
+use instance::limits::CELLS;
+use instance::refusals::BUFFER_SHORT;
 
-fn put_header(out: &mut [u8], n: u32, root: u32, budget: u32) -> BitWriter
-    requires { ⌜ 36 ≤ 8 * length (now out) ⌝ }
+fn put_header(n: u32, root: u32, budget: u32, out: &mut [u8]) -> BitWriter
+    requires { ⌜ header-width ≤ 8 * length (now out) ⌝ }
     ensures { λ r. ⌜ Put (now (out .entry)) (record { at = 0; partial = 0; count = 0 }) (header-bits n root budget) (now (out .exit)) r ⌝ }
 {
     let start = BitWriter {
@@ -19,47 +28,48 @@ fn put_header(out: &mut [u8], n: u32, root: u32, budget: u32) -> BitWriter
         partial: 0,
         count: 0,
     };
-    let after_n = bits::put_bits(out, start, n, 6);
-    let after_root = bits::put_bits(out, after_n, root, 5);
-    bits::put_bits(out, after_root, budget, 25)
+    let after_n = bits::put_bits(n, N_WIDTH, start, out);
+    let after_root = bits::put_bits(root, ROOT_WIDTH, after_n, out);
+    bits::put_bits(budget, BUDGET_WIDTH, after_root, out)
 }
 
-// The bits of cell `i`, if it is on the card.
+// The bits of a cell: `n`, `root` and `i` say whether it is on the card, `weight` and `mark` are what it holds, and the
+// next bit of `out` goes where `w` says. A cell that is not on the card puts none.
 fn put_cell(
-    out: &mut [u8],
-    w: BitWriter,
     n: u32,
     root: u32,
     i: usize,
     weight: u32,
     mark: u8,
+    w: BitWriter,
+    out: &mut [u8],
 ) -> BitWriter
-    requires { ⌜ (i < 1024) × Ready (now out) w (length (one-cell n root i weight mark)) ⌝ }
+    requires { ⌜ (i < cells) × Ready (now out) w (length (one-cell n root i weight mark)) ⌝ }
     ensures { λ r. ⌜ Put (now (out .entry)) w (one-cell n root i weight mark) (now (out .exit)) r ⌝ }
 {
     if cells::on_card(n, root, i) {
-        let after_weight = bits::put_bits(out, w, weight, 20);
-        return bits::put_bits(out, after_weight, mark as u32, 2);
+        let after_weight = bits::put_bits(weight, WEIGHT_WIDTH, w, out);
+        return bits::put_bits(mark as u32, MARK_WIDTH, after_weight, out);
     }
     w
 }
 
 fn put_cells<'a>(
-    out: &mut [u8],
-    start: BitWriter,
+    weights: &'a [u32; CELLS],
+    marks: &'a [u8; CELLS],
     n: u32,
     root: u32,
-    weights: &'a [u32; 1024],
-    marks: &'a [u8; 1024],
+    start: BitWriter,
+    out: &mut [u8],
 ) -> BitWriter
-    requires { ⌜ (length (now weights) ≡ 1024) × (length (now marks) ≡ 1024) ⌝ }
-    requires { ⌜ Ready (now out) start (length (cell-bits 1024 0 (instance-with n root 0 (now weights) (now marks)))) ⌝ }
-    ensures { λ r. ⌜ Put (now (out .entry)) start (cell-bits 1024 0 (instance-with n root 0 (now (weights .entry)) (now (marks .entry)))) (now (out .exit)) r ⌝ }
+    requires { ⌜ (length (now weights) ≡ cells) × (length (now marks) ≡ cells) ⌝ }
+    requires { ⌜ Ready (now out) start (length (cell-bits cells 0 (instance-with n root 0 (now weights) (now marks)))) ⌝ }
+    ensures { λ r. ⌜ Put (now (out .entry)) start (cell-bits cells 0 (instance-with n root 0 (now (weights .entry)) (now (marks .entry)))) (now (out .exit)) r ⌝ }
 {
     let mut w = start;
     let mut i: usize = 0;
-    while i < 1024 {
-        w = put_cell(out, w, n, root, i, weights[i], marks[i]);
+    while i < CELLS {
+        w = put_cell(n, root, i, weights[i], marks[i], w, out);
         i += 1;
     }
     w
@@ -67,35 +77,35 @@ fn put_cells<'a>(
 
 // 14 if the buffer is too short, else 0 and the length of the card.
 pub struct Written {
-    pub number: u32,
+    pub answer: u32,
     pub length: usize,
 }
 
-// Writes the card of the instance that the arguments make up; bytes behind it stay. (One lifetime, so that two fields of
-// one struct can be lent.)
+// Writes the card of the instance that the arguments make up; bytes behind it stay. (One lifetime, so that two fields
+// of one struct can be lent.)
 pub fn write_instance<'a>(
+    weights: &'a [u32; CELLS],
+    marks: &'a [u8; CELLS],
     n: u32,
     root: u32,
     budget: u32,
-    weights: &'a [u32; 1024],
-    marks: &'a [u8; 1024],
     out: &mut [u8],
 ) -> Written
-    requires { ⌜ (1 ≤ n) × (n ≤ 32) × (root < n) × (length (now weights) ≡ 1024) × (length (now marks) ≡ 1024) ⌝ }
+    requires { ⌜ (1 ≤ n) × (n ≤ max-vertices) × (root < n) × (length (now weights) ≡ cells) × (length (now marks) ≡ cells) ⌝ }
     ensures { λ r. ⌜ Card-written (instance-with n root budget (now (weights .entry)) (now (marks .entry))) (now (out .entry)) (now (out .exit)) r ⌝ }
 {
     let needed = lengths::needed_length(n);
     if out.len() < needed {
         return Written {
-            number: 14,
+            answer: BUFFER_SHORT,
             length: 0,
         };
     }
-    let header = put_header(out, n, root, budget);
-    let all = put_cells(out, header, n, root, weights, marks);
-    bits::fill_byte(out, all);
+    let header = put_header(n, root, budget, out);
+    let all = put_cells(weights, marks, n, root, header, out);
+    bits::fill_byte(all, out);
     Written {
-        number: 0,
+        answer: 0,
         length: needed,
     }
 }

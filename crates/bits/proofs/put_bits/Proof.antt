@@ -1,4 +1,5 @@
--- `put_bits` meets its contract. The loop's invariant is `Storing`: the bytes stored and the bits left are all the bits. Assumes nothing.
+-- `put_bits` meets its contract. The loop's invariant is `Storing`: the bytes stored and the bits left are all the
+-- bits. Assumes nothing.
 use mathlib.Core.Path.{_≡_, refl}
 use Prim.Native.Nat.{_≤_, _+_, _*_, _%_, _^_}
 use native.Mathlib.Omega.{arith}
@@ -9,10 +10,10 @@ use Rattle.bits.proofs.put_bits.Statement.{statement}
 use Rattle.bits.proofs.put_bits.Tie as tie
 
 abbrev Inv-loop : tie.InvT-loop
-Inv-loop out₀ value width power bits at₀ left₀ out at left = Storing out₀ at₀ left₀ bits out at left
+Inv-loop value width out₀ power bits at₀ left₀ out at left = Storing out₀ at₀ left₀ bits out at left
 
 abbrev μ-loop : tie.MeasureT-loop
-μ-loop out₀ value width power bits at₀ left₀ out at left = left
+μ-loop value width out₀ power bits at₀ left₀ out at left = left
 
 shl-power : tie.Need-shl-power Inv-loop μ-loop
 shl-power c = omega arith
@@ -43,14 +44,11 @@ add-left c = omega arith
 loop-holds : tie.Need-loop-holds Inv-loop μ-loop
 loop-holds c = record { stored = refl; unchanged = refl; long = refl; fewer = omega arith; moved = refl }
 
-cast-out : tie.Need-cast-out Inv-loop μ-loop
-cast-out c = omega arith
-
 shr-out : tie.Need-shr-out Inv-loop μ-loop
 shr-out c = omega arith
 
-cast-out-2 : tie.Need-cast-out-2 Inv-loop μ-loop
-cast-out-2 c = omega arith
+cast-out : tie.Need-cast-out Inv-loop μ-loop
+cast-out c = omega arith
 
 slice-write-out : tie.Need-slice-write-out Inv-loop μ-loop
 slice-write-out c = omega arith
@@ -91,9 +89,8 @@ put-bits-spec =
     add-bits
     add-left
     loop-holds
-    cast-out
     shr-out
-    cast-out-2
+    cast-out
     slice-write-out
     add-at
     loop-less

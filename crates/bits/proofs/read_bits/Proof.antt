@@ -1,5 +1,5 @@
--- `read_bits` meets its contract. The loop's invariant: the value is the field of the bytes read so far. The field that is asked for
--- lies within that of all its bytes. Assumes nothing.
+-- `read_bits` meets its contract. The loop's invariant: the value is the field of the bytes read so far. The field
+-- that is asked for lies within that of all its bytes. Assumes nothing.
 use mathlib.Core.Path.{_≡_, refl, sym}
 use Prim.Native.Nat.{_≤_, _+_, _*_, _-_, _/_, _%_}
 use native.Mathlib.Nat.{mod-lt, lt-of-lt-of-le}

@@ -1,6 +1,6 @@
 -- `judge_cell` meets its contract: its tests are those of `cell-refusal`. Assumes nothing.
 use borrow.Author.Tests.{le-leb, lt-leb, eq-eqb, ne-eqb}
-use Rattle.card.specs.Card.{cell-refusal}
+use Rattle.card_format.specs.Card.{cell-refusal}
 use Rattle.card.proofs.cells.judge_cell.Statement.{statement}
 use Rattle.card.proofs.cells.judge_cell.Tie as tie
 

@@ -1,6 +1,6 @@
 -- `on_card` is `can_be_arc` of the cell's tail and head. Assumes nothing.
 use borrow.Author.Needs.{needs}
-use Rattle.card.specs.Card.{on-card}
+use Rattle.card_format.specs.Card.{on-card}
 use Rattle.card.proofs.cells.on_card.Statement.{statement}
 use Rattle.card.proofs.cells.on_card.Tie as tie
 

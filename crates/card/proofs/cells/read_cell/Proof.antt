@@ -1,4 +1,5 @@
--- `read_cell` meets its contract: a cell on the card ends before the cells do, so its fields are within the bytes. Assumes nothing.
+-- `read_cell` meets its contract: a cell on the card ends before the cells do, so its fields are within the bytes.
+-- Assumes nothing.
 use mathlib.Core.Path.{_≡_, _∙_, sym}
 use mathlib.Core.Bool.{true, false}
 use Prim.Native.Nat.{_+_}
@@ -8,9 +9,11 @@ use borrow.Author.Needs.{needs}
 use Rattle.bits.specs.Bits.{bits-in}
 use Rattle.bits.proofs.ByteLaws.{length-bits-in, bits-in-are-bits}
 use Rattle.bits.proofs.FieldLaws.{field-below}
-use Rattle.card.specs.Card.{on-card}
-use Rattle.card.specs.Offsets.{offset, cell-field}
-use Rattle.card.proofs.OffsetLaws.{offset-next, offset-within}
+use Rattle.instance.specs.Limits.{cells}
+use Rattle.card_format.specs.Widths.{weight-width, mark-width}
+use Rattle.card_format.specs.Card.{on-card}
+use Rattle.card_format.specs.Offsets.{offset, cell-field}
+use Rattle.card_format.proofs.OffsetLaws.{offset-next, offset-within}
 use Rattle.card.proofs.cells.read_cell.Statement.{statement}
 use Rattle.card.proofs.cells.read_cell.Tie as tie
 
@@ -20,28 +23,28 @@ on-card-requires c κs = search needs
 read-bits-requires : tie.Need-read-bits-requires
 read-bits-requires c κs =
     let a = c .before .before .before .args in
-    omega (arith, offset-within (a .n) (a .root) (a .i) 1024 (omega arith) (sym (c .before .on-card .ensures) ∙ c .if1 .taken))
+    omega (arith, offset-within (a .n) (a .root) (a .i) cells (omega arith) (sym (c .before .on-card .ensures) ∙ c .if1 .taken))
 
 add-read-bits : tie.Need-add-read-bits
 add-read-bits c =
     let a = c .before .before .before .before .args in
-    omega (arith, offset-within (a .n) (a .root) (a .i) 1024 (omega arith) (sym (c .before .before .on-card .ensures) ∙ c .before .if1 .taken))
+    omega (arith, offset-within (a .n) (a .root) (a .i) cells (omega arith) (sym (c .before .before .on-card .ensures) ∙ c .before .if1 .taken))
 
 read-bits-requires-2 : tie.Need-read-bits-requires-2
 read-bits-requires-2 c κs =
     let a = c .before .before .before .before .args in
-    omega (arith, offset-within (a .n) (a .root) (a .i) 1024 (omega arith) (sym (c .before .before .on-card .ensures) ∙ c .before .if1 .taken))
+    omega (arith, offset-within (a .n) (a .root) (a .i) cells (omega arith) (sym (c .before .before .on-card .ensures) ∙ c .before .if1 .taken))
 
 cast-t10 : tie.Need-cast-t10
 cast-t10 c =
     let a = c .before .before .before .before .before .args in
-    let w = offset-within (a .n) (a .root) (a .i) 1024 (omega arith) (sym (c .before .before .before .on-card .ensures) ∙ c .before .before .if1 .taken) in
-    omega (arith, c .read-bits2 .ensures, field-below (a .at + 20) 2 (bits-in (a .card .now)) (bits-in-are-bits (a .card .now)) (rw (length-bits-in (a .card .now)) (omega arith)))
+    let w = offset-within (a .n) (a .root) (a .i) cells (omega arith) (sym (c .before .before .before .on-card .ensures) ∙ c .before .before .if1 .taken) in
+    omega (arith, c .read-bits2 .ensures, field-below (a .at + weight-width) mark-width (bits-in (a .card .now)) (bits-in-are-bits (a .card .now)) (rw (length-bits-in (a .card .now)) (omega arith)))
 
 add-t9 : tie.Need-add-t9
 add-t9 c =
     let a = c .before .before .before .before .before .args in
-    omega (arith, offset-within (a .n) (a .root) (a .i) 1024 (omega arith) (sym (c .before .before .before .on-card .ensures) ∙ c .before .before .if1 .taken))
+    omega (arith, offset-within (a .n) (a .root) (a .i) cells (omega arith) (sym (c .before .before .before .on-card .ensures) ∙ c .before .before .if1 .taken))
 
 returns : tie.Need-returns
 unfolding cell-field

@@ -8,38 +8,39 @@ use borrow.Author.Needs.{needs}
 use Rattle.base.specs.Lists.{tabulate-from, tabulate}
 use Rattle.base.proofs.ListLaws.{tabulate-none, tabulate-store, tabulate-whole}
 use Rattle.bits.specs.Bits.{bits-in}
-use Rattle.instance.specs.Limits.{no-arc, free}
-use Rattle.card.specs.Card.{cell-refusal, cells-refusal}
-use Rattle.card.specs.Offsets.{offset, cell-field}
-use Rattle.card.proofs.OffsetLaws.{offset-start}
-use Rattle.card.proofs.CellLaws.{fields-by-index, judged-none, judged-faulty, judged-next}
+use Rattle.instance.specs.Limits.{no-arc, free, cells}
+use Rattle.card_format.specs.Widths.{weight-width, mark-width}
+use Rattle.card_format.specs.Card.{cell-refusal, cells-refusal}
+use Rattle.card_format.specs.Offsets.{offset, weight-field, mark-field}
+use Rattle.card_format.proofs.OffsetLaws.{offset-start}
+use Rattle.card_format.proofs.CellLaws.{fields-by-index, judged-none, judged-faulty, judged-next}
 use Rattle.card.proofs.cells.read_cells.Statement.{statement}
 use Rattle.card.proofs.cells.read_cells.Tie as tie
 
 -- the weight and the mark at each index
 abbrev weight-of : (card : List ℕ) → (n root : ℕ) → ℕ → ℕ
-weight-of card n r = cell-field 0 20 no-arc n r (bits-in card)
+weight-of card n r = weight-field n r (bits-in card)
 
 abbrev mark-of : (card : List ℕ) → (n root : ℕ) → ℕ → ℕ
-mark-of card n r = cell-field 20 2 free n r (bits-in card)
+mark-of card n r = mark-field n r (bits-in card)
 
 -- the first i cells are stored and pass, so the first fault of all is that of the cells from i on
 record Reading (card : List ℕ) (n root : ℕ) (weights marks : List ℕ) (end i : ℕ) : Type 0 where
-  i-in : i ≤ 1024
+  i-in : i ≤ cells
   here : end ≡ offset n root i
-  weights-long : length weights ≡ 1024
-  marks-long : length marks ≡ 1024
+  weights-long : length weights ≡ cells
+  marks-long : length marks ≡ cells
   weights-so-far : take i weights ≡ tabulate i (weight-of card n root)
   marks-so-far : take i marks ≡ tabulate i (mark-of card n root)
   judged-so-far :
-      cells-refusal (tabulate 1024 (weight-of card n root)) (tabulate 1024 (mark-of card n root))
-      ≡ cells-refusal (tabulate-from (1024 - i) i (weight-of card n root)) (tabulate-from (1024 - i) i (mark-of card n root))
+      cells-refusal (tabulate cells (weight-of card n root)) (tabulate cells (mark-of card n root))
+      ≡ cells-refusal (tabulate-from (cells - i) i (weight-of card n root)) (tabulate-from (cells - i) i (mark-of card n root))
 
 abbrev Inv-loop : tie.InvT-loop
 Inv-loop card n root weights₀ marks₀ end₀ i₀ weights marks end i = Reading card n root weights marks end i
 
 abbrev μ-loop : tie.MeasureT-loop
-μ-loop card n root weights₀ marks₀ end₀ i₀ weights marks end i = 1024 - i
+μ-loop card n root weights₀ marks₀ end₀ i₀ weights marks end i = cells - i
 
 loop-holds : tie.Need-loop-holds Inv-loop μ-loop
 unfolding tabulate
@@ -47,10 +48,10 @@ loop-holds c =
     record {
       i-in = omega arith;
       here = sym (offset-start (c .before .args .n) (c .before .args .root));
-      weights-long = length-replicate {A = ℕ} 1024 1048575;
-      marks-long = length-replicate {A = ℕ} 1024 0;
-      weights-so-far = tabulate-none (replicate 1024 1048575) _;
-      marks-so-far = tabulate-none (replicate 1024 0) _;
+      weights-long = length-replicate {A = ℕ} cells no-arc;
+      marks-long = length-replicate {A = ℕ} cells free;
+      weights-so-far = tabulate-none (replicate cells no-arc) _;
+      marks-so-far = tabulate-none (replicate cells free) _;
       judged-so-far = refl;
     }
 
@@ -69,9 +70,9 @@ returns c =
     let g = mark-of (a .card .now) (a .n) (a .root) in
     let k = c .before .before .read-cell .ensures in
     let e : c .before .judge-cell .result ≡ cell-refusal (f (l .i)) (g (l .i)) = c .before .judge-cell .ensures ∙ rw (k .its-weight, k .its-mark) in
-    let z = judged-faulty (1024 - l .i) (l .i) f g (omega arith) (λ q. c .if1 .taken (e ∙ q)) in
+    let z = judged-faulty (cells - l .i) (l .i) f g (omega arith) (λ q. c .if1 .taken (e ∙ q)) in
     record {
-      judged = e ∙ sym (rw (fields-by-index 0 20 no-arc (a .n) (a .root) bs, fields-by-index 20 2 free (a .n) (a .root) bs) (l .inv .judged-so-far ∙ z));
+      judged = e ∙ sym (rw (fields-by-index 0 weight-width no-arc (a .n) (a .root) bs, fields-by-index weight-width mark-width free (a .n) (a .root) bs) (l .inv .judged-so-far ∙ z));
       all-weights = λ q. absurd (c .if1 .taken q);
       all-marks = λ q. absurd (c .if1 .taken q);
       last-end = λ q. absurd (c .if1 .taken q);
@@ -100,7 +101,7 @@ loop-again c =
     let g = mark-of (a .card .now) (a .n) (a .root) in
     let k = c .before .before .read-cell .ensures in
     let e : c .before .judge-cell .result ≡ cell-refusal (f (l .i)) (g (l .i)) = c .before .judge-cell .ensures ∙ rw (k .its-weight, k .its-mark) in
-    let s : 1024 - l .i - 1 ≡ 1024 - (l .i + 1) = omega arith in
+    let s : cells - l .i - 1 ≡ cells - (l .i + 1) = omega arith in
     record {
       i-in = omega arith;
       here = k .its-end;
@@ -108,7 +109,7 @@ loop-again c =
       marks-long = simp length-set (l .inv .marks-long);
       weights-so-far = tabulate-store (l .weights) (l .i) f _ (omega arith) (l .inv .weights-so-far) (k .its-weight);
       marks-so-far = tabulate-store (l .marks) (l .i) g _ (omega arith) (l .inv .marks-so-far) (k .its-mark);
-      judged-so-far = l .inv .judged-so-far ∙ rw s at (judged-next (1024 - l .i) (l .i) f g (omega arith) (sym e ∙ c .if1 .left));
+      judged-so-far = l .inv .judged-so-far ∙ rw s at (judged-next (cells - l .i) (l .i) f g (omega arith) (sym e ∙ c .if1 .left));
     }
 
 returns-2 : tie.Need-returns-2 Inv-loop μ-loop
@@ -118,13 +119,13 @@ returns-2 c =
     let bs = bits-in (a .card .now) in
     let f = weight-of (a .card .now) (a .n) (a .root) in
     let g = mark-of (a .card .now) (a .n) (a .root) in
-    let z : l .i ≡ 1024 = omega arith in
-    let y : 1024 - l .i ≡ 0 = omega arith in
-    let none : cells-refusal (tabulate 1024 f) (tabulate 1024 g) ≡ 0 = l .inv .judged-so-far ∙ rw y (judged-none (l .i) f g) in
+    let z : l .i ≡ cells = omega arith in
+    let y : cells - l .i ≡ 0 = omega arith in
+    let none : cells-refusal (tabulate cells f) (tabulate cells g) ≡ 0 = l .inv .judged-so-far ∙ rw y (judged-none (l .i) f g) in
     record {
-      judged = sym (rw (fields-by-index 0 20 no-arc (a .n) (a .root) bs, fields-by-index 20 2 free (a .n) (a .root) bs) none);
-      all-weights = λ q. tabulate-whole (l .weights) 1024 (l .i) f (l .inv .weights-long) z (l .inv .weights-so-far) ∙ sym (fields-by-index 0 20 no-arc (a .n) (a .root) bs);
-      all-marks = λ q. tabulate-whole (l .marks) 1024 (l .i) g (l .inv .marks-long) z (l .inv .marks-so-far) ∙ sym (fields-by-index 20 2 free (a .n) (a .root) bs);
+      judged = sym (rw (fields-by-index 0 weight-width no-arc (a .n) (a .root) bs, fields-by-index weight-width mark-width free (a .n) (a .root) bs) none);
+      all-weights = λ q. tabulate-whole (l .weights) cells (l .i) f (l .inv .weights-long) z (l .inv .weights-so-far) ∙ sym (fields-by-index 0 weight-width no-arc (a .n) (a .root) bs);
+      all-marks = λ q. tabulate-whole (l .marks) cells (l .i) g (l .inv .marks-long) z (l .inv .marks-so-far) ∙ sym (fields-by-index weight-width mark-width free (a .n) (a .root) bs);
       last-end = λ q. rw z at (l .inv .here);
     }
 

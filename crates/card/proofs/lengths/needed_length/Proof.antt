@@ -10,7 +10,8 @@ use borrow.Author.Tests.{eqb-true}
 use borrow.Author.Needs.{needs}
 use Rattle.base.specs.Bounded.{all-below}
 use Rattle.base.proofs.BoundedLaws.{all-at}
-use Rattle.card.specs.Card.{bits-needed, bytes-needed}
+use Rattle.instance.specs.Limits.{max-vertices}
+use Rattle.card_format.specs.Card.{bits-needed, bytes-needed}
 use Rattle.card.proofs.lengths.needed_length.Statement.{statement}
 use Rattle.card.proofs.lengths.needed_length.Tie as tie
 
@@ -23,7 +24,7 @@ right : ℕ → Bool
 right k = eqb (getD lengths k 0) (bytes-needed (k + 1))
 
 -- the rule, computed at every entry
-all-right : all-below 32 right ≡ true
+all-right : all-below max-vertices right ≡ true
 unfolding lengths right all-below bytes-needed bits-needed
 all-right = refl
 
@@ -44,7 +45,7 @@ unfolding lengths right
 returns c =
     let k = c .args .n - 1 in
     let e : k + 1 ≡ c .args .n = omega arith in
-    rw e at (eqb-true (getD lengths k 0) (bytes-needed (k + 1)) (all-at 32 right k (omega arith) all-right))
+    rw e at (eqb-true (getD lengths k 0) (bytes-needed (k + 1)) (all-at max-vertices right k (omega arith) all-right))
 
 pub needed-length-spec : {M : Type 1} → statement M
 needed-length-spec =

@@ -1,6 +1,6 @@
 -- `no_contents` meets its contract. Assumes nothing.
 use mathlib.Core.Path.{refl}
-use Rattle.card.specs.Reading.{no-contents}
+use Rattle.card.specs.Read.{no-contents}
 use Rattle.card.proofs.read.no_contents.Statement.{statement}
 use Rattle.card.proofs.read.no_contents.Tie as tie
 

@@ -1,8 +1,8 @@
--- `read_card` meets its contract: each return is one of the steps of `ReadingLaws`. Assumes nothing.
+-- `read_card` meets its contract: each return is one of the steps of `ReadLaws`. Assumes nothing.
 use mathlib.Core.Path.{_∙_}
 use native.Mathlib.Omega.{arith}
 use borrow.Author.Needs.{needs}
-use Rattle.card.proofs.ReadingLaws.{cells-end, header-refused, cells-refused, filling-refused, all-read}
+use Rattle.card.proofs.ReadLaws.{none-read, its-end, cells-refused, filling-refused, all-read}
 use Rattle.card.proofs.read.read_card.Statement.{statement}
 use Rattle.card.proofs.read.read_card.Tie as tie
 
@@ -15,11 +15,11 @@ no-contents-requires c κs = search needs
 returns : tie.Need-returns
 returns c =
     let h = c .before .before .read-header in
-    c .no-contents .ensures ∙ header-refused _ (h .result) (h .ensures) (c .before .if1 .taken)
+    c .no-contents .ensures ∙ none-read _ (h .result) (h .ensures) (c .before .if1 .taken)
 
 read-cells-requires : tie.Need-read-cells-requires
 read-cells-requires c κs =
-    let e = cells-end _ (c .before .read-header .result) (c .before .read-header .ensures) (c .if1 .left) in
+    let e = its-end _ (c .before .read-header .result) (c .before .read-header .ensures) (c .if1 .left) in
     (e .room, e .small)
 
 no-contents-requires-2 : tie.Need-no-contents-requires-2
@@ -35,17 +35,17 @@ returns-2 c =
 mul-read-bits : tie.Need-mul-read-bits
 mul-read-bits c =
     let h = c .before .before .before .read-header in
-    omega (arith, cells-end _ (h .result) (h .ensures) (c .before .before .if1 .left))
+    omega (arith, its-end _ (h .result) (h .ensures) (c .before .before .if1 .left))
 
 sub-read-bits : tie.Need-sub-read-bits
 sub-read-bits c =
     let h = c .before .before .before .read-header in
-    omega (arith, cells-end _ (h .result) (h .ensures) (c .before .before .if1 .left), c .before .read-cells .ensures .last-end (c .if2 .left))
+    omega (arith, its-end _ (h .result) (h .ensures) (c .before .before .if1 .left), c .before .read-cells .ensures .last-end (c .if2 .left))
 
 read-bits-requires : tie.Need-read-bits-requires
 read-bits-requires c κs =
     let h = c .before .before .before .read-header in
-    omega (arith, cells-end _ (h .result) (h .ensures) (c .before .before .if1 .left), c .before .read-cells .ensures .last-end (c .if2 .left))
+    omega (arith, its-end _ (h .result) (h .ensures) (c .before .before .if1 .left), c .before .read-cells .ensures .last-end (c .if2 .left))
 
 no-contents-requires-3 : tie.Need-no-contents-requires-3
 no-contents-requires-3 c κs = search needs

@@ -7,10 +7,10 @@ use lib.ListN.{getD}
 use Rattle.bits.specs.Writer.{Put}
 use Rattle.bits.specs.declared.BitWriter.{BitWriter}
 use Rattle.bits.proofs.WriterLaws.{put-none, put-then, ready-part}
+use Rattle.instance.specs.Limits.{cells}
 use Rattle.instance.specs.Instance.{Instance, instance-with}
-use Rattle.card.proofs.WritingLaws.{cell-bits-none, next-cell}
-use Rattle.card.specs.Card.{cell-bits}
-use Rattle.card.specs.Writing.{one-cell}
+use Rattle.card_format.specs.Card.{one-cell, cell-bits}
+use Rattle.card_format.proofs.WrittenBits.{cell-bits-none, next-cell}
 use Rattle.card.proofs.write.put_cells.Statement.{statement}
 use Rattle.card.proofs.write.put_cells.Tie as tie
 
@@ -18,14 +18,14 @@ use Rattle.card.proofs.write.put_cells.Tie as tie
 record Putting (s : Instance) (before : List ℕ) (start : BitWriter) (out : List ℕ) (w : BitWriter) (i : ℕ) : Type 0 where
   done : List ℕ
   put : Put before start done out w
-  left : done ++ cell-bits (1024 - i) i s ≡ cell-bits 1024 0 s
-  i-in : i ≤ 1024
+  left : done ++ cell-bits (cells - i) i s ≡ cell-bits cells 0 s
+  i-in : i ≤ cells
 
 abbrev Inv-loop : tie.InvT-loop
-Inv-loop out₀ n root weights marks w₀ i₀ out w i = Putting (instance-with n root 0 weights marks) out₀ w₀ out w i
+Inv-loop weights marks n root out₀ w₀ i₀ out w i = Putting (instance-with n root 0 weights marks) out₀ w₀ out w i
 
 abbrev μ-loop : tie.MeasureT-loop
-μ-loop out₀ n root weights marks w₀ i₀ out w i = 1024 - i
+μ-loop weights marks n root out₀ w₀ i₀ out w i = cells - i
 
 loop-holds : tie.Need-loop-holds Inv-loop μ-loop
 loop-holds c = record { done = []; put = put-none _ _ (c .before .pre .1 .few); left = refl; i-in = omega arith }
@@ -44,9 +44,9 @@ put-cell-requires c κs =
     let l = c .before .before .before .before .loop in
     let s = c .before .before .before .before .before .before in
     let a = s .args in
-    let h : l .i < 1024 = omega arith in
+    let h : l .i < cells = omega arith in
     let one = one-cell (a .n) (a .root) (l .i) (getD (a .weights .now) (l .i) 0) (getD (a .marks .now) (l .i) 0) in
-    let more = cell-bits (1024 - (l .i + 1)) (l .i + 1) (instance-with (a .n) (a .root) 0 (a .weights .now) (a .marks .now)) in
+    let more = cell-bits (cells - (l .i + 1)) (l .i + 1) (instance-with (a .n) (a .root) 0 (a .weights .now) (a .marks .now)) in
     let e = next-cell (a .n) (a .root) 0 (a .weights .now) (a .marks .now) (l .i) h (s .pre .0 .0) (s .pre .0 .1) in
     (h, ready-part _ _ _ _ (l .inv .done) one more _ (l .inv .put) (rw e at (l .inv .left)) (s .pre .1))
 
@@ -61,7 +61,7 @@ loop-again c =
     let l = c .before .before .before .before .before .before .before .loop in
     let s = c .before .before .before .before .before .before .before .before .before in
     let a = s .args in
-    let h : l .i < 1024 = omega arith in
+    let h : l .i < cells = omega arith in
     let one = one-cell (a .n) (a .root) (l .i) (getD (a .weights .now) (l .i) 0) (getD (a .marks .now) (l .i) 0) in
     let e = next-cell (a .n) (a .root) 0 (a .weights .now) (a .marks .now) (l .i) h (s .pre .0 .0) (s .pre .0 .1) in
     record {
@@ -77,7 +77,7 @@ same-length c = c .before .loop .inv .put .long
 returns : tie.Need-returns Inv-loop μ-loop
 returns c =
     let l = c .before .loop in
-    let z : 1024 - l .i ≡ 0 = omega arith in
+    let z : cells - l .i ≡ 0 = omega arith in
     let e : l .inv .done ≡ _ = rw (z, cell-bits-none, append-nil) at (l .inv .left) in
     rw (← e) (l .inv .put)
 

@@ -5,6 +5,7 @@ use borrow.Author.Needs.{needs}
 use Rattle.bits.specs.Writer.{Ready}
 use Rattle.bits.proofs.NumberLaws.{length-bits-of}
 use Rattle.bits.proofs.WriterLaws.{fresh, put-then, ready-next}
+use Rattle.card_format.specs.Widths.{n-width, root-width, budget-width}
 use Rattle.card.proofs.write.put_header.Statement.{statement}
 use Rattle.card.proofs.write.put_header.Tie as tie
 
@@ -14,16 +15,16 @@ put-bits-requires c κs = search needs
 put-bits-requires-2 : tie.Need-put-bits-requires-2
 put-bits-requires-2 c κs =
     let s = c .before .before .before .before .before .before in
-    let r0 : Ready (s .args .out .now) fresh (6 + 5) = record { few = omega arith; room = omega (arith, s .pre) } in
-    (ready-next _ _ _ _ _ 6 5 (c .before .before .before .put-bits .ensures) (length-bits-of 6 (s .args .n)) r0, omega arith)
+    let r0 : Ready (s .args .out .now) fresh (n-width + root-width) = record { few = omega arith; room = omega (arith, s .pre) } in
+    (ready-next _ _ _ _ _ n-width root-width (c .before .before .before .put-bits .ensures) (length-bits-of n-width (s .args .n)) r0, omega arith)
 
 put-bits-requires-3 : tie.Need-put-bits-requires-3
 put-bits-requires-3 c κs =
     let s = c .before .before .before .before .before .before .before .before .before .before in
-    let r0 : Ready (s .args .out .now) fresh (6 + 30) = record { few = omega arith; room = omega (arith, s .pre) } in
-    let r1 : Ready _ _ (5 + 25) =
-    ready-next _ _ _ _ _ 6 30 (c .before .before .before .before .before .before .before .put-bits .ensures) (length-bits-of 6 (s .args .n)) r0 in
-    (ready-next _ _ _ _ _ 5 25 (c .before .before .before .put-bits2 .ensures) (length-bits-of 5 (s .args .root)) r1, omega arith)
+    let r0 : Ready (s .args .out .now) fresh (n-width + (root-width + budget-width)) = record { few = omega arith; room = omega (arith, s .pre) } in
+    let r1 : Ready _ _ (root-width + budget-width) =
+    ready-next _ _ _ _ _ n-width (root-width + budget-width) (c .before .before .before .before .before .before .before .put-bits .ensures) (length-bits-of n-width (s .args .n)) r0 in
+    (ready-next _ _ _ _ _ root-width budget-width (c .before .before .before .put-bits2 .ensures) (length-bits-of root-width (s .args .root)) r1, omega arith)
 
 same-length : tie.Need-same-length
 same-length c = search needs

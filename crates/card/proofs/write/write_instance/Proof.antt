@@ -1,13 +1,13 @@
--- `write_instance` meets its contract: each step has the room that `WritingLaws` counts, and at the end whole bytes are put. Assumes
--- nothing.
+-- `write_instance` meets its contract: each step has the room that `WriteLaws` counts, and at the end whole bytes are
+-- put. Assumes nothing.
 use Prim.Native.Nat.{_≤_}
 use lib.Dec.{ltb}
 use lib.ListN.{length}
 use borrow.Author.Tests.{lt-ltb}
 use borrow.Author.Needs.{needs}
 use Rattle.base.proofs.AllOfLaws.{all-of-intro}
-use Rattle.card.specs.Card.{bytes-needed}
-use Rattle.card.proofs.WritingLaws.{too-short, header-room, cells-room, filling-room, all-written}
+use Rattle.card_format.specs.Card.{bytes-needed}
+use Rattle.card.proofs.WriteLaws.{too-short, header-room, cells-room, filling-room, all-written}
 use Rattle.card.proofs.write.write_instance.Statement.{statement}
 use Rattle.card.proofs.write.write_instance.Tie as tie
 

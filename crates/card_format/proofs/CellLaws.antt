@@ -1,9 +1,10 @@
--- The cells of a card by their index: the fields that are read one after the other, and the first faulty cell. Assumes nothing.
+-- The cells of a card by their index: the fields that are read one after the other, and the first faulty cell.
+-- Assumes nothing.
 use mathlib.Core.Path.{_≡_, refl, ap, _∙_, sym}
 use mathlib.Core.Bool.{Bool, true, false, _&&_, cond, true≢false}
 use mathlib.Core.List.{List, [], _∷_}
 use mathlib.Core.Logic.{⊎-elim}
-use Prim.Native.Nat.{ℕ, zero, suc, _+_, _-_, _≤_, _<_}
+use Prim.Native.Nat.{ℕ, zero, suc, _+_, _-_, _^_, _≤_, _<_}
 use native.Mathlib.Omega.{arith}
 use native.Mathlib.Numerals.{add-one}
 use native.Mathlib.Nat.{add-zero, eq-or-lt-of-le}
@@ -17,13 +18,15 @@ use Rattle.base.proofs.ListLaws.{length-tabulate, getD-tabulate}
 use Rattle.bits.specs.Bits.{field}
 use Rattle.bits.proofs.FieldLaws.{field-drop}
 use Rattle.instance.specs.Limits.{no-arc, free, cells, max-weight, banned}
+use Rattle.instance.specs.Refusals.{bad-weight, bad-mark}
 use Rattle.instance.specs.Valid.{cell-ok}
-use Rattle.card.specs.Card.{on-card, cell-fields, cell-refusal, cells-refusal}
-use Rattle.card.specs.Offsets.{offset, cell-field}
+use Rattle.card_format.specs.Widths.{header-width, mark-width, cell-width}
+use Rattle.card_format.specs.Card.{on-card, cell-fields, unused-mark, cell-refusal, cells-refusal}
+use Rattle.card_format.specs.Offsets.{offset, cell-field}
 
 -- FIELDS
-next-rest : (b : Bool) (p : ℕ) (bs : List ℕ) → cond b (drop 22 (drop p bs)) (drop p bs) ≡ drop (p + cond b 22 0) bs
-next-rest true p bs = drop-drop 22 p bs
+next-rest : (b : Bool) (p : ℕ) (bs : List ℕ) → cond b (drop cell-width (drop p bs)) (drop p bs) ≡ drop (p + cond b cell-width 0) bs
+next-rest true p bs = drop-drop cell-width p bs
 next-rest false p bs = ap (λ (k : ℕ). drop k bs) (sym (add-zero p))
 
 fields-from : (a w o n r : ℕ) (bs : List ℕ) (k i : ℕ) →
@@ -35,15 +38,15 @@ fields-from a w o n r bs (suc k) i =
     (ap (λ (l : List ℕ). cond (on-card n r i) (field (offset n r i + a) w bs) o ∷ l) (fields-from a w o n r bs k (suc i)))
 
 -- the fields that are read running through the cells are those at their offsets
-pub fields-by-index : (a w o n r : ℕ) (bs : List ℕ) → cell-fields a w o cells 0 n r (drop 36 bs) ≡ tabulate cells (cell-field a w o n r bs)
+pub fields-by-index : (a w o n r : ℕ) (bs : List ℕ) → cell-fields a w o cells 0 n r (drop header-width bs) ≡ tabulate cells (cell-field a w o n r bs)
 unfolding offset tabulate
 fields-by-index a w o n r bs = fields-from a w o n r bs cells 0
 
-pub length-fields : (a w o n r : ℕ) (bs : List ℕ) → length (cell-fields a w o cells 0 n r (drop 36 bs)) ≡ cells
+pub length-fields : (a w o n r : ℕ) (bs : List ℕ) → length (cell-fields a w o cells 0 n r (drop header-width bs)) ≡ cells
 length-fields a w o n r bs = ap length (fields-by-index a w o n r bs) ∙ length-tabulate cells (cell-field a w o n r bs)
 
 pub field-at : (a w o n r : ℕ) (bs : List ℕ) (i d : ℕ) → i < cells →
-    getD (cell-fields a w o cells 0 n r (drop 36 bs)) i d ≡ cell-field a w o n r bs i
+    getD (cell-fields a w o cells 0 n r (drop header-width bs)) i d ≡ cell-field a w o n r bs i
 field-at a w o n r bs i d h =
     ap (λ (l : List ℕ). getD l i d) (fields-by-index a w o n r bs) ∙ getD-tabulate cells (cell-field a w o n r bs) i d h
 
@@ -93,40 +96,40 @@ pub ok-passes : (w m : ℕ) → cell-ok w m ≡ true → cell-refusal w m ≡ 0
 unfolding cell-ok cell-refusal
 ok-passes w m = go (leb w max-weight) (eqb w no-arc) (eqb m free)
   where
-    go : (a c z : Bool) → cond a (leb m banned) (c && z) ≡ true → _≡_ {A = ℕ} (cond a (cond (eqb m 3) 7 0) (cond c (cond z 0 7) 6)) 0
-    go true c z e = let l = leb-true m 2 e in rw (ne-eqb m 3 (λ q. omega arith))
+    go : (a c z : Bool) → cond a (leb m banned) (c && z) ≡ true → _≡_ {A = ℕ} (cond a (cond (eqb m unused-mark) bad-mark 0) (cond c (cond z 0 bad-mark) bad-weight)) 0
+    go true c z e = let l = leb-true m banned e in rw (ne-eqb m unused-mark (λ q. omega arith))
     go false true true e = refl
     go false true false e = absurd (true≢false (sym e))
     go false false z e = absurd (true≢false (sym e))
 
-pub passes-ok : (w m : ℕ) → m < 4 → cell-refusal w m ≡ 0 → cell-ok w m ≡ true
+pub passes-ok : (w m : ℕ) → m < 2 ^ mark-width → cell-refusal w m ≡ 0 → cell-ok w m ≡ true
 unfolding cell-ok cell-refusal
 passes-ok w m h = go (leb w max-weight) (eqb w no-arc) (eqb m free)
   where
-    go : (a c z : Bool) → _≡_ {A = ℕ} (cond a (cond (eqb m 3) 7 0) (cond c (cond z 0 7) 6)) 0 → cond a (leb m banned) (c && z) ≡ true
-    go true c z e = let q = eqb-false m 3 (passed (eqb m 3) 6 0 e .0) in le-leb m 2 (omega arith)
+    go : (a c z : Bool) → _≡_ {A = ℕ} (cond a (cond (eqb m unused-mark) bad-mark 0) (cond c (cond z 0 bad-mark) bad-weight)) 0 → cond a (leb m banned) (c && z) ≡ true
+    go true c z e = let q = eqb-false m unused-mark (passed (eqb m unused-mark) 6 0 e .0) in le-leb m banned (omega arith)
     go false true true e = refl
     go false true false e = absurd (omega arith)
     go false false z e = absurd (omega arith)
 
 -- no answer but 0, 6 and 7
-pub cell-refusal-most : (w m : ℕ) → cell-refusal w m ≤ 7
+pub cell-refusal-most : (w m : ℕ) → cell-refusal w m ≤ bad-mark
 unfolding cell-refusal
-cell-refusal-most w m = go (leb w max-weight) (eqb m 3) (eqb w no-arc) (eqb m free)
+cell-refusal-most w m = go (leb w max-weight) (eqb m unused-mark) (eqb w no-arc) (eqb m free)
   where
-    go : (a b c z : Bool) → cond a (cond b 7 0) (cond c (cond z 0 7) 6) ≤ 7
+    go : (a b c z : Bool) → cond a (cond b bad-mark 0) (cond c (cond z 0 bad-mark) bad-weight) ≤ bad-mark
     go true true c z = omega arith
     go true false c z = omega arith
     go false b true true = omega arith
     go false b true false = omega arith
     go false b false z = omega arith
 
-pub cells-refusal-most : (ws ms : List ℕ) → cells-refusal ws ms ≤ 7
+pub cells-refusal-most : (ws ms : List ℕ) → cells-refusal ws ms ≤ bad-mark
 unfolding cells-refusal
 cells-refusal-most [] ms = omega arith
 cells-refusal-most (w ∷ ws) [] = omega arith
 cells-refusal-most (w ∷ ws) (m ∷ ms) = go (eqb (cell-refusal w m) 0) (cells-refusal-most ws ms)
   where
-    go : (b : Bool) → cells-refusal ws ms ≤ 7 → cond b (cells-refusal ws ms) (cell-refusal w m) ≤ 7
+    go : (b : Bool) → cells-refusal ws ms ≤ bad-mark → cond b (cells-refusal ws ms) (cell-refusal w m) ≤ bad-mark
     go true h = h
     go false h = cell-refusal-most w m

@@ -7,10 +7,10 @@ use Rattle.base.specs.Lists.{all-of}
 use Rattle.bits.specs.Bits.{bits-of, bits-in, number-from, field, packed}
 use Rattle.instance.specs.Limits.{no-arc, free, cells}
 use Rattle.instance.specs.Instance.{Instance, cell, can-be-arc}
-use Rattle.card.specs.Card.{on-card, bits-needed, bytes-needed, cell-fields, instance-in, cell-refusal, cells-refusal, card-refusal, cell-bits, instance-bits, card-of}
+use Rattle.card_format.specs.Card.{on-card, bits-needed, bytes-needed, min-card, max-card, cell-fields, instance-in, cell-refusal, cells-refusal, header-refusal, card-refusal, cell-bits, instance-bits, card-of}
 
 -- "n = 1 takes 5 bytes, n = 2 takes 8, n = 4 takes 30, n = 32 takes 2,648"
-pub lengths : map bytes-needed (1 ∷ 2 ∷ 4 ∷ 32 ∷ []) ≡ (5 ∷ 8 ∷ 30 ∷ 2648 ∷ [])
+pub lengths : map bytes-needed (1 ∷ 2 ∷ 4 ∷ 32 ∷ []) ≡ (min-card ∷ 8 ∷ 30 ∷ max-card ∷ [])
 unfolding bytes-needed bits-needed
 lengths = refl
 
@@ -31,5 +31,5 @@ unfolding p9 instance-in cell-fields on-card can-be-arc bits-in bits-of field nu
 p9-read = refl
 
 pub p9-opens : card-refusal p9-card ≡ 0
-unfolding card-refusal cells-refusal cell-refusal instance-in cell-fields on-card can-be-arc bits-in bits-of field number-from bits-needed bytes-needed all-of
+unfolding card-refusal header-refusal cells-refusal cell-refusal instance-in cell-fields on-card can-be-arc bits-in bits-of field number-from bits-needed bytes-needed all-of
 p9-opens = refl
