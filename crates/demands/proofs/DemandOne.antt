@@ -16,7 +16,7 @@ use Rattle.instance.specs.Refusals.{card-short, bad-count, bad-length, bad-root
 use Rattle.instance.specs.Instance.{Instance, is-arc}
 use Rattle.card_format.specs.Card.{card-refusal, bytes-needed, card-of}
 use Rattle.card_format.proofs.OpensLaws.{card-refusal-most}
-use Rattle.card.specs.Writing.{written, buffer-after}
+use Rattle.card.specs.Write.{written-to, buffer-after}
 use Rattle.card.specs.declared.write.Written.{Written}
 use Rattle.commands.specs.Model.{Replaced, Model}
 use Rattle.commands.specs.Valid.{valid}
@@ -190,7 +190,7 @@ module _ (b : Board) (r : Written) (out out′ : List ℕ) where
   left g t = cond g (cond t out (in-front (card-of (instance-of b)) out)) out
 
   writes-by : Writes b r out out′ → (g t : Bool) × (valid (model-of b) ≡ g) × (r ≡ written-by b g t) × (out′ ≡ left g t)
-  unfolding written-by written buffer-after
+  unfolding written-by written-to buffer-after
   writes-by w = go (valid (model-of b)) refl (ltb (length out) (bytes-needed (b .n))) (w .result) (w .buffer)
     where
       go : (g : Bool) → valid (model-of b) ≡ g → (t : Bool)

@@ -10,7 +10,7 @@ use Rattle.instance.specs.Instance.{Instance}
 use Rattle.instance.specs.States.{states}
 use Rattle.theory.specs.Readings.{States-read}
 use Rattle.theory.proofs.StateLaws.{states-read}
-use Rattle.card.specs.Card.{card-refusal, instance-in}
+use Rattle.card_format.specs.Card.{card-refusal, instance-in}
 use Rattle.card.specs.declared.write.Written.{Written}
 use Rattle.board.specs.Model.{Command}
 use Rattle.board.specs.Log.{Log, new-log, note, log-answers, log-after, effective}

@@ -14,12 +14,12 @@ use Rattle.instance.specs.Refusals.{buffer-short, invalid-board}
 use Rattle.instance.specs.Instance.{Instance}
 use Rattle.instance.specs.Same.{Same-instance}
 use Rattle.instance.specs.Valid.{valid-instance}
-use Rattle.card.specs.Card.{card-refusal, instance-in, bytes-needed, card-of}
-use Rattle.card.specs.Writing.{written, buffer-after}
+use Rattle.card_format.specs.Card.{card-refusal, instance-in, bytes-needed, card-of}
+use Rattle.card.specs.Write.{written-to, buffer-after}
 use Rattle.card.specs.declared.write.Written.{Written}
-use Rattle.card.proofs.OpensLaws.{opens}
-use Rattle.card.proofs.CardAgain.{card-round-trip}
-use Rattle.card.proofs.InstanceAgain.{written-opens, instance-round-trip}
+use Rattle.card_format.proofs.OpensLaws.{opens}
+use Rattle.card_format.proofs.CardAgain.{card-round-trip}
+use Rattle.card_format.proofs.InstanceAgain.{written-opens, instance-round-trip}
 use Rattle.board.specs.Model.{valid}
 use Rattle.board.specs.ModelOf.{model-of, instance-of}
 use Rattle.board.specs.declared.Board.{Board}
@@ -35,12 +35,12 @@ card-length ws z = opens ws z .sized
 
 -- FROM A CARD AND BACK
 pub record Same-card (ws : List ℕ) (r : Written) (out out′ : List ℕ) : Type 0 where
-  pub result : r ≡ record { number = 0; length = length ws }
+  pub result : r ≡ record { answer = 0; length = length ws }
   pub buffer : out′ ≡ ws ++ drop (length ws) out
 
 written-card : (ws : List ℕ) (s : Instance) (r : Written) (out out′ : List ℕ) → s ≡ instance-in ws → are-bytes ws ≡ true → card-refusal ws ≡ 0
     → length ws ≤ length out → r ≡ written s out → out′ ≡ buffer-after s out → Same-card ws r out out′
-unfolding written buffer-after
+unfolding written-to buffer-after
 written-card ws s r out out′ e y z h p q =
     let l = card-length ws z in
     let long : ltb (length out) (bytes-needed (instance-in ws .n)) ≡ false = le-ltb (length out) (bytes-needed (instance-in ws .n)) (omega arith) in
@@ -71,19 +71,19 @@ reopened b ws o v c e =
       same = subst (λ (x : Instance). Same-instance x s) (sym (opened-instance ws o e z ∙ ap instance-in c)) (instance-round-trip s v);
     }
 
-pub board-back : {b : Board} {r : Written} {out out′ : List ℕ} {o : Answered} → Wrote b r out out′ → r .number ≡ 0 → Opened-by (take (r .length) out′) o → Same-fields b o
-unfolding written buffer-after
+pub board-back : {b : Board} {r : Written} {out out′ : List ℕ} {o : Answered} → Wrote b r out out′ → r .answer ≡ 0 → Opened-by (take (r .length) out′) o → Same-fields b o
+unfolding written-to buffer-after
 board-back {b} {r} {out} {out′} {o} w z p = go (valid (model-of b)) refl (ltb (length out) (bytes-needed (b .n))) (wrote w .result) (wrote w .buffer)
   where
     s : Instance
     s = instance-of b
 
     go : (g : Bool) → valid (model-of b) ≡ g → (t : Bool)
-        → r ≡ cond {A = Written} g (cond t (record { number = buffer-short; length = 0 }) (record { number = 0; length = bytes-needed (b .n) })) (record { number = invalid-board; length = 0 })
+        → r ≡ cond {A = Written} g (cond t (record { answer = buffer-short; length = 0 }) (record { answer = 0; length = bytes-needed (b .n) })) (record { answer = invalid-board; length = 0 })
         → out′ ≡ cond g (cond t out (card-of s ++ drop (bytes-needed (b .n)) out)) out → Same-fields b o
-    go true v true e q = absurd (omega (arith, sym z ∙ ap (λ (x : Written). x .number) e))
+    go true v true e q = absurd (omega (arith, sym z ∙ ap (λ (x : Written). x .answer) e))
     go true v false e q =
         let f = valid-fields (model-of b) v in
         let c : take (r .length) out′ ≡ card-of s = rw (q, e) (take-at (card-of s) (drop (bytes-needed (b .n)) out) (bytes-needed (b .n)) (written-length s f)) in
         reopened b (take (r .length) out′) o f c (opened-by p)
-    go false v t e q = absurd (omega (arith, sym z ∙ ap (λ (x : Written). x .number) e))
+    go false v t e q = absurd (omega (arith, sym z ∙ ap (λ (x : Written). x .answer) e))

@@ -5,8 +5,8 @@ use mathlib.Core.List.{List}
 use Prim.Native.Nat.{ℕ}
 use lib.Dec.{eqb}
 use borrow.Author.Tests.{eq-eqb, ne-eqb, eqb-true}
-use Rattle.card.specs.Card.{card-refusal, instance-in}
-use Rattle.card.specs.Reading.{contents-of, accepted, no-contents}
+use Rattle.card_format.specs.Card.{card-refusal, instance-in}
+use Rattle.card.specs.Read.{contents-of, contents-with, no-contents}
 use Rattle.card.specs.declared.read.Contents.{Contents}
 use Rattle.board.specs.Model.{opened, valid}
 use Rattle.board.specs.Log.{new-log}
@@ -14,8 +14,8 @@ use Rattle.board.specs.ModelOf.{model-of, instance-of, history-of, board-with, 
 use Rattle.board.specs.declared.Board.{Board}
 use Rattle.board.proofs.LogLaws.{Tied}
 use Rattle.board.proofs.RunLaws.{new-board-follows}
-use Rattle.card.proofs.CardAgain.{opened-valid}
-use Rattle.card.proofs.OpensLaws.{marks-long}
+use Rattle.card_format.proofs.OpensLaws.{opened-valid}
+use Rattle.card_format.proofs.OpensLaws.{marks-long}
 use Rattle.board.specs.declared.Answered.{Answered}
 use Rattle.planner.specs.Opening.{answered-with, opened-from, fresh}
 
@@ -56,25 +56,25 @@ opened-instance ws o e z =
 
 -- WHAT A CARD SAYS
 -- contents with the refusal they come with
-refusal-said : (ws : List ℕ) → contents-of ws .refusal ≡ card-refusal ws
+refusal-said : (ws : List ℕ) → contents-of ws .answer ≡ card-refusal ws
 unfolding contents-of no-contents
 refusal-said ws = go (eqb (card-refusal ws) 0) refl
   where
-    go : (b : Bool) → eqb (card-refusal ws) 0 ≡ b → cond b (accepted (instance-in ws)) (no-contents (card-refusal ws)) .refusal ≡ card-refusal ws
+    go : (b : Bool) → eqb (card-refusal ws) 0 ≡ b → cond b (contents-with (instance-in ws)) (no-contents (card-refusal ws)) .answer ≡ card-refusal ws
     go true e = sym (eqb-true (card-refusal ws) 0 e)
     go false e = refl
 
 module _ (ws : List ℕ) (c : Contents) (e : c ≡ contents-of ws) where
-  said : c .refusal ≡ card-refusal ws
-  said = ap (λ (x : Contents). x .refusal) e ∙ refusal-said ws
+  said : c .answer ≡ card-refusal ws
+  said = ap (λ (x : Contents). x .answer) e ∙ refusal-said ws
 
-  pub open-refused : (c .refusal ≡ 0 → ⊥) → answered-with (c .refusal) blank ≡ opened-from ws
+  pub open-refused : (c .answer ≡ 0 → ⊥) → answered-with (c .answer) blank ≡ opened-from ws
   unfolding opened-from
-  open-refused n = rw (← said, ne-eqb (c .refusal) 0 n)
+  open-refused n = rw (← said, ne-eqb (c .answer) 0 n)
 
-  pub open-accepted : c .refusal ≡ 0 → answered-with 0 (board-with (c .n) (c .root) (c .budget) (c .weights) (c .marks)) ≡ opened-from ws
+  pub open-accepted : c .answer ≡ 0 → answered-with 0 (board-with (c .n) (c .root) (c .budget) (c .weights) (c .marks)) ≡ opened-from ws
   unfolding opened-from contents-of
   open-accepted z =
       let q : eqb (card-refusal ws) 0 ≡ true = eq-eqb (card-refusal ws) 0 (sym said ∙ z) in
-      let a : c ≡ accepted (instance-in ws) = e ∙ rw q in
+      let a : c ≡ contents-with (instance-in ws) = e ∙ rw q in
       rw (a, q)

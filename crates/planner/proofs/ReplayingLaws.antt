@@ -13,13 +13,14 @@ use borrow.Author.Tests.{le-ltb, ltb-false}
 use Rattle.base.specs.Lists.{in-front}
 use Rattle.base.proofs.Tests.{or-false-left, or-false-right, or-right, or-both-false}
 use Rattle.base.proofs.FrontLaws.{front-is}
+use Rattle.base.proofs.PartLaws.{drop-later}
 use Rattle.instance.specs.Limits.{max-vertices, cut-words}
 use Rattle.instance.specs.Refusals.{buffer-short}
 use Rattle.instance.specs.Instance.{Instance}
 use Rattle.instance.specs.States.{states}
 use Rattle.instance.specs.Cuts.{words-of}
 use Rattle.theory.proofs.StateLaws.{states-read}
-use Rattle.card.specs.Card.{card-refusal, instance-in}
+use Rattle.card_format.specs.Card.{card-refusal, instance-in}
 use Rattle.board.specs.Model.{valid}
 use Rattle.board.specs.Log.{Log, new-log, effective}
 use Rattle.board.specs.ModelOf.{model-of, instance-of}
@@ -65,15 +66,6 @@ split : (ks fs gs : List ℕ) (i : ℕ) → i < length ks → length ks ≤ leng
     from ks fs gs i ≡ call (getD ks i 0) (getD fs i 0) (getD gs i 0) ∷ from ks fs gs (suc i)
 unfolding calls
 split ks fs gs i h p q = rw (drop-cons ks i 0 h, drop-cons fs i 0 (omega arith), drop-cons gs i 0 (omega arith))
-
-drop-more : (l : List ℕ) (j : ℕ) → drop (suc j) l ≡ drop 1 (drop j l)
-drop-more [] zero = refl
-drop-more [] (suc j) = refl
-drop-more (x ∷ l) zero = refl
-drop-more (x ∷ l) (suc j) = drop-more l j
-
-drop-later : (l m : List ℕ) (j : ℕ) → drop j l ≡ drop j m → drop (suc j) l ≡ drop (suc j) m
-drop-later l m j q = drop-more l j ∙ ap (drop 1) q ∙ sym (drop-more m j)
 
 fit : (ks fs gs xs : List ℕ) → length ks ≤ length fs → length ks ≤ length gs → length ks ≤ length xs → unfit (length ks) (length fs) (length gs) (length xs) ≡ false
 unfolding unfit
@@ -202,7 +194,7 @@ module _ (ws ks fs gs xs₀ : List ℕ) (old : Buffers) where
             ∙ ap (λ (a : ℕ). take i xs ++ (a ∷ call-answers (from ks fs gs (suc i)) k)) (s .answer)
             ∙ ap (λ (cs : List Call). take i xs ++ call-answers cs (g .log)) (sym sp)
             ∙ g .answered;
-        rest = drop-set-lt (suc i) xs i (d .answer) (omega arith) ∙ drop-later xs xs₀ i (g .rest);
+        rest = drop-set-lt (suc i) xs i (d .answer) (omega arith) ∙ drop-later i (suc i) xs xs₀ (omega arith) (g .rest);
         after = ap (λ (cs : List Call). calls-after cs (g .log)) (sym sp) ∙ g .after;
       })
 

@@ -7,9 +7,9 @@ use native.Mathlib.Omega.{arith}
 use lib.ListN.{length}
 use borrow.Author.Tests.{le-ltb}
 use Rattle.instance.specs.Refusals.{invalid-board}
-use Rattle.card.specs.Card.{bytes-needed, max-card}
-use Rattle.card.proofs.ReadingLaws.{longest-card}
-use Rattle.card.specs.Writing.{written}
+use Rattle.card_format.specs.Card.{bytes-needed, max-card}
+use Rattle.card_format.proofs.LengthLaws.{longest-card}
+use Rattle.card.specs.Write.{written-to}
 use Rattle.card.specs.declared.write.Written.{Written}
 use Rattle.board.specs.Model.{valid}
 use Rattle.board.specs.ModelOf.{model-of, instance-of}
@@ -17,11 +17,11 @@ use Rattle.board.specs.declared.Board.{Board}
 use Rattle.board.proofs.ValidLaws.{valid-parts}
 use Rattle.planner.specs.Writing.{Writes}
 
-pub write-answer : (b : Board) (r : Written) (out out′ : List ℕ) → max-card ≤ length out → Writes b r out out′ → r .number ≡ cond (valid (model-of b)) 0 invalid-board
-unfolding written
-write-answer b r out out′ h w = ap (λ (x : Written). x .number) (w .result) ∙ go (valid (model-of b)) refl
+pub write-answer : (b : Board) (r : Written) (out out′ : List ℕ) → max-card ≤ length out → Writes b r out out′ → r .answer ≡ cond (valid (model-of b)) 0 invalid-board
+unfolding written-to
+write-answer b r out out′ h w = ap (λ (x : Written). x .answer) (w .result) ∙ go (valid (model-of b)) refl
   where
-    go : (t : Bool) → valid (model-of b) ≡ t → cond t (written (instance-of b) out) (record { number = invalid-board; length = 0 }) .number ≡ cond t 0 invalid-board
+    go : (t : Bool) → valid (model-of b) ≡ t → cond t (written-to (instance-of b) out) (record { answer = invalid-board; length = 0 }) .answer ≡ cond t 0 invalid-board
     go true e =
         let n = longest-card (b .n) (valid-parts (model-of b) e .n-high) in
         rw (le-ltb (length out) (bytes-needed (b .n)) (omega arith))

@@ -4,7 +4,7 @@ use mathlib.Core.List.{List}
 use Prim.Native.Nat.{ℕ}
 use lib.Dec.{eqb}
 use Rattle.instance.specs.Instance.{Instance}
-use Rattle.card.specs.Card.{card-refusal, instance-in}
+use Rattle.card_format.specs.Card.{card-refusal, instance-in}
 use Rattle.board.specs.ModelOf.{board-with, blank}
 use Rattle.board.specs.declared.Board.{Board}
 use Rattle.board.specs.declared.Answered.{Answered}

@@ -8,7 +8,7 @@ use lib.Dec.{ltb}
 use lib.ListN.{length}
 use Rattle.base.specs.Lists.{in-front}
 use Rattle.instance.specs.Refusals.{buffer-short, invalid-board}
-use Rattle.card.specs.Card.{card-refusal, instance-in}
+use Rattle.card_format.specs.Card.{card-refusal, instance-in}
 use Rattle.board.specs.Model.{Command, pin, ban, clear, set-budget, undo, valid, answered}
 use Rattle.board.specs.Log.{Log, new-log, Noted, unnoted, note, effective}
 use Rattle.board.specs.ModelOf.{model-of, Answers}

@@ -4,7 +4,7 @@ use mathlib.Core.Bool.{cond}
 use mathlib.Core.List.{List}
 use Prim.Native.Nat.{ℕ}
 use Rattle.instance.specs.Refusals.{invalid-board}
-use Rattle.card.specs.Writing.{written, buffer-after}
+use Rattle.card.specs.Write.{written-to, buffer-after}
 use Rattle.card.specs.declared.write.Written.{Written}
 use Rattle.board.specs.Model.{valid}
 use Rattle.board.specs.ModelOf.{model-of, instance-of}
@@ -13,5 +13,5 @@ use Rattle.board.specs.declared.Board.{Board}
 -- "15 comes first .. 14 for looks and writes"; "returns the needed length, and touches only the needed bytes": `written` and `buffer-after`
 -- are the card's own equations
 pub record Writes (b : Board) (r : Written) (out out′ : List ℕ) : Type 0 where
-  pub result : r ≡ cond (valid (model-of b)) (written (instance-of b) out) (record { number = invalid-board; length = 0 })
+  pub result : r ≡ cond (valid (model-of b)) (written-to (instance-of b) out) (record { answer = invalid-board; length = 0 })
   pub buffer : out′ ≡ cond (valid (model-of b)) (buffer-after (instance-of b) out) out

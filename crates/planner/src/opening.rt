@@ -7,7 +7,7 @@ pub fn open_card(bytes: &[u8]) -> Answered
     ensures { λ r. ⌜ r ≡ opened-from (now (bytes .entry)) ⌝ }
 {
     let c = card::read::read_card(bytes);
-    let answer = c.refusal;
+    let answer = c.answer;
     if answer != 0 {
         let blank = board::create::blank_board();
         return Answered {

@@ -58,7 +58,7 @@ fn write_away(b: Board) -> u32
 {
     let mut out = [0u8; MAX_CARD];
     let written = write_card(b, &mut out);
-    written.number
+    written.answer
 }
 
 // One call of the list.

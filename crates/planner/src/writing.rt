@@ -9,9 +9,9 @@ pub fn write_card(b: Board, out: &mut [u8]) -> Written
 {
     if !board::valid::is_valid(b) {
         return Written {
-            number: INVALID_BOARD,
+            answer: INVALID_BOARD,
             length: 0,
         };
     }
-    card::write::write_instance(b.n, b.root, b.budget, &b.weights, &b.marks, out)
+    card::write::write_instance(&b.weights, &b.marks, b.n, b.root, b.budget, out)
 }

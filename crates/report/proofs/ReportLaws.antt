@@ -19,8 +19,8 @@ use Rattle.instance.specs.States.{shows-tree, total-in, outcome, states}
 use Rattle.instance.specs.Valid.{valid-instance}
 use Rattle.instance.proofs.ValidLaws.{valid-small}
 use Rattle.theory.proofs.StateLaws.{states-read}
-use Rattle.card.specs.Card.{card-refusal}
-use Rattle.card.proofs.OpensLaws.{card-refusal-most}
+use Rattle.card_format.specs.Card.{card-refusal}
+use Rattle.card_format.proofs.OpensLaws.{card-refusal-most}
 use Rattle.board.specs.Model.{valid}
 use Rattle.board.specs.ModelOf.{model-of, instance-of}
 use Rattle.board.specs.declared.Board.{Board}

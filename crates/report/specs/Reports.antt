@@ -9,7 +9,7 @@ use lib.ListN.{length}
 use Rattle.instance.specs.Refusals.{buffer-short}
 use Rattle.instance.specs.Instance.{Instance}
 use Rattle.instance.specs.States.{outcome}
-use Rattle.card.specs.Card.{card-refusal, instance-in}
+use Rattle.card_format.specs.Card.{card-refusal, instance-in}
 use Rattle.survey.specs.Survey.{Parents-shown}
 use Rattle.report.specs.declared.Reported.{Reported}
 use Rattle.text.specs.Buffer.{Filled}

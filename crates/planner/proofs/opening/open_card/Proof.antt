@@ -15,7 +15,7 @@ blank-board-requires c κs = search needs
 returns : tie.Need-returns
 returns c =
     let k = c .before .before in
-    ap (answered-with (k .read-card .result .refusal)) (c .blank-board .ensures) ∙ open-refused _ (k .read-card .result) (k .read-card .ensures) (c .before .if1 .taken)
+    ap (answered-with (k .read-card .result .answer)) (c .blank-board .ensures) ∙ open-refused _ (k .read-card .result) (k .read-card .ensures) (c .before .if1 .taken)
 
 new-board-requires : tie.Need-new-board-requires
 new-board-requires c κs = search needs

@@ -4,7 +4,7 @@ use Prim.Native.Nat.{_-_}
 use native.Mathlib.Omega.{arith}
 use lib.ListN.{length}
 use borrow.Author.Needs.{needs}
-use Rattle.card.specs.Card.{card-refusal}
+use Rattle.card_format.specs.Card.{card-refusal}
 use Rattle.planner.specs.Looking.{buffers}
 use Rattle.board.specs.ModelOf.{model-of}
 use Rattle.board.proofs.ValidLaws.{valid-parts}

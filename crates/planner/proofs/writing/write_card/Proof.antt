@@ -31,7 +31,7 @@ returns-2 c =
     let w = c .before .before .write-instance .ensures in
     let k = c .before .before .before .before .before .before .before in
     let e : valid (model-of (k .before .before .before .args .t1)) ≡ true = sym (k .before .is-valid .ensures) ∙ not-false (k .before .is-valid .result) (k .if1 .left) in
-    record { result = rw e (w .answer); buffer = rw e (w .buffer) }
+    record { result = rw e (w .result); buffer = rw e (w .buffer) }
 
 pub write-card-spec : {M : Type 1} → statement M
 write-card-spec = tie.close (tie.spec is-valid-requires returns write-instance-requires same-length returns-2)
