@@ -5,12 +5,12 @@ use borrow.Author.Tests.{not-true, not-false}
 use borrow.Author.Needs.{needs}
 use Rattle.base.specs.Bounded.{all-below}
 use Rattle.instance.specs.Valid.{header-valid, cell-valid}
-use Rattle.board.specs.Model.{with-budget}
+use Rattle.commands.specs.Model.{with-budget}
 use Rattle.board.specs.ModelOf.{instance-of, model-of}
 use Rattle.board.specs.declared.Board.{Board}
-use Rattle.board.proofs.RecordLaws.{cells-valid-of}
-use Rattle.board.proofs.ValidLaws.{header-n-high, bad-header, bad-cell, bad-count, only-records}
-use Rattle.board.proofs.BoardLaws.{length-history}
+use Rattle.commands.proofs.ValidLaws.{cells-valid-of}
+use Rattle.commands.proofs.ValidLaws.{header-n-high, bad-header, bad-cell, bad-count, only-records}
+use Rattle.board.proofs.ModelOfLaws.{length-history}
 use Rattle.board.proofs.valid.is_valid.Statement.{statement}
 use Rattle.board.proofs.valid.is_valid.Tie as tie
 

@@ -5,10 +5,10 @@ use Prim.Native.Nat.{_≤_}
 use native.Mathlib.Omega.{arith}
 use borrow.Author.Tests.{not-true, not-false}
 use Rattle.base.specs.Lists.{all-of}
-use Rattle.board.specs.Model.{record-ok}
+use Rattle.commands.specs.Valid.{record-ok}
 use Rattle.board.specs.ModelOf.{instance-of, history-of}
-use Rattle.board.proofs.RecordLaws.{record-ok-of}
-use Rattle.board.proofs.BoardLaws.{history-all, history-fail, history-pass, known}
+use Rattle.commands.proofs.ValidLaws.{record-ok-of}
+use Rattle.board.proofs.ModelOfLaws.{history-all, history-fail, history-pass, known}
 use Rattle.board.proofs.valid.records_valid.Statement.{statement}
 use Rattle.board.proofs.valid.records_valid.Tie as tie
 
