@@ -12,7 +12,8 @@ use Rattle.commands.specs.Valid.{valid}
 use Rattle.commands.specs.Commands.{Command, undo, Result, refused, accepted, applied, answered}
 use Rattle.commands.specs.Changes.{is-undo, Changes-only-named}
 use Rattle.commands.proofs.ChangeLaws.{answered-changes}
-use Rattle.commands.proofs.AnsweredLaws.{answered-applied, answered-valid, answered-undo-restores}
+use Rattle.commands.proofs.CommandLaws.{command-recorded}
+use Rattle.commands.proofs.AnsweredLaws.{answered-applied, answered-valid, accepted-valid, answered-undo-restores, answered-undo-shorter}
 use Rattle.board.specs.declared.Board.{Board}
 use Rattle.board.specs.declared.Answered.{Answered}
 use Rattle.board.specs.declared.Replaced as declared-replaced
@@ -112,3 +113,23 @@ module _ (c : Command) (b : Board) (r : Answered) (a : Answers (answered c (mode
       is-undo c ≡ false → r .answer ≡ 0 → (q : Answered) → Answers (answered undo (model-of (r .board))) (r .board) q →
       result-of q ≡ record { answer = 0; board = model-of b }
   call-undo-restores n e q u = u .result ∙ rw call-board (answered-undo-restores c (model-of b) n (sym call-answer ∙ e))
+
+  -- AN ACCEPTED PRESS SETS THE RECORD PLACE AT THE COUNT to what the history gained, and no other place
+  pub call-records :
+      is-undo c ≡ false → r .answer ≡ 0 →
+      (o : Replaced) × (model-of (r .board) .history ≡ o ∷ model-of b .history) × (r .board .records ≡ set (b .records) (b .count) (record-of o))
+  call-records n e =
+      let z = sym call-answer ∙ e in
+      let q = answered-applied c (model-of b) (accepted-valid c (model-of b) z) in
+      let g = command-recorded c (model-of b) n (ap (λ (d : Result). d .answer) (sym q) ∙ z) in
+      let h : answered c (model-of b) .board .history ≡ g .0 ∷ model-of b .history = ap (λ (d : Result). d .board .history) q ∙ g .1 in
+      (
+        g .0,
+        ap (λ (m : Model). m .history) call-board ∙ h,
+        a .records ∙ ap (records-after b) h ∙ records-added b (g .0),
+      )
+
+-- A TAKE-BACK SETS NONE
+pub undo-records : (b : Board) (r : Answered) → Answers (answered undo (model-of b)) b r → r .board .records ≡ b .records
+undo-records b r a =
+    a .records ∙ records-left b (answered undo (model-of b) .board .history) (omega (arith, answered-undo-shorter (model-of b), length-history (b .count) (b .records)))

@@ -29,7 +29,7 @@ use Rattle.commands.specs.Model.{Replaced, old-mark, old-budget, Model, 
 use Rattle.commands.specs.Valid.{record-ok, valid}
 use Rattle.commands.specs.Commands.{Command, set-mark, set-budget, undo, refused, accepted, marked, budgeted, undone, applied, answered}
 use Rattle.commands.specs.Changes.{is-undo}
-use Rattle.commands.proofs.CommandLaws.{mark-cases, budget-cases, undo-restores}
+use Rattle.commands.proofs.CommandLaws.{mark-cases, budget-cases, undo-restores, undo-shorter}
 use Rattle.commands.proofs.ValidLaws.{Valid, valid-parts, parts-valid, records-ok-of, cells-valid-of}
 
 -- a mark that a command sets is in range
@@ -183,3 +183,11 @@ answered-undo-restores c b n e =
     let v = accepted-valid c b e in
     let a = answered-applied c b v in
     rw a (answered-applied undo (applied c b .board) (applied-valid c b v) ∙ undo-restores c b n (rw a at e))
+
+pub answered-undo-shorter : (b : Model) → length (answered undo b .board .history) ≤ length (b .history)
+unfolding answered refused
+answered-undo-shorter b = go (valid b)
+  where
+    go : (v : Bool) → length (cond v (applied undo b) (refused invalid-board b) .board .history) ≤ length (b .history)
+    go true = undo-shorter b
+    go false = omega arith

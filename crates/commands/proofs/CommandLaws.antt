@@ -1,7 +1,8 @@
--- What every command does to any board of the model: it is refused, or it is accepted; and undo right after an accepted one restores
--- the whole board. Assumes nothing.
-use mathlib.Core.Path.{_≡_, refl, _∙_}
+-- What every command does to any board of the model: it is refused, or it is accepted; undo right after an accepted one restores the
+-- whole board; and which commands add a record. Assumes nothing.
+use mathlib.Core.Path.{_≡_, refl, ap, _∙_}
 use mathlib.Core.Bool.{Bool, true, false, _&&_, not, cond, true≢false}
+use mathlib.Core.List.{List, [], _∷_}
 use Prim.Native.Nat.{ℕ, zero, suc, _<_, _≤_}
 use native.Mathlib.Omega.{arith}
 use lib.Dec.{ltb, leb}
@@ -14,7 +15,7 @@ use Rattle.instance.specs.Marks.{mark-number}
 use Rattle.instance.specs.Instance.{Instance, cell, mark-at, weight, mark, is-arc}
 use Rattle.instance.specs.Matrix.{unmarked}
 use Rattle.instance.specs.declared.Mark.{Mark}
-use Rattle.commands.specs.Model.{old-mark, old-budget, Model, with-mark, with-budget, restored}
+use Rattle.commands.specs.Model.{Replaced, old-mark, old-budget, Model, with-mark, with-budget, restored}
 use Rattle.commands.specs.Commands.{Command, set-mark, set-budget, undo, Result, refused, accepted, decided, arc-refusal, mark-refusal, marked, budget-refusal, budgeted, undone, applied}
 use Rattle.commands.specs.Changes.{is-undo}
 
@@ -121,3 +122,30 @@ unfolding applied is-undo
 undo-restores (set-mark m t h) b n = mark-cases (Undone-by-undo b) b (refused-undone b) m t h (λ _ _. mark-undone b (mark-number m) t h)
 undo-restores (set-budget v) b n = budget-cases (Undone-by-undo b) b (refused-undone b) v (λ _ _. budget-undone b v)
 undo-restores undo b n = absurd (true≢false n)
+
+-- RECORDS: an accepted command adds one, and undo adds none
+abbrev pub Recorded : Model → Result → Type 0
+Recorded b d = d .answer ≡ 0 → (o : Replaced) × (d .board .history ≡ o ∷ b .history)
+
+refused-recorded : (b : Model) (k : ℕ) → Recorded b (refused (suc k) b)
+unfolding refused
+refused-recorded b k e = absurd (omega arith)
+
+accepted-recorded : (b : Model) (o : Replaced) (s : Instance) → Recorded b (accepted o s b)
+unfolding accepted
+accepted-recorded b o s e = (o, refl)
+
+pub command-recorded : (c : Command) (b : Model) → is-undo c ≡ false → Recorded b (applied c b)
+unfolding applied is-undo
+command-recorded (set-mark m t h) b n = mark-cases (Recorded b) b (refused-recorded b) m t h (λ _ _. accepted-recorded b _ _)
+command-recorded (set-budget v) b n = budget-cases (Recorded b) b (refused-recorded b) v (λ _ _. accepted-recorded b _ _)
+command-recorded undo b n = absurd (true≢false n)
+
+undone-shorter : (rs : List Replaced) (b : Model) → b .history ≡ rs → length (undone rs b .board .history) ≤ length (b .history)
+unfolding undone refused
+undone-shorter [] b e = omega arith
+undone-shorter (r ∷ rs) b e = omega (arith, ap length e)
+
+pub undo-shorter : (b : Model) → length (applied undo b .board .history) ≤ length (b .history)
+unfolding applied
+undo-shorter b = undone-shorter (b .history) b refl

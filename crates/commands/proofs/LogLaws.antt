@@ -3,7 +3,7 @@
 -- The idea: a board and a log are tied if the board's instance is the effective one and each record of the history, applied to what
 -- is effective with the entries down to its own, leaves what is effective without that entry. One command keeps them tied: a new
 -- entry comes with the record that takes it back, and undo is that very fact about the first of both lists. Assumes nothing.
-use mathlib.Core.Path.{_≡_, refl, sym, ap, _∙_}
+use mathlib.Core.Path.{_≡_, refl, sym, ap}
 use mathlib.Core.Bool.{Bool, true, false, _&&_, not, cond}
 use mathlib.Core.List.{List, [], _∷_}
 use Prim.Native.Nat.{ℕ, suc, _≤_, _<_}

@@ -1,10 +1,10 @@
 -- Boards that are the same are equally valid, answer every command alike and stay the same: what no call looks at decides nothing.
 -- Assumes nothing.
 use mathlib.Core.Path.{_≡_, refl, sym, ap, _∙_, subst}
-use mathlib.Core.Bool.{Bool, true, false, _&&_, not, cond}
+use mathlib.Core.Bool.{Bool, true, false, _&&_, cond}
 use mathlib.Core.List.{List, [], _∷_}
 use Prim.Native.Nat.{ℕ, zero, suc}
-use lib.Dec.{ltb, leb}
+use lib.Dec.{leb}
 use lib.ListN.{length, length-set}
 use Rattle.base.specs.Lists.{all-of}
 use Rattle.base.proofs.AllOfLaws.{all-of-eq}
@@ -12,14 +12,14 @@ use Rattle.base.proofs.StoreLaws.{store-alike}
 use Rattle.instance.specs.Limits.{free, banned, max-records}
 use Rattle.instance.specs.Refusals.{history-empty, invalid-board}
 use Rattle.instance.specs.Marks.{mark-number}
-use Rattle.instance.specs.Instance.{Instance, cell, weight, mark, is-arc}
+use Rattle.instance.specs.Instance.{Instance, cell, weight, mark}
 use Rattle.instance.specs.Valid.{valid-instance}
 use Rattle.instance.specs.Same.{Same-instance}
 use Rattle.instance.specs.declared.Mark.{Mark}
 use Rattle.instance.proofs.SameInstances.{same-is-arc, same-arc-mark, same-valid-instance}
 use Rattle.commands.specs.Model.{Replaced, old-mark, old-budget, Model, with-mark, with-budget, restored}
 use Rattle.commands.specs.Valid.{record-ok, valid}
-use Rattle.commands.specs.Commands.{Command, set-mark, set-budget, undo, Result, refused, accepted, decided, arc-refusal, mark-refusal, marked, budget-refusal, budgeted, undone, applied, answered, answers, board-after}
+use Rattle.commands.specs.Commands.{Command, set-mark, set-budget, undo, Result, refused, accepted, decided, mark-refusal, marked, budget-refusal, budgeted, undone, applied, answered, answers, board-after}
 use Rattle.commands.specs.SameBoard.{Same-board, Same-result}
 use Rattle.commands.proofs.CommandLaws.{unrefused}
 

@@ -1,6 +1,5 @@
 -- Which boards are valid: what 15 does not refuse. Assumes nothing: these are definitions.
 use mathlib.Core.Bool.{Bool, _&&_}
-use Prim.Native.Nat.{ℕ}
 use lib.Dec.{leb}
 use lib.ListN.{length}
 use Rattle.base.specs.Lists.{all-of}

@@ -1,11 +1,11 @@
 -- `execute` answers 15 on an invalid board, and on a valid one what the command gives. Assumes nothing.
-use mathlib.Core.Path.{_≡_, refl, sym, _∙_}
+use mathlib.Core.Path.{_≡_, sym, _∙_}
 use mathlib.Core.Bool.{true}
 use borrow.Author.Tests.{not-true, not-false}
 use borrow.Author.Needs.{needs}
 use Rattle.instance.specs.Refusals.{invalid-board}
 use Rattle.commands.specs.Valid.{valid}
-use Rattle.commands.specs.Commands.{set-mark, set-budget, undo, applied, answered, refused}
+use Rattle.commands.specs.Commands.{set-mark, set-budget, undo, applied, answered}
 use Rattle.board.specs.ModelOf.{model-of}
 use Rattle.commands.proofs.ValidLaws.{valid-parts}
 use Rattle.board.proofs.CallLaws.{answers-refused, answers-valid}

@@ -4,6 +4,7 @@ use mathlib.Core.Bool.{true}
 use borrow.Author.Tests.{not-true, not-false}
 use borrow.Author.Needs.{needs}
 use Rattle.base.specs.Bounded.{all-below}
+use Rattle.instance.specs.Limits.{cells}
 use Rattle.instance.specs.Valid.{header-valid, cell-valid}
 use Rattle.commands.specs.Model.{with-budget}
 use Rattle.board.specs.ModelOf.{instance-of, model-of}
@@ -20,7 +21,7 @@ board c = c .before .before .args .t1
 header-ok : (c : tie.Else1) → header-valid (board c .n) (board c .root) (board c .budget) ≡ true
 header-ok c = sym (c .before .header-valid .ensures) ∙ not-false _ (c .if1 .left)
 
-cells-ok : (c : tie.Else2) → all-below 1024 (cell-valid (instance-of (board (c .before .before .before .before .before)))) ≡ true
+cells-ok : (c : tie.Else2) → all-below cells (cell-valid (instance-of (board (c .before .before .before .before .before)))) ≡ true
 unfolding with-budget
 cells-ok c =
     let b = board (c .before .before .before .before .before) in

@@ -5,6 +5,7 @@ use Prim.Native.Nat.{_≤_}
 use native.Mathlib.Omega.{arith}
 use borrow.Author.Tests.{not-true, not-false}
 use Rattle.base.specs.Lists.{all-of}
+use Rattle.instance.specs.Limits.{max-records}
 use Rattle.commands.specs.Valid.{record-ok}
 use Rattle.board.specs.ModelOf.{instance-of, history-of}
 use Rattle.commands.proofs.ValidLaws.{record-ok-of}
@@ -14,7 +15,7 @@ use Rattle.board.proofs.valid.records_valid.Tie as tie
 
 abbrev Inv-loop : tie.InvT-loop
 Inv-loop b n root k₀ k =
-    (k ≤ 200) × (all-of (record-ok (instance-of b)) (history-of (b .count) (b .records)) ≡ all-of (record-ok (instance-of b)) (history-of k (b .records)))
+    (k ≤ max-records) × (all-of (record-ok (instance-of b)) (history-of (b .count) (b .records)) ≡ all-of (record-ok (instance-of b)) (history-of k (b .records)))
 
 abbrev μ-loop : tie.MeasureT-loop
 μ-loop b n root k₀ k = k
