@@ -1,24 +1,24 @@
--- Every command on a valid board leaves a valid one, and is answered as if validity were not tested. A new mark goes to an arc, whose
--- weight a valid board has in range; what is recorded is the mark or the budget of a valid board; what undo restores was judged with the
--- records. Assumes nothing.
+-- Every command on a valid board leaves a valid one, and its answer is one of its own numbers on any board. A new mark goes to an arc,
+-- whose weight a valid board has in range; what is recorded is the mark or the budget of a valid board; what undo restores was judged
+-- with the records. Assumes nothing.
 use mathlib.Core.Path.{_≡_, refl, sym, ap, _∙_}
-use mathlib.Core.Bool.{Bool, true, false, cond}
+use mathlib.Core.Bool.{Bool, true, false, _&&_, not, cond}
 use mathlib.Core.List.{List, [], _∷_}
 use mathlib.Core.Logic.{⊎-elim}
-use Prim.Native.Nat.{ℕ, suc, _/_, _%_, _≤_, _<_}
+use Prim.Native.Nat.{ℕ, zero, suc, _/_, _%_, _≤_, _<_}
 use native.Mathlib.Omega.{arith}
 use native.Mathlib.Decide.{ℕ-discrete}
-use lib.Dec.{ltb, leb}
+use lib.Dec.{ltb, leb, eqb}
 use lib.ListN.{length}
 use lib.Seq.{getD-set-same, getD-set-other, set-out}
 use borrow.Author.Tests.{le-leb, ltb-true, leb-true, ltb-false}
 use Rattle.base.specs.Bounded.{all-below}
-use Rattle.base.specs.Lists.{all-of}
+use Rattle.base.specs.Lists.{any-of, all-of}
 use Rattle.base.proofs.Tests.{and-left, and-right, test}
 use Rattle.base.proofs.BoundedLaws.{all-at, all-intro}
 use Rattle.base.proofs.AllOfLaws.{all-of-first, all-of-rest, all-of-more}
 use Rattle.instance.specs.Limits.{max-vertices, max-budget, free, banned, max-records, cells}
-use Rattle.instance.specs.Refusals.{invalid-board}
+use Rattle.instance.specs.Refusals.{bad-budget, history-full, invalid-board}
 use Rattle.instance.specs.Marks.{mark-number}
 use Rattle.instance.specs.Instance.{Instance, cell, weight, mark, can-be-arc, is-arc}
 use Rattle.instance.specs.Valid.{cell-ok, cell-valid}
@@ -27,7 +27,7 @@ use Rattle.instance.specs.declared.Mark.the-variants.{Free, Pinned, Banned}
 use Rattle.instance.proofs.ValidLaws.{arc-in-range}
 use Rattle.commands.specs.Model.{Replaced, old-mark, old-budget, Model, with-mark, with-budget, restored}
 use Rattle.commands.specs.Valid.{record-ok, valid}
-use Rattle.commands.specs.Commands.{Command, set-mark, set-budget, undo, refused, accepted, marked, budgeted, undone, applied, answered}
+use Rattle.commands.specs.Commands.{Command, set-mark, set-budget, undo, refused, accepted, decided, arc-refusal, mark-refusal, marked, budget-refusal, budgeted, undone, applied, answered, command-numbers}
 use Rattle.commands.specs.Changes.{is-undo}
 use Rattle.commands.proofs.CommandLaws.{mark-cases, budget-cases, undo-restores, undo-shorter}
 use Rattle.commands.proofs.ValidLaws.{Valid, valid-parts, parts-valid, records-ok-of, cells-valid-of}
@@ -191,3 +191,53 @@ answered-undo-shorter b = go (valid b)
     go : (v : Bool) → length (cond v (applied undo b) (refused invalid-board b) .board .history) ≤ length (b .history)
     go true = undo-shorter b
     go false = omega arith
+
+-- EVERY ANSWER IS ONE OF THE COMMAND'S OWN NUMBERS
+mark-listed : (x y z : Bool) (m : Mark) (t h : ℕ) → any-of (eqb (arc-refusal x y z)) (command-numbers (set-mark m t h)) ≡ true
+unfolding arc-refusal command-numbers any-of
+mark-listed true y z m t h = refl
+mark-listed false true z m t h = refl
+mark-listed false false true m t h = refl
+mark-listed false false false m t h = refl
+
+budget-listed : (x z : Bool) (v : ℕ) → any-of (eqb (cond x bad-budget (cond z history-full 0))) (command-numbers (set-budget v)) ≡ true
+unfolding command-numbers any-of
+budget-listed true z v = refl
+budget-listed false true v = refl
+budget-listed false false v = refl
+
+undo-listed : (rs : List Replaced) (b : Model) → any-of (eqb (undone rs b .answer)) (command-numbers undo) ≡ true
+unfolding undone refused command-numbers any-of
+undo-listed [] b = refl
+undo-listed (r ∷ rs) b = refl
+
+invalid-listed : (c : Command) → any-of (eqb invalid-board) (command-numbers c) ≡ true
+unfolding command-numbers any-of
+invalid-listed (set-mark m t h) = refl
+invalid-listed (set-budget v) = refl
+invalid-listed undo = refl
+
+decided-answer : (k : ℕ) (o : Replaced) (s : Instance) (b : Model) → decided k (accepted o s b) b .answer ≡ k
+unfolding decided refused accepted
+decided-answer zero o s b = refl
+decided-answer (suc k) o s b = refl
+
+applied-listed : (c : Command) (b : Model) → any-of (eqb (applied c b .answer)) (command-numbers c) ≡ true
+unfolding applied marked mark-refusal budgeted budget-refusal
+applied-listed (set-mark m t h) b =
+    let s = b .instance in
+    rw (decided-answer (mark-refusal s (length (b .history)) t h) (old-mark t h (mark s t h)) (with-mark (mark-number m) t h s) b)
+    (mark-listed (not (ltb t (s .n) && ltb h (s .n))) (not (is-arc s t h)) (leb max-records (length (b .history))) m t h)
+applied-listed (set-budget v) b =
+    let s = b .instance in
+    rw (decided-answer (budget-refusal (length (b .history)) v) (old-budget (s .budget)) (with-budget v s) b)
+    (budget-listed (ltb max-budget v) (leb max-records (length (b .history))) v)
+applied-listed undo b = undo-listed (b .history) b
+
+pub answered-listed : (c : Command) (b : Model) → any-of (eqb (answered c b .answer)) (command-numbers c) ≡ true
+unfolding answered refused
+answered-listed c b = go (valid b)
+  where
+    go : (v : Bool) → any-of (eqb (cond v (applied c b) (refused invalid-board b) .answer)) (command-numbers c) ≡ true
+    go true = applied-listed c b
+    go false = invalid-listed c

@@ -73,6 +73,12 @@ applied undo b = undone (b .history) b
 unfoldable pub answered : Command → Model → Result
 answered c b = cond (valid b) (applied c b) (refused invalid-board b)
 
+-- what a command may answer: "15 comes first; then 9, 10, 12 for marks, 11, 12 for budgets, 13 for a take-back"
+unfoldable pub command-numbers : Command → List ℕ
+command-numbers (set-mark m t h) = 0 ∷ no-vertex ∷ no-such-arc ∷ history-full ∷ invalid-board ∷ []
+command-numbers (set-budget v) = 0 ∷ bad-budget ∷ history-full ∷ invalid-board ∷ []
+command-numbers undo = 0 ∷ history-empty ∷ invalid-board ∷ []
+
 -- a list of commands, each on the board that the one before left; step is applied or answered
 unfoldable pub answers : (step : Command → Model → Result) → List Command → Model → List ℕ
 answers step [] b = []
