@@ -1,4 +1,5 @@
--- What the contract of a public call gives on the program's own board, whatever the board and the arguments are. Assumes nothing.
+-- What the contract of a public call gives on the program's own board, whatever the board and the arguments are.
+-- Assumes nothing.
 use mathlib.Core.Path.{_≡_, refl, sym, ap, _∙_, subst}
 use mathlib.Core.Bool.{true, false}
 use mathlib.Core.List.{List, [], _∷_}
@@ -122,8 +123,7 @@ module _ (c : Command) (b : Board) (r : Answered) (a : Answers (answered c (mode
       let z = sym call-answer ∙ e in
       let q = answered-applied c (model-of b) (accepted-valid c (model-of b) z) in
       let g = command-recorded c (model-of b) n (ap (λ (d : Result). d .answer) (sym q) ∙ z) in
-      let h : answered c (model-of b) .board .history ≡ g .0 ∷ model-of b .history = ap (λ (d : Result). d .board .history) q ∙ g .1 in
-      (
+      let h : answered c (model-of b) .board .history ≡ g .0 ∷ model-of b .history = ap (λ (d : Result). d .board .history) q ∙ g .1 in (
         g .0,
         ap (λ (m : Model). m .history) call-board ∙ h,
         a .records ∙ ap (records-after b) h ∙ records-added b (g .0),

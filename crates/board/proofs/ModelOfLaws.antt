@@ -1,4 +1,5 @@
--- The program's board against its model: what holding a board by value tells, and the history that its records are. Assumes nothing.
+-- The program's board against its model: what holding a board by value tells, and the history that its records are.
+-- Assumes nothing.
 use mathlib.Core.Path.{_≡_, refl, ap, _∙_}
 use mathlib.Core.Bool.{Bool, true, false, _&&_}
 use mathlib.Core.List.{List, [], _∷_}

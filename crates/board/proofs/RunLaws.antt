@@ -1,6 +1,6 @@
--- ONE CALL on the program's own boards, for a claim about every list of calls (document 01, demand 3): its answer is the log's, and its
--- board holds the effective instance. `Learnt` is what a caller learns of a call from the function's own contract, so that the claim is
--- about these functions and no others. Assumes nothing.
+-- ONE CALL on the program's own boards, for a claim about every list of calls (document 01, demand 3): its answer is
+-- the log's, and its board holds the effective instance. `Learnt` is what a caller learns of a call from the function's
+-- own contract, so that the claim is about these functions and no others. Assumes nothing.
 use mathlib.Core.Path.{_≡_, sym, ap, _∙_, subst}
 use mathlib.Core.Bool.{true}
 use Prim.Native.Nat.{ℕ}

@@ -1,4 +1,5 @@
--- What a call on the program's board answers and leaves: what the contracts say. Assumes nothing: these are definitions.
+-- What a call on the program's board answers and leaves: what the contracts say. Assumes nothing: these are
+-- definitions.
 use mathlib.Core.Path.{_≡_}
 use mathlib.Core.Bool.{cond}
 use mathlib.Core.List.{List, [], _∷_}
@@ -17,14 +18,14 @@ abbrev pub record-of : Replaced → UndoRecord
 record-of (old-mark t h m) = record { replaced = OldMark t h m }
 record-of (old-budget v) = record { replaced = OldBudget v }
 
--- The record places that are left beside a history: "Each accepted press is recorded", which sets the place at the count; a take-back
--- and a refused call set none, so every place past the count is left as it was.
+-- The record places that are left beside a history: "Each accepted press is recorded", which sets the place at the
+-- count; a take-back and a refused call set none, so every place past the count is left as it was.
 unfoldable pub records-after : Board → (history : List Replaced) → List UndoRecord
 records-after b [] = b .records
 records-after b (o ∷ os) = cond (eqb (length os) (b .count)) (set (b .records) (b .count) (record-of o)) (b .records)
 
--- What a call on the board b gives: answer and board as the model's result d, "board as before" after a refusal, and which record places
--- are set. So the whole board is fixed.
+-- What a call on the board b gives: answer and board as the model's result d, "board as before" after a refusal, and
+-- which record places are set. So the whole board is fixed.
 pub record Answers (d : Result) (b : Board) (r : Answered) : Type 0 where
   pub result : result-of r ≡ d
   pub records : r .board .records ≡ records-after b (d .board .history)

@@ -1,5 +1,5 @@
-// Pin, ban, clear, set budget and undo. `execute` judges the board first and then hands over to the command, which judges its own
-// arguments; the five public calls are `execute` at a fixed command.
+// Pin, ban, clear, set budget and undo. `execute` judges the board first and then hands over to the command, which
+// judges its own arguments; the five public calls are `execute` at a fixed command.
 ghost use mathlib.Core.Path.{_≡_};
 ghost use mathlib.Core.Bool.{true};
 ghost use Prim.Native.Nat.{_≤_, _<_};
@@ -32,8 +32,16 @@ use instance::refusals::INVALID_BOARD;
 use instance::refusals::NO_SUCH_ARC;
 use instance::refusals::NO_VERTEX;
 
-// The number that refuses a mark on a valid board, or 0. `is_arc` is false where a vertex is not below n, so it can be asked first.
-fn mark_refusal(weights: &[u32; CELLS], n: u32, root: u32, count: usize, tail: u32, head: u32) -> u32
+// The number that refuses a mark on a valid board, or 0. `is_arc` is false where a vertex is not below n, so it can be
+// asked first.
+fn mark_refusal(
+    weights: &[u32; CELLS],
+    n: u32,
+    root: u32,
+    count: usize,
+    tail: u32,
+    head: u32,
+) -> u32
     requires { ⌜ (n ≤ max-vertices) × (length (now weights) ≡ cells) ⌝ }
     ensures { λ r. ⌜ r ≡ mark-refusal (unmarked n root (now (weights .entry))) count tail head ⌝ }
 {

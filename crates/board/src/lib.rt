@@ -1,6 +1,7 @@
-// The board: an instance with the history of what was replaced on it, handed in and back by value. Commands set a mark or the
-// budget and record what they replaced, undo restores it; a board that is invalid is refused before anything else is judged.
-// Everything is held against the model of the crate `commands`, by the definitions of specs/ModelOf.antt and specs/Calls.antt.
+// The board: an instance with the history of what was replaced on it, handed in and back by value. Commands set a mark
+// or the budget and record what they replaced, undo restores it; a board that is invalid is refused before anything
+// else is judged. Everything is held against the model of the crate `commands`, by the definitions of
+// specs/ModelOf.antt and specs/Calls.antt.
 pub mod valid; // valid.rt: whether a board is valid
 pub mod calls; // calls.rt: the commands and undo
 pub mod create; // create.rt: a new board, and the blank one
@@ -10,8 +11,8 @@ use instance::Vertex;
 use instance::limits::CELLS;
 use instance::limits::MAX_RECORDS;
 
-// What a command replaced: tail, head and mark of an arc, or the budget. Small, since a board holds 200 of them: tail and head are
-// below 32 where it is written. What a record means has one name in the specs, `replaced-of`.
+// What a command replaced: tail, head and mark of an arc, or the budget. Small, since a board holds 200 of them: tail
+// and head are below 32 where it is written. What a record means has one name in the specs, `replaced-of`.
 pub enum Replaced {
     OldMark(u8, u8, u8),
     OldBudget(u32),
@@ -21,8 +22,8 @@ pub struct UndoRecord {
     pub replaced: Replaced,
 }
 
-// Weights and marks have a stride of 32. The first `count` records are the history, the latest last; the places after them are
-// never looked at, and neither is a cell where no arc can be.
+// Weights and marks have a stride of 32. The first `count` records are the history, the latest last; the places after
+// them are never looked at, and neither is a cell where no arc can be.
 pub struct Board {
     pub n: u32,
     pub root: u32,

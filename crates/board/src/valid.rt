@@ -1,5 +1,5 @@
-// Whether a board is valid: every field in its range, no mark where there is no arc, at most 200 records, and each of them naming
-// an arc and restoring a mark or a budget in range (document 01, refusal 15).
+// Whether a board is valid: every field in its range, no mark where there is no arc, at most 200 records, and each of
+// them naming an arc and restoring a mark or a budget in range (document 01, refusal 15).
 ghost use mathlib.Core.Path.{_≡_};
 ghost use Prim.Native.Nat.{_≤_};
 ghost use lib.ListN.{length};

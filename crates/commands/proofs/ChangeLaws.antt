@@ -1,5 +1,5 @@
--- A command alters nothing but what it names. The arcs and records of a valid board have heads below 32, so the cell that is written
--- is the one that is named. Assumes nothing.
+-- A command alters nothing but what it names. The arcs and records of a valid board have heads below 32, so the cell
+-- that is written is the one that is named. Assumes nothing.
 use mathlib.Core.Path.{_≡_, refl}
 use mathlib.Core.Bool.{Bool, true, false, cond, true≢false}
 use mathlib.Core.List.{List, [], _∷_}

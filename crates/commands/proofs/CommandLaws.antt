@@ -1,5 +1,5 @@
--- What every command does to any board of the model: it is refused, or it is accepted; undo right after an accepted one restores the
--- whole board; and which commands add a record. Assumes nothing.
+-- What every command does to any board of the model: it is refused, or it is accepted; undo right after an accepted one
+-- restores the whole board; and which commands add a record. Assumes nothing.
 use mathlib.Core.Path.{_≡_, refl, ap, _∙_}
 use mathlib.Core.Bool.{Bool, true, false, _&&_, not, cond, true≢false}
 use mathlib.Core.List.{List, [], _∷_}

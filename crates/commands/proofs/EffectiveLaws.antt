@@ -1,4 +1,5 @@
--- What is effective by a log, entry by entry; and that the mark of a cell that is no arc is always the card's. Assumes nothing.
+-- What is effective by a log, entry by entry; and that the mark of a cell that is no arc is always the card's. Assumes
+-- nothing.
 use mathlib.Core.Path.{_≡_, refl, sym, ap, _∙_}
 use mathlib.Core.Bool.{Bool, true, false, _&&_, not, cond}
 use mathlib.Core.List.{List, [], _∷_}
@@ -14,13 +15,13 @@ use Rattle.base.proofs.Tests.{and-not, not-both}
 use Rattle.base.proofs.AllOfLaws.{all-of-first, all-of-rest, all-of-more}
 use Rattle.base.proofs.ListLaws.{length-tabulate, getD-tabulate, tabulate-is}
 use Rattle.instance.specs.Limits.{max-vertices, max-budget, free, max-records, cells}
-use Rattle.instance.specs.Refusals.{no-vertex, no-such-arc, bad-budget, history-full}
+use Rattle.instance.specs.Refusals.{bad-budget, history-full}
 use Rattle.instance.specs.Marks.{mark-number}
 use Rattle.instance.specs.Instance.{Instance, cell, mark-at, mark, is-arc}
 use Rattle.instance.specs.declared.Mark.{Mark}
 use Rattle.commands.specs.Model.{with-mark, with-budget}
 use Rattle.commands.specs.Commands.{Command, set-mark, set-budget, undo}
-use Rattle.commands.specs.Log.{Entry, entry-mark, entry-budget, Log, Noted, new-log, with-entries, unnoted, noted, note-mark, note-budget, note-undo, note, log-length, log-after}
+use Rattle.commands.specs.Log.{Entry, entry-mark, entry-budget, Log, Noted, new-log, with-entries, unnoted, noted, note-arcs, note-mark, note-budget, note-undo, note, log-length, log-after}
 use Rattle.commands.specs.Effective.{effective-mark, effective-budget, effective}
 
 -- what is effective with these entries on a card
@@ -96,17 +97,17 @@ module _ (s : Instance) where
   unfolding noted with-entries
   noted-names e k a n = record { card = n .card; entries = all-of-more (names-arc s) e (k .entries) a (n .entries) }
 
-  mark-names : (x y z : Bool) (d : Noted) (k : Log) → Names-arcs s k → (y ≡ false → Names-arcs s (d .log)) →
-      Names-arcs s (cond x (unnoted no-vertex k) (cond y (unnoted no-such-arc k) (cond z (unnoted history-full k) d)) .log)
-  mark-names true y z d k n h = unnoted-names no-vertex k n
-  mark-names false true z d k n h = unnoted-names no-such-arc k n
-  mark-names false false true d k n h = unnoted-names history-full k n
-  mark-names false false false d k n h = h refl
+  arcs-names : (x y z : Bool) (e : Entry) (k : Log) → Names-arcs s k → (y ≡ false → names-arc s e ≡ true) → Names-arcs s (note-arcs x y z e k .log)
+  unfolding note-arcs
+  arcs-names true y z e k n h = unnoted-names _ k n
+  arcs-names false true z e k n h = unnoted-names _ k n
+  arcs-names false false true e k n h = unnoted-names _ k n
+  arcs-names false false false e k n h = noted-names e k (h refl) n
 
   budget-names : (x z : Bool) (d : Noted) (k : Log) → Names-arcs s k → Names-arcs s (d .log) →
       Names-arcs s (cond x (unnoted bad-budget k) (cond z (unnoted history-full k) d) .log)
-  budget-names true z d k n h = unnoted-names bad-budget k n
-  budget-names false true d k n h = unnoted-names history-full k n
+  budget-names true z d k n h = unnoted-names _ k n
+  budget-names false true d k n h = unnoted-names _ k n
   budget-names false false d k n h = h
 
   undo-names : (es : List Entry) (k : Log) → k .entries ≡ es → Names-arcs s k → Names-arcs s (note-undo es k .log)
@@ -117,8 +118,8 @@ module _ (s : Instance) where
   pub note-names-arcs : (c : Command) (k : Log) → Names-arcs s k → Names-arcs s (note c k .log)
   unfolding note note-mark note-budget
   note-names-arcs (set-mark m t h) k n =
-      mark-names (not (ltb t (k .card .n) && ltb h (k .card .n))) (not (is-arc (k .card) t h)) (leb max-records (log-length k)) _ k n
-      (λ y. noted-names (entry-mark m t h) k (rw (n .card) at (not-false (is-arc (k .card) t h) y)) n)
+      arcs-names (not (ltb t (k .card .n) && ltb h (k .card .n))) (not (is-arc (k .card) t h)) (leb max-records (log-length k)) (entry-mark m t h) k n
+      (λ y. rw (n .card) at (not-false (is-arc (k .card) t h) y))
   note-names-arcs (set-budget v) k n =
       budget-names (ltb max-budget v) (leb max-records (log-length k)) _ k n (noted-names (entry-budget v) k refl n)
   note-names-arcs undo k n = undo-names (k .entries) k refl n

@@ -1,4 +1,5 @@
--- Laws of the commands, of valid boards, of the log and of boards that are the same; lists of commands computed. Assumes nothing.
+-- Laws of the commands, of valid boards, of the log and of boards that are the same; lists of commands computed.
+-- Assumes nothing.
 pub mod CommandLaws
 pub mod ValidLaws
 pub mod AnsweredLaws

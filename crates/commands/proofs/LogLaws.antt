@@ -1,8 +1,9 @@
 -- Every list of commands gets the log's answers, and leaves the effective instance.
 --
--- The idea: a board and a log are tied if the board's instance is the effective one and each record of the history, applied to what
--- is effective with the entries down to its own, leaves what is effective without that entry. One command keeps them tied: a new
--- entry comes with the record that takes it back, and undo is that very fact about the first of both lists. Assumes nothing.
+-- The idea: a board and a log are tied if the board's instance is the effective one and each record of the history,
+-- applied to what is effective with the entries down to its own, leaves what is effective without that entry. One
+-- command keeps them tied: a new entry comes with the record that takes it back, and undo is that very fact about the
+-- first of both lists. Assumes nothing.
 use mathlib.Core.Path.{_≡_, refl, sym, ap}
 use mathlib.Core.Bool.{Bool, true, false, _&&_, not, cond}
 use mathlib.Core.List.{List, [], _∷_}
@@ -13,7 +14,7 @@ use lib.ListN.{length}
 use borrow.Author.Tests.{ltb-true, not-false}
 use Rattle.base.proofs.Tests.{and-left, and-right}
 use Rattle.instance.specs.Limits.{max-vertices, max-budget, max-records, cells}
-use Rattle.instance.specs.Refusals.{no-vertex, no-such-arc, bad-budget, history-full}
+use Rattle.instance.specs.Refusals.{bad-budget, history-full}
 use Rattle.instance.specs.Marks.{mark-number}
 use Rattle.instance.specs.Instance.{Instance, weight, mark, is-arc}
 use Rattle.instance.specs.Valid.{valid-instance}
@@ -21,7 +22,7 @@ use Rattle.instance.specs.declared.Mark.{Mark}
 use Rattle.commands.specs.Model.{Replaced, old-mark, old-budget, Model, opened, with-mark, with-budget, restored}
 use Rattle.commands.specs.Valid.{valid}
 use Rattle.commands.specs.Commands.{Command, set-mark, set-budget, undo, Result, refused, accepted, decided, arc-refusal, mark-refusal, marked, budget-refusal, budgeted, undone, applied, answered, answers, board-after}
-use Rattle.commands.specs.Log.{Entry, entry-mark, entry-budget, Log, Noted, new-log, with-entries, log-length, unnoted, noted, note-mark, note-budget, note-undo, note, log-answers, log-after}
+use Rattle.commands.specs.Log.{Entry, entry-mark, entry-budget, Log, Noted, new-log, with-entries, log-length, unnoted, noted, note-arcs, note-mark, note-budget, note-undo, note, log-answers, log-after}
 use Rattle.commands.specs.Effective.{effective}
 use Rattle.commands.proofs.CommandLaws.{mark-back}
 use Rattle.commands.proofs.ValidLaws.{valid-parts, opened-valid}
@@ -66,21 +67,21 @@ refused-step : (a : ℕ) (b : Model) (k : Log) → Tied b k → Step (refused a 
 unfolding refused unnoted
 refused-step a b k t = record { same-answer = refl; tied = t }
 
-mark-tests :
-    (x y z : Bool) (b : Model) (k : Log) (d : Result) (n : Noted) → Tied b k → (x ≡ false → Step d n) →
-    Step (decided (arc-refusal x y z) d b) (cond x (unnoted no-vertex k) (cond y (unnoted no-such-arc k) (cond z (unnoted history-full k) n)))
-unfolding decided arc-refusal
-mark-tests true y z b k d n t q = refused-step no-vertex b k t
-mark-tests false true z b k d n t q = refused-step no-such-arc b k t
-mark-tests false false true b k d n t q = refused-step history-full b k t
-mark-tests false false false b k d n t q = q refl
+arc-tests :
+    (x y z : Bool) (b : Model) (k : Log) (d : Result) (e : Entry) → Tied b k → (x ≡ false → Step d (noted (e ∷ k .entries) k)) →
+    Step (decided (arc-refusal x y z) d b) (note-arcs x y z e k)
+unfolding decided arc-refusal note-arcs
+arc-tests true y z b k d e t q = refused-step _ b k t
+arc-tests false true z b k d e t q = refused-step _ b k t
+arc-tests false false true b k d e t q = refused-step _ b k t
+arc-tests false false false b k d e t q = q refl
 
 budget-tests :
     (x z : Bool) (b : Model) (k : Log) (d : Result) (n : Noted) → Tied b k → Step d n →
     Step (decided (cond x bad-budget (cond z history-full 0)) d b) (cond x (unnoted bad-budget k) (cond z (unnoted history-full k) n))
 unfolding decided
-budget-tests true z b k d n t q = refused-step bad-budget b k t
-budget-tests false true b k d n t q = refused-step history-full b k t
+budget-tests true z b k d n t q = refused-step _ b k t
+budget-tests false true b k d n t q = refused-step _ b k t
 budget-tests false false b k d n t q = q
 
 mark-accepted :
@@ -115,8 +116,8 @@ mark-step m t h k rs d =
     let L = ltb t (s .n) in
     let R = ltb h (s .n) in
     rw (tied-length (on k rs) k d)
-    (mark-tests (not (L && R)) (not (is-arc s t h)) (leb max-records (length (k .entries))) (on k rs) k
-    (accepted (old-mark t h (mark (effective k) t h)) (with-mark (mark-number m) t h (effective k)) (on k rs)) (noted (entry-mark m t h ∷ k .entries) k) d
+    (arc-tests (not (L && R)) (not (is-arc s t h)) (leb max-records (length (k .entries))) (on k rs) k
+    (accepted (old-mark t h (mark (effective k) t h)) (with-mark (mark-number m) t h (effective k)) (on k rs)) (entry-mark m t h) d
     (λ e.
     let i = not-false (L && R) e in
     mark-accepted m t h k rs d (omega (arith, ltb-true t (s .n) (and-left L R i), d .small)) (omega (arith, ltb-true h (s .n) (and-right L R i), d .small))))

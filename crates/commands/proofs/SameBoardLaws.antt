@@ -1,5 +1,5 @@
--- Boards that are the same are equally valid, answer every command alike and stay the same: what no call looks at decides nothing.
--- Assumes nothing.
+-- Boards that are the same are equally valid, answer every command alike and stay the same: what no call looks at
+-- decides nothing. Assumes nothing.
 use mathlib.Core.Path.{_≡_, refl, sym, ap, _∙_, subst}
 use mathlib.Core.Bool.{Bool, true, false, _&&_, cond}
 use mathlib.Core.List.{List, [], _∷_}

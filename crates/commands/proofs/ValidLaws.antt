@@ -1,5 +1,5 @@
--- What a valid board is, part by part and test by test; which fields of an instance the tests of records and cells look at. Assumes
--- nothing.
+-- What a valid board is, part by part and test by test; which fields of an instance the tests of records and cells look
+-- at. Assumes nothing.
 use mathlib.Core.Path.{_≡_, refl}
 use mathlib.Core.Bool.{Bool, true, false, _&&_}
 use mathlib.Core.List.{List}

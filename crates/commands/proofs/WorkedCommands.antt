@@ -1,6 +1,6 @@
--- Which boards are valid, and what lists of commands answer and leave, on the board and in the log: two lists, each with one claim
--- about the whole list. The answers and what is left are written out here, so that board and log cannot be wrong alike. Computed.
--- Assumes nothing.
+-- Which boards are valid, and what lists of commands answer and leave, on the board and in the log: two lists, each
+-- with one claim about the whole list. The answers, by document 01's own numbers, and what is left are written out
+-- here, so that board and log cannot be wrong alike. Computed. Assumes nothing.
 use mathlib.Core.Path.{_≡_, refl}
 use mathlib.Core.List.{List, [], _∷_, _++_, map}
 use Prim.Native.Nat.{ℕ, _*_, _/_, _%_}
@@ -15,7 +15,7 @@ use Rattle.instance.proofs.WorkedCases.{arc, filled, instance-of, instance-q}
 use Rattle.commands.specs.Model.{Replaced, old-mark, old-budget, Model, opened, with-mark, with-budget, restored}
 use Rattle.commands.specs.Valid.{record-ok, valid}
 use Rattle.commands.specs.Commands.{Command, set-mark, set-budget, undo, refused, accepted, decided, arc-refusal, mark-refusal, marked, budget-refusal, budgeted, undone, applied, answered, answers, board-after}
-use Rattle.commands.specs.Log.{new-log, with-entries, log-length, unnoted, noted, note-mark, note-budget, note-undo, note, log-answers, log-after}
+use Rattle.commands.specs.Log.{new-log, with-entries, log-length, unnoted, noted, note-arcs, note-mark, note-budget, note-undo, note, log-answers, log-after}
 use Rattle.commands.specs.Effective.{effective-mark, effective-budget, effective}
 
 abbrev pin : (tail head : ℕ) → Command
@@ -105,7 +105,8 @@ in-log s cs =
 
 unfoldable pub runs : List Run
 runs =
-    -- "Undoing a pin by setting the link free, where a ban stood before": one that a command set, and one that the card has
+    -- "Undoing a pin by setting the link free, where a ban stood before": one that a command set, and one that the card
+    -- has
     record {
       from = instance-q 16 [];
       commands = ban 0 1 ∷ pin 0 1 ∷ undo ∷ [];
@@ -144,5 +145,5 @@ pub run : map (λ r. on-board (r .from) (r .commands) ∷ in-log (r .from) (r .c
 unfolding
     runs on-board in-log marks-in instance-q instance-of filled tabulate-from tabulate weight mark can-be-arc is-arc opened with-mark with-budget
     restored refused accepted decided arc-refusal mark-refusal marked budget-refusal budgeted undone applied answers board-after new-log with-entries
-    log-length unnoted noted note-mark note-budget note-undo note effective-mark effective-budget effective log-answers log-after
+    log-length unnoted noted note-arcs note-mark note-budget note-undo note effective-mark effective-budget effective log-answers log-after
 run = refl

@@ -1,5 +1,5 @@
--- What a command may alter: "No press or take-back alters the positions, the root, a price, or any mark that neither it nor the
--- record taken back names." Assumes nothing: these are definitions.
+-- What a command may alter: "No press or take-back alters the positions, the root, a price, or any mark that neither it
+-- nor the record taken back names." Assumes nothing: these are definitions.
 use mathlib.Core.Path.{_≡_}
 use mathlib.Core.Bool.{Bool, true, false, _&&_}
 use mathlib.Core.List.{List, [], _∷_}
@@ -15,7 +15,8 @@ is-undo (set-mark m t h) = false
 is-undo (set-budget v) = false
 is-undo undo = true
 
--- The cell i is that of tail t and head h: judged by both, for the index of a head of 32 or more is also that of another arc.
+-- The cell i is that of tail t and head h: judged by both, for the index of a head of 32 or more is also that of
+-- another arc.
 unfoldable pub is-cell : (t h i : ℕ) → Bool
 is-cell t h i = eqb (i / 32) t && eqb (i % 32) h
 

@@ -12,7 +12,8 @@ use Rattle.instance.specs.declared.Mark.{Mark}
 use Rattle.commands.specs.Model.{Replaced, old-mark, old-budget, Model, with-mark, with-budget, restored}
 use Rattle.commands.specs.Valid.{valid}
 
--- Commands (document 01: presses and take-backs). "Pin, ban and clear set one link's mark .. A budget press sets the budget."
+-- Commands (document 01: presses and take-backs). "Pin, ban and clear set one link's mark .. A budget press sets the
+-- budget."
 pub data Command : Type 0 where
   set-mark : (mark : Mark) → (tail head : ℕ) → Command
   set-budget : (budget : ℕ) → Command
@@ -36,7 +37,8 @@ unfoldable pub decided : (refusal : ℕ) → (otherwise : Result) → Model → 
 decided zero d b = d
 decided (suc k) d b = refused (suc k) b
 
--- "9, 10, 12 for marks": what refuses a command that names arcs (a vertex not below n, no arc, no room for one record more), or 0
+-- "9, 10, 12 for marks": what refuses a command that names arcs (a vertex not below n, no arc, no room for one record
+-- more), or 0
 unfoldable pub arc-refusal : (outside missing full : Bool) → ℕ
 arc-refusal outside missing full = cond outside no-vertex (cond missing no-such-arc (cond full history-full 0))
 

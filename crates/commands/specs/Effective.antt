@@ -1,4 +1,5 @@
--- What is effective by a log (document 01: standing marks and the standing budget). Assumes nothing: these are definitions.
+-- What is effective by a log (document 01: standing marks and the standing budget). Assumes nothing: these are
+-- definitions.
 use mathlib.Core.Bool.{_&&_, cond}
 use mathlib.Core.List.{List, [], _∷_}
 use Prim.Native.Nat.{ℕ, _/_, _%_}
@@ -9,8 +10,8 @@ use Rattle.instance.specs.Marks.{mark-number}
 use Rattle.instance.specs.Instance.{Instance, mark}
 use Rattle.commands.specs.Log.{Entry, entry-mark, entry-budget, Log}
 
--- The effective mark (document 01: the standing mark) "is the one set by the last standing press that names it, or the card's if
--- none does".
+-- The effective mark (document 01: the standing mark) "is the one set by the last standing press that names it, or the
+-- card's if none does".
 unfoldable pub effective-mark : List Entry → Instance → (tail head : ℕ) → ℕ
 effective-mark [] s t h = mark s t h
 effective-mark (entry-mark m u v ∷ es) s t h = cond (eqb t u && eqb h v) (mark-number m) (effective-mark es s t h)

@@ -1,5 +1,5 @@
--- The board as a model, which boards are valid, the commands and what they may alter, and the log that a board is held against.
--- Assumes nothing.
+-- The board as a model, which boards are valid, the commands and what they may alter, and the log that a board is held
+-- against. Assumes nothing.
 pub mod Model
 pub mod Valid
 pub mod Commands

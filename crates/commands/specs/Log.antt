@@ -1,6 +1,6 @@
--- The log (document 01: the book), "kept from the card and the calls' arguments alone, never from an answer or the board's record".
--- Assumes nothing: these are definitions.
-use mathlib.Core.Bool.{_&&_, not, cond}
+-- The log (document 01: the book), "kept from the card and the calls' arguments alone, never from an answer or the
+-- board's record". Assumes nothing: these are definitions.
+use mathlib.Core.Bool.{Bool, _&&_, not, cond}
 use mathlib.Core.List.{List, [], _∷_}
 use Prim.Native.Nat.{ℕ}
 use lib.Dec.{ltb, leb}
@@ -44,14 +44,18 @@ unnoted a k = record { answer = a; log = k }
 unfoldable pub noted : List Entry → Log → Noted
 noted es k = record { answer = 0; log = with-entries es k }
 
--- "refused with 9 if a position is not below n, else with 10 if the card has no such link, else with 12 if 200 stand; otherwise
--- accepted and written at the end"
+-- "refused with 9 if a position is not below n, else with 10 if the card has no such link, else with 12 if 200 stand;
+-- otherwise accepted and written at the end"
+unfoldable pub note-arcs : (outside missing full : Bool) → Entry → Log → Noted
+note-arcs outside missing full e k =
+    cond outside (unnoted no-vertex k)
+    (cond missing (unnoted no-such-arc k)
+    (cond full (unnoted history-full k)
+    (noted (e ∷ k .entries) k)))
+
 unfoldable pub note-mark : (mark : Mark) → (tail head : ℕ) → Log → Noted
 note-mark m t h k =
-    cond (not (ltb t (k .card .n) && ltb h (k .card .n))) (unnoted no-vertex k)
-    (cond (not (is-arc (k .card) t h)) (unnoted no-such-arc k)
-    (cond (leb max-records (log-length k)) (unnoted history-full k)
-    (noted (entry-mark m t h ∷ k .entries) k)))
+    note-arcs (not (ltb t (k .card .n) && ltb h (k .card .n))) (not (is-arc (k .card) t h)) (leb max-records (log-length k)) (entry-mark m t h) k
 
 -- "refused with 11 if above 31,000,000, else with 12 if 200 stand"
 unfoldable pub note-budget : (budget : ℕ) → Log → Noted

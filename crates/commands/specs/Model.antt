@@ -1,4 +1,5 @@
--- The model of a board: an instance with the history of what was replaced on it. Assumes nothing: these are definitions.
+-- The model of a board: an instance with the history of what was replaced on it. Assumes nothing: these are
+-- definitions.
 use mathlib.Core.List.{List, []}
 use Prim.Native.Nat.{ℕ}
 use lib.ListN.{set}

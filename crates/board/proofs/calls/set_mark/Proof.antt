@@ -1,4 +1,5 @@
--- `set_mark` gives what the model gives: the refusal that was found, or one record more and the new mark. Assumes nothing.
+-- `set_mark` gives what the model gives: the refusal that was found, or one record more and the new mark. Assumes
+-- nothing.
 use mathlib.Core.Path.{_≡_, refl, sym, ap, _∙_}
 use Prim.Native.Nat.{ℕ}
 use native.Mathlib.Omega.{arith}

@@ -1,4 +1,5 @@
--- `undo_latest` restores the record under the count, which is the first of the history, and counts it no more. Assumes nothing.
+-- `undo_latest` restores the record under the count, which is the first of the history, and counts it no more. Assumes
+-- nothing.
 use mathlib.Core.Path.{refl, sym, _∙_}
 use Prim.Native.Nat.{_-_, _≤_}
 use native.Mathlib.Omega.{arith}

@@ -1,4 +1,5 @@
--- `records_valid` judges every record of the history, the latest first. The invariant: the first k records decide. Assumes nothing.
+-- `records_valid` judges every record of the history, the latest first. The invariant: the first k records decide.
+-- Assumes nothing.
 use mathlib.Core.Path.{_≡_, refl, sym, _∙_}
 use mathlib.Core.Bool.{true, false}
 use Prim.Native.Nat.{_≤_}
