@@ -75,82 +75,82 @@ unfolding effective effective-budget effective-mark with-budget
 budget-back s es v = refl
 
 -- A CELL THAT IS NO ARC: every entry of a log that began empty names an arc of its card
-abbrev pub names-arc : Instance → Entry → Bool
-names-arc s (entry-mark m t h) = is-arc s t h
-names-arc s (entry-budget v) = true
+abbrev pub on-arc : Instance → Entry → Bool
+on-arc s (entry-mark m t h) = is-arc s t h
+on-arc s (entry-budget v) = true
 
 -- a log of a card, all of whose entries name arcs
-pub record Names-arcs (s : Instance) (k : Log) : Type 0 where
+pub record On-arcs (s : Instance) (k : Log) : Type 0 where
   pub card : k .card ≡ s
-  pub entries : all-of (names-arc s) (k .entries) ≡ true
+  pub entries : all-of (on-arc s) (k .entries) ≡ true
 
-pub new-names-arcs : (s : Instance) → Names-arcs s (new-log s)
+pub new-on-arcs : (s : Instance) → On-arcs s (new-log s)
 unfolding new-log all-of
-new-names-arcs s = record { card = refl; entries = refl }
+new-on-arcs s = record { card = refl; entries = refl }
 
 module _ (s : Instance) where
-  unnoted-names : (a : ℕ) (k : Log) → Names-arcs s k → Names-arcs s (unnoted a k .log)
+  unnoted-on-arcs : (a : ℕ) (k : Log) → On-arcs s k → On-arcs s (unnoted a k .log)
   unfolding unnoted
-  unnoted-names a k n = n
+  unnoted-on-arcs a k n = n
 
-  noted-names : (e : Entry) (k : Log) → names-arc s e ≡ true → Names-arcs s k → Names-arcs s (noted (e ∷ k .entries) k .log)
+  noted-on-arcs : (e : Entry) (k : Log) → on-arc s e ≡ true → On-arcs s k → On-arcs s (noted (e ∷ k .entries) k .log)
   unfolding noted with-entries
-  noted-names e k a n = record { card = n .card; entries = all-of-more (names-arc s) e (k .entries) a (n .entries) }
+  noted-on-arcs e k a n = record { card = n .card; entries = all-of-more (on-arc s) e (k .entries) a (n .entries) }
 
-  arcs-names : (x y z : Bool) (e : Entry) (k : Log) → Names-arcs s k → (y ≡ false → names-arc s e ≡ true) → Names-arcs s (note-arcs x y z e k .log)
+  arcs-on-arcs : (x y z : Bool) (e : Entry) (k : Log) → On-arcs s k → (y ≡ false → on-arc s e ≡ true) → On-arcs s (note-arcs x y z e k .log)
   unfolding note-arcs
-  arcs-names true y z e k n h = unnoted-names _ k n
-  arcs-names false true z e k n h = unnoted-names _ k n
-  arcs-names false false true e k n h = unnoted-names _ k n
-  arcs-names false false false e k n h = noted-names e k (h refl) n
+  arcs-on-arcs true y z e k n h = unnoted-on-arcs _ k n
+  arcs-on-arcs false true z e k n h = unnoted-on-arcs _ k n
+  arcs-on-arcs false false true e k n h = unnoted-on-arcs _ k n
+  arcs-on-arcs false false false e k n h = noted-on-arcs e k (h refl) n
 
-  budget-names : (x z : Bool) (d : Noted) (k : Log) → Names-arcs s k → Names-arcs s (d .log) →
-      Names-arcs s (cond x (unnoted bad-budget k) (cond z (unnoted history-full k) d) .log)
-  budget-names true z d k n h = unnoted-names _ k n
-  budget-names false true d k n h = unnoted-names _ k n
-  budget-names false false d k n h = h
+  budget-on-arcs : (x z : Bool) (d : Noted) (k : Log) → On-arcs s k → On-arcs s (d .log) →
+      On-arcs s (cond x (unnoted bad-budget k) (cond z (unnoted history-full k) d) .log)
+  budget-on-arcs true z d k n h = unnoted-on-arcs _ k n
+  budget-on-arcs false true d k n h = unnoted-on-arcs _ k n
+  budget-on-arcs false false d k n h = h
 
-  undo-names : (es : List Entry) (k : Log) → k .entries ≡ es → Names-arcs s k → Names-arcs s (note-undo es k .log)
+  undo-on-arcs : (es : List Entry) (k : Log) → k .entries ≡ es → On-arcs s k → On-arcs s (note-undo es k .log)
   unfolding note-undo unnoted noted with-entries
-  undo-names [] k q n = n
-  undo-names (e ∷ es) k q n = record { card = n .card; entries = all-of-rest (names-arc s) e es (rw q at (n .entries)) }
+  undo-on-arcs [] k q n = n
+  undo-on-arcs (e ∷ es) k q n = record { card = n .card; entries = all-of-rest (on-arc s) e es (rw q at (n .entries)) }
 
-  pub note-names-arcs : (c : Command) (k : Log) → Names-arcs s k → Names-arcs s (note c k .log)
+  pub note-on-arcs : (c : Command) (k : Log) → On-arcs s k → On-arcs s (note c k .log)
   unfolding note note-mark note-budget
-  note-names-arcs (set-mark m t h) k n =
-      arcs-names (not (ltb t (k .card .n) && ltb h (k .card .n))) (not (is-arc (k .card) t h)) (leb max-records (log-length k)) (entry-mark m t h) k n
+  note-on-arcs (set-mark m t h) k n =
+      arcs-on-arcs (not (ltb t (k .card .n) && ltb h (k .card .n))) (not (is-arc (k .card) t h)) (leb max-records (log-length k)) (entry-mark m t h) k n
       (λ y. rw (n .card) at (not-false (is-arc (k .card) t h) y))
-  note-names-arcs (set-budget v) k n =
-      budget-names (ltb max-budget v) (leb max-records (log-length k)) _ k n (noted-names (entry-budget v) k refl n)
-  note-names-arcs undo k n = undo-names (k .entries) k refl n
+  note-on-arcs (set-budget v) k n =
+      budget-on-arcs (ltb max-budget v) (leb max-records (log-length k)) _ k n (noted-on-arcs (entry-budget v) k refl n)
+  note-on-arcs undo k n = undo-on-arcs (k .entries) k refl n
 
-  pub log-names-arcs : (cs : List Command) (k : Log) → Names-arcs s k → Names-arcs s (log-after cs k)
+  pub log-on-arcs : (cs : List Command) (k : Log) → On-arcs s k → On-arcs s (log-after cs k)
   unfolding log-after
-  log-names-arcs [] k n = n
-  log-names-arcs (c ∷ cs) k n = log-names-arcs cs (note c k .log) (note-names-arcs c k n)
+  log-on-arcs [] k n = n
+  log-on-arcs (c ∷ cs) k n = log-on-arcs cs (note c k .log) (note-on-arcs c k n)
 
-  mark-elsewhere : (es : List Entry) (t h : ℕ) → all-of (names-arc s) es ≡ true → is-arc s t h ≡ false → effective-mark es s t h ≡ mark s t h
+  mark-elsewhere : (es : List Entry) (t h : ℕ) → all-of (on-arc s) es ≡ true → is-arc s t h ≡ false → effective-mark es s t h ≡ mark s t h
   unfolding effective-mark
   mark-elsewhere [] t h a e = refl
   mark-elsewhere (entry-mark m u v ∷ es) t h a e =
       let other : eqb t u && eqb h v ≡ false =
       and-not (eqb t u) (eqb h v)
-      (λ p q. not-both (is-arc s t h) (rw (eqb-true t u p, eqb-true h v q) (all-of-first (names-arc s) (entry-mark m u v) es a)) e) in
-      rw other (mark-elsewhere es t h (all-of-rest (names-arc s) (entry-mark m u v) es a) e)
-  mark-elsewhere (entry-budget v ∷ es) t h a e = mark-elsewhere es t h (all-of-rest (names-arc s) (entry-budget v) es a) e
+      (λ p q. not-both (is-arc s t h) (rw (eqb-true t u p, eqb-true h v q) (all-of-first (on-arc s) (entry-mark m u v) es a)) e) in
+      rw other (mark-elsewhere es t h (all-of-rest (on-arc s) (entry-mark m u v) es a) e)
+  mark-elsewhere (entry-budget v ∷ es) t h a e = mark-elsewhere es t h (all-of-rest (on-arc s) (entry-budget v) es a) e
 
   -- by the index of the cell, and by its ends
-  pub cell-elsewhere : (k : Log) → Names-arcs s k → (i : ℕ) → i < cells → is-arc s (i / 32) (i % 32) ≡ false → mark-at (effective k) i ≡ mark-at s i
+  pub cell-elsewhere : (k : Log) → On-arcs s k → (i : ℕ) → i < cells → is-arc s (i / 32) (i % 32) ≡ false → mark-at (effective k) i ≡ mark-at s i
   unfolding effective mark
   cell-elsewhere k n i b e =
       let at : cell (i / 32) (i % 32) ≡ i = omega arith in
-      let card's : effective-mark (k .entries) s (i / 32) (i % 32) ≡ mark-at s i = rw at at (mark-elsewhere (k .entries) (i / 32) (i % 32) (n .entries) e) in
-      rw (getD-tabulate cells (λ j. effective-mark (k .entries) (k .card) (j / 32) (j % 32)) i free b, n .card) card's
+      let as-card : effective-mark (k .entries) s (i / 32) (i % 32) ≡ mark-at s i = rw at at (mark-elsewhere (k .entries) (i / 32) (i % 32) (n .entries) e) in
+      rw (getD-tabulate cells (λ j. effective-mark (k .entries) (k .card) (j / 32) (j % 32)) i free b, n .card) as-card
 
   -- ANY LIST OF COMMANDS on a card leaves the marks of the cells that are no arc as the card has them
   pub effective-cell-elsewhere :
       (cs : List Command) (i : ℕ) → i < cells → is-arc s (i / 32) (i % 32) ≡ false → mark-at (effective (log-after cs (new-log s))) i ≡ mark-at s i
-  effective-cell-elsewhere cs i b e = cell-elsewhere (log-after cs (new-log s)) (log-names-arcs cs (new-log s) (new-names-arcs s)) i b e
+  effective-cell-elsewhere cs i b e = cell-elsewhere (log-after cs (new-log s)) (log-on-arcs cs (new-log s) (new-on-arcs s)) i b e
 
   pub effective-elsewhere :
       (cs : List Command) (t h : ℕ) → t < max-vertices → h < max-vertices → is-arc s t h ≡ false →
