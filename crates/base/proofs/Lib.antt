@@ -8,3 +8,4 @@ pub mod FillingLaws
 pub mod FrontLaws
 pub mod SumLaws
 pub mod PartLaws
+pub mod StoreLaws

@@ -1,19 +1,97 @@
--- What the contract of a public call gives on the program's own board, whatever the board and the arguments are. Assumes nothing.
+-- What the contract of a public call gives on the program's own board, whatever the board and the arguments are.
+-- Assumes nothing.
 use mathlib.Core.Path.{_≡_, refl, sym, ap, _∙_, subst}
 use mathlib.Core.Bool.{true, false}
-use Rattle.instance.specs.Valid.{header-valid}
-use Rattle.board.specs.Model.{Command, undo, Model, Result, answered, valid}
-use Rattle.board.specs.Changes.{is-undo, Changes-only-named}
+use mathlib.Core.List.{List, [], _∷_}
+use Prim.Native.Nat.{ℕ, _≤_}
+use native.Mathlib.Omega.{arith}
+use lib.ListN.{length, set}
+use borrow.Author.Tests.{eq-eqb, ne-eqb}
+use Rattle.instance.specs.Instance.{Instance}
+use Rattle.commands.specs.Model.{Model, Replaced}
+use Rattle.commands.specs.Valid.{valid}
+use Rattle.commands.specs.Commands.{Command, undo, Result, refused, accepted, applied, answered}
+use Rattle.commands.specs.Changes.{is-undo, Changes-only-named}
+use Rattle.commands.proofs.ChangeLaws.{answered-changes}
+use Rattle.commands.proofs.CommandLaws.{command-recorded}
+use Rattle.commands.proofs.AnsweredLaws.{answered-applied, answered-valid, accepted-valid, answered-undo-restores, answered-undo-shorter}
 use Rattle.board.specs.declared.Board.{Board}
 use Rattle.board.specs.declared.Answered.{Answered}
-use Rattle.board.specs.ModelOf.{model-of, result-of, board-with, blank, Answers}
-use Rattle.board.proofs.ChangeLaws.{answered-changes}
-use Rattle.board.proofs.ValidLaws.{answered-valid, answered-undo-restores, bad-header}
+use Rattle.board.specs.declared.Replaced as declared-replaced
+use Rattle.board.specs.declared.Replaced.the-variants.{OldMark, OldBudget}
+use Rattle.board.specs.ModelOf.{replaced-of, model-of, instance-of, history-of, result-of}
+use Rattle.board.specs.Calls.{record-of, records-after, Answers, Records}
+use Rattle.board.proofs.ModelOfLaws.{length-history}
 
--- the blank board is refused by every call: 15
-pub blank-invalid : valid (model-of blank) ≡ false
-unfolding blank board-with header-valid
-blank-invalid = sym (bad-header (model-of blank) refl)
+-- a record that the program makes
+pub record-of-replaced : (o : declared-replaced.Replaced) → record-of (replaced-of o) ≡ record { replaced = o }
+record-of-replaced (OldMark t h m) = refl
+record-of-replaced (OldBudget v) = refl
+
+-- THE RECORD PLACES that are left: one more record sets the place at the count, any other history sets none
+pub records-added :
+    (b : Board) (o : Replaced) → records-after b (o ∷ history-of (b .count) (b .records)) ≡ set (b .records) (b .count) (record-of o)
+unfolding records-after
+records-added b o = rw (eq-eqb _ _ (length-history (b .count) (b .records)))
+
+pub records-left : (b : Board) (os : List Replaced) → length os ≤ b .count → records-after b os ≡ b .records
+unfolding records-after
+records-left b [] l = refl
+records-left b (o ∷ os) l = rw (ne-eqb (length os) (b .count) (λ e. omega arith))
+
+-- REFUSED, and accepted with one record more
+pub answers-refused : (k : ℕ) (d : Result) (b : Board) → d ≡ refused k (model-of b) → Answers d b (record { answer = k; board = b })
+unfolding refused
+answers-refused k d b e =
+    rw e
+    (record {
+      result = refl;
+      records = sym (records-left b (history-of (b .count) (b .records)) (omega (arith, length-history (b .count) (b .records))));
+      unchanged = λ _. refl;
+    })
+
+module _ (o : Replaced) (b g : Board) (k : Records o b g) where
+  pub answers-accepted :
+      (s : Instance) (d : Result) (r : Board) → d ≡ accepted o s (model-of b) → instance-of r ≡ s → r .records ≡ g .records → r .count ≡ g .count →
+      Answers d b (record { answer = 0; board = r })
+  unfolding accepted
+  answers-accepted s d r e i rs c =
+      let h : history-of (r .count) (r .records) ≡ o ∷ history-of (b .count) (b .records) = rw (rs, c) (k .history) in
+      rw e
+      (record {
+        result = λ j. record { answer = 0; board = record { instance = i j; history = h j } };
+        records = rs ∙ k .records ∙ sym (records-added b o);
+        unchanged = λ z. absurd (z refl);
+      })
+
+-- what a command gives on a valid board is what the call answers
+pub answers-valid :
+    (c : Command) (b : Board) (r : Answered) → valid (model-of b) ≡ true → Answers (applied c (model-of b)) b r → Answers (answered c (model-of b)) b r
+answers-valid c b r v a = rw (answered-applied c (model-of b) v) a
+
+-- A CALL CAN GIVE ONE RESULT ONLY: the contract fixes the whole board, record places past the count too
+pub answers-once : (d : Result) (b : Board) (r q : Answered) → Answers d b r → Answers d b q → r ≡ q
+answers-once d b r q x y =
+    let e : result-of r ≡ result-of q = x .result ∙ sym (y .result) in
+    let s : instance-of (r .board) ≡ instance-of (q .board) = ap (λ (z : Result). z .board .instance) e in
+    let rs : r .board .records ≡ q .board .records = x .records ∙ sym (y .records) in
+    let k : r .board .count ≡ q .board .count =
+    sym (length-history (r .board .count) (r .board .records)) ∙ ap (λ (z : Result). length (z .board .history)) e
+    ∙ length-history (q .board .count) (q .board .records) in
+    λ j.
+    record {
+      answer = e j .answer;
+      board =
+          record {
+            n = s j .n;
+            root = s j .root;
+            budget = s j .budget;
+            weights = s j .weights;
+            marks = s j .marks;
+            records = rs j;
+            count = k j;
+          };
+    }
 
 module _ (c : Command) (b : Board) (r : Answered) (a : Answers (answered c (model-of b)) b r) where
   -- the board that is left, in the model's terms
@@ -36,3 +114,22 @@ module _ (c : Command) (b : Board) (r : Answered) (a : Answers (answered c (mode
       is-undo c ≡ false → r .answer ≡ 0 → (q : Answered) → Answers (answered undo (model-of (r .board))) (r .board) q →
       result-of q ≡ record { answer = 0; board = model-of b }
   call-undo-restores n e q u = u .result ∙ rw call-board (answered-undo-restores c (model-of b) n (sym call-answer ∙ e))
+
+  -- AN ACCEPTED PRESS SETS THE RECORD PLACE AT THE COUNT to what the history gained, and no other place
+  pub call-records :
+      is-undo c ≡ false → r .answer ≡ 0 →
+      (o : Replaced) × (model-of (r .board) .history ≡ o ∷ model-of b .history) × (r .board .records ≡ set (b .records) (b .count) (record-of o))
+  call-records n e =
+      let z = sym call-answer ∙ e in
+      let q = answered-applied c (model-of b) (accepted-valid c (model-of b) z) in
+      let g = command-recorded c (model-of b) n (ap (λ (d : Result). d .answer) (sym q) ∙ z) in
+      let h : answered c (model-of b) .board .history ≡ g .0 ∷ model-of b .history = ap (λ (d : Result). d .board .history) q ∙ g .1 in (
+        g .0,
+        ap (λ (m : Model). m .history) call-board ∙ h,
+        a .records ∙ ap (records-after b) h ∙ records-added b (g .0),
+      )
+
+-- A TAKE-BACK SETS NONE
+pub undo-records : (b : Board) (r : Answered) → Answers (answered undo (model-of b)) b r → r .board .records ≡ b .records
+undo-records b r a =
+    a .records ∙ records-left b (answered undo (model-of b) .board .history) (omega (arith, answered-undo-shorter (model-of b), length-history (b .count) (b .records)))

@@ -1,7 +1,4 @@
--- The board as a model, the log that it is held against, what a command may alter, and the program's board as the model. Assumes
--- nothing.
-pub mod Model
-pub mod Log
-pub mod Changes
-pub mod SameBoard
+-- The program's board as the model, what the calls' contracts say, and a new board. Assumes nothing.
 pub mod ModelOf
+pub mod Calls
+pub mod Create

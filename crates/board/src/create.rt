@@ -1,17 +1,19 @@
 // A board with no record: from the fields of an instance, and the blank one that stands for no board.
 ghost use mathlib.Core.Path.{_≡_};
-ghost use Rattle.board.specs.ModelOf.{New-board, blank};
+ghost use Rattle.board.specs.Create.{New-board, blank};
 use crate::Board;
 use crate::Replaced;
 use crate::UndoRecord;
+use instance::limits::CELLS;
+use instance::limits::MAX_RECORDS;
 
-pub fn new_board(n: u32, root: u32, budget: u32, weights: [u32; 1024], marks: [u8; 1024]) -> Board
+pub fn new_board(n: u32, root: u32, budget: u32, weights: [u32; CELLS], marks: [u8; CELLS]) -> Board
     ensures { λ r. ⌜ New-board n root budget weights marks r ⌝ }
 {
     let record = UndoRecord {
-        replaced: Replaced::Mark(0, 0, 0),
+        replaced: Replaced::OldMark(0, 0, 0),
     };
-    let records = [record; 200];
+    let records = [record; MAX_RECORDS];
     Board {
         n: n,
         root: root,
@@ -26,5 +28,5 @@ pub fn new_board(n: u32, root: u32, budget: u32, weights: [u32; 1024], marks: [u
 pub fn blank_board() -> Board
     ensures { λ r. ⌜ r ≡ blank ⌝ }
 {
-    new_board(0, 0, 0, [0; 1024], [0; 1024])
+    new_board(0, 0, 0, [0; CELLS], [0; CELLS])
 }

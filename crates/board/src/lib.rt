@@ -1,32 +1,36 @@
-// The board: an instance with the history of what was replaced on it, handed in and back by value. Commands set a mark or the
-// budget and record what they replaced, undo restores it; a board that is invalid is refused before anything else is judged.
-// Everything is held against the model of specs/Model.antt, by the definitions of specs/ModelOf.antt.
+// The board: an instance with the history of what was replaced on it, handed in and back by value. Commands set a mark
+// or the budget and record what they replaced, undo restores it; a board that is invalid is refused before anything
+// else is judged. Everything is held against the model of the crate `commands`, by the definitions of
+// specs/ModelOf.antt and specs/Calls.antt.
 pub mod valid; // valid.rt: whether a board is valid
-pub mod commands; // commands.rt: the commands and undo
+pub mod calls; // calls.rt: the commands and undo
 pub mod create; // create.rt: a new board, and the blank one
 
+use instance::Mark;
 use instance::Vertex;
+use instance::limits::CELLS;
+use instance::limits::MAX_RECORDS;
 
-// What a command replaced: tail, head and mark of an arc, or the budget. Small, since a board holds 200 of them: tail and head are
-// below 32 where it is written. What a record means has one name in the specs, `replaced-of`.
+// What a command replaced: tail, head and mark of an arc, or the budget. Small, since a board holds 200 of them: tail
+// and head are below 32 where it is written. What a record means has one name in the specs, `replaced-of`.
 pub enum Replaced {
-    Mark(u8, u8, u8),
-    Budget(u32),
+    OldMark(u8, u8, u8),
+    OldBudget(u32),
 }
 
 pub struct UndoRecord {
     pub replaced: Replaced,
 }
 
-// Weights and marks have a stride of 32. The first `count` records are the history, the latest last; the places after them are
-// never looked at, and neither is a cell where no arc can be.
+// Weights and marks have a stride of 32. The first `count` records are the history, the latest last; the places after
+// them are never looked at, and neither is a cell where no arc can be.
 pub struct Board {
     pub n: u32,
     pub root: u32,
     pub budget: u32,
-    pub weights: [u32; 1024],
-    pub marks: [u8; 1024],
-    pub records: [UndoRecord; 200],
+    pub weights: [u32; CELLS],
+    pub marks: [u8; CELLS],
+    pub records: [UndoRecord; MAX_RECORDS],
     pub count: usize,
 }
 
@@ -38,9 +42,7 @@ pub struct Answered {
 
 // A command as a value, for lists of commands.
 pub enum Command {
-    Pin(Vertex, Vertex),
-    Ban(Vertex, Vertex),
-    Clear(Vertex, Vertex),
+    SetMark(Mark, Vertex, Vertex),
     SetBudget(u32),
     TakeBack,
 }

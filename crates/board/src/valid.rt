@@ -1,39 +1,41 @@
-// Whether a board is valid: every field in its range, no mark where there is no arc, at most 200 records, and each of them naming
-// an arc and restoring a mark or a budget in range (document 01, refusal 15).
+// Whether a board is valid: every field in its range, no mark where there is no arc, at most 200 records, and each of
+// them naming an arc and restoring a mark or a budget in range (document 01, refusal 15).
 ghost use mathlib.Core.Path.{_≡_};
 ghost use Prim.Native.Nat.{_≤_};
 ghost use lib.ListN.{length};
 ghost use Rattle.base.specs.Lists.{all-of};
+ghost use Rattle.instance.specs.Limits.{max-vertices, cells, max-records};
 ghost use Rattle.instance.specs.Matrix.{unmarked};
-ghost use Rattle.board.specs.Model.{record-ok, valid};
+ghost use Rattle.commands.specs.Valid.{record-ok, valid};
 ghost use Rattle.board.specs.ModelOf.{instance-of, replaced-of, history-of, model-of};
 use crate::Board;
 use crate::Replaced;
 use instance::arc::is_arc;
 use instance::limits::BANNED;
+use instance::limits::CELLS;
 use instance::limits::MAX_BUDGET;
 use instance::limits::MAX_RECORDS;
 use instance::valid::cells_valid;
 use instance::valid::header_valid;
 
-fn record_ok(replaced: Replaced, weights: &[u32; 1024], n: u32, root: u32) -> bool
-    requires { ⌜ (n ≤ 32) × (length (now weights) ≡ 1024) ⌝ }
+fn record_ok(weights: &[u32; CELLS], n: u32, root: u32, replaced: Replaced) -> bool
+    requires { ⌜ (n ≤ max-vertices) × (length (now weights) ≡ cells) ⌝ }
     ensures { λ r. ⌜ r ≡ record-ok (unmarked n root (now (weights .entry))) (replaced-of replaced) ⌝ }
 {
     match replaced {
-        Replaced::Mark(tail, head, mark) => {
+        Replaced::OldMark(tail, head, mark) => {
             if is_arc(weights, n, root, tail as u32, head as u32) {
                 mark <= BANNED
             } else {
                 false
             }
         }
-        Replaced::Budget(budget) => budget <= MAX_BUDGET,
+        Replaced::OldBudget(budget) => budget <= MAX_BUDGET,
     }
 }
 
 fn records_valid(b: Board) -> bool
-    requires { ⌜ (b .n ≤ 32) × (b .count ≤ 200) ⌝ }
+    requires { ⌜ (b .n ≤ max-vertices) × (b .count ≤ max-records) ⌝ }
     ensures { λ r. ⌜ r ≡ all-of (record-ok (instance-of b)) (history-of (b .count) (b .records)) ⌝ }
 {
     let n = b.n;
@@ -43,7 +45,7 @@ fn records_valid(b: Board) -> bool
         k -= 1;
         let e = b.records[k];
         let r = e.replaced;
-        if !record_ok(r, &b.weights, n, root) {
+        if !record_ok(&b.weights, n, root, r) {
             return false;
         }
     }

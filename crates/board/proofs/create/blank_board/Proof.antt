@@ -1,6 +1,6 @@
 -- `blank_board` is a new board of zeros. Assumes nothing.
 use borrow.Author.Needs.{needs}
-use Rattle.board.specs.ModelOf.{blank}
+use Rattle.board.specs.Create.{blank}
 use Rattle.board.proofs.create.blank_board.Statement.{statement}
 use Rattle.board.proofs.create.blank_board.Tie as tie
 

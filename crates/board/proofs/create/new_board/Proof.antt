@@ -1,7 +1,8 @@
 -- `new_board` is the board of these fields with no record. Assumes nothing.
 use mathlib.Core.Path.{refl}
-use Rattle.board.specs.Model.{opened}
-use Rattle.board.specs.ModelOf.{board-with, history-of}
+use Rattle.commands.specs.Model.{opened}
+use Rattle.board.specs.ModelOf.{history-of}
+use Rattle.board.specs.Create.{board-with}
 use Rattle.board.proofs.create.new_board.Statement.{statement}
 use Rattle.board.proofs.create.new_board.Tie as tie
 

@@ -4,13 +4,14 @@ use mathlib.Core.Bool.{true}
 use borrow.Author.Tests.{not-true, not-false}
 use borrow.Author.Needs.{needs}
 use Rattle.base.specs.Bounded.{all-below}
+use Rattle.instance.specs.Limits.{cells}
 use Rattle.instance.specs.Valid.{header-valid, cell-valid}
-use Rattle.board.specs.Model.{with-budget}
+use Rattle.commands.specs.Model.{with-budget}
 use Rattle.board.specs.ModelOf.{instance-of, model-of}
 use Rattle.board.specs.declared.Board.{Board}
-use Rattle.board.proofs.RecordLaws.{cells-valid-of}
-use Rattle.board.proofs.ValidLaws.{header-n-high, bad-header, bad-cell, bad-count, only-records}
-use Rattle.board.proofs.BoardLaws.{length-history}
+use Rattle.commands.proofs.ValidLaws.{cells-valid-of}
+use Rattle.commands.proofs.ValidLaws.{header-n-high, bad-header, bad-cell, bad-count, only-records}
+use Rattle.board.proofs.ModelOfLaws.{length-history}
 use Rattle.board.proofs.valid.is_valid.Statement.{statement}
 use Rattle.board.proofs.valid.is_valid.Tie as tie
 
@@ -20,7 +21,7 @@ board c = c .before .before .args .t1
 header-ok : (c : tie.Else1) → header-valid (board c .n) (board c .root) (board c .budget) ≡ true
 header-ok c = sym (c .before .header-valid .ensures) ∙ not-false _ (c .if1 .left)
 
-cells-ok : (c : tie.Else2) → all-below 1024 (cell-valid (instance-of (board (c .before .before .before .before .before)))) ≡ true
+cells-ok : (c : tie.Else2) → all-below cells (cell-valid (instance-of (board (c .before .before .before .before .before)))) ≡ true
 unfolding with-budget
 cells-ok c =
     let b = board (c .before .before .before .before .before) in

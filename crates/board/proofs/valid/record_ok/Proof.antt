@@ -1,6 +1,6 @@
 -- `record_ok` is the definition, by what was replaced. Assumes nothing.
 use borrow.Author.Needs.{needs}
-use Rattle.board.specs.Model.{record-ok}
+use Rattle.commands.specs.Valid.{record-ok}
 use Rattle.board.proofs.valid.record_ok.Statement.{statement}
 use Rattle.board.proofs.valid.record_ok.Tie as tie
 

@@ -1,20 +1,22 @@
--- `records_valid` judges every record of the history, the latest first. The invariant: the first k records decide. Assumes nothing.
+-- `records_valid` judges every record of the history, the latest first. The invariant: the first k records decide.
+-- Assumes nothing.
 use mathlib.Core.Path.{_≡_, refl, sym, _∙_}
 use mathlib.Core.Bool.{true, false}
 use Prim.Native.Nat.{_≤_}
 use native.Mathlib.Omega.{arith}
 use borrow.Author.Tests.{not-true, not-false}
 use Rattle.base.specs.Lists.{all-of}
-use Rattle.board.specs.Model.{record-ok}
+use Rattle.instance.specs.Limits.{max-records}
+use Rattle.commands.specs.Valid.{record-ok}
 use Rattle.board.specs.ModelOf.{instance-of, history-of}
-use Rattle.board.proofs.RecordLaws.{record-ok-of}
-use Rattle.board.proofs.BoardLaws.{history-all, history-fail, history-pass, known}
+use Rattle.commands.proofs.ValidLaws.{record-ok-of}
+use Rattle.board.proofs.ModelOfLaws.{history-all, history-fail, history-pass, known}
 use Rattle.board.proofs.valid.records_valid.Statement.{statement}
 use Rattle.board.proofs.valid.records_valid.Tie as tie
 
 abbrev Inv-loop : tie.InvT-loop
 Inv-loop b n root k₀ k =
-    (k ≤ 200) × (all-of (record-ok (instance-of b)) (history-of (b .count) (b .records)) ≡ all-of (record-ok (instance-of b)) (history-of k (b .records)))
+    (k ≤ max-records) × (all-of (record-ok (instance-of b)) (history-of (b .count) (b .records)) ≡ all-of (record-ok (instance-of b)) (history-of k (b .records)))
 
 abbrev μ-loop : tie.MeasureT-loop
 μ-loop b n root k₀ k = k

@@ -1,0 +1,44 @@
+-- What a call on the program's board answers and leaves: what the contracts say. Assumes nothing: these are
+-- definitions.
+use mathlib.Core.Path.{_≡_}
+use mathlib.Core.Bool.{cond}
+use mathlib.Core.List.{List, [], _∷_}
+use lib.Dec.{eqb}
+use lib.ListN.{length, set}
+use Rattle.commands.specs.Model.{Replaced, old-mark, old-budget, restored}
+use Rattle.commands.specs.Commands.{Result}
+use Rattle.board.specs.declared.Board.{Board}
+use Rattle.board.specs.declared.Answered.{Answered}
+use Rattle.board.specs.declared.UndoRecord.{UndoRecord}
+use Rattle.board.specs.declared.Replaced.the-variants.{OldMark, OldBudget}
+use Rattle.board.specs.ModelOf.{instance-of, history-of, result-of}
+
+-- the place of a record that says what was replaced
+abbrev pub record-of : Replaced → UndoRecord
+record-of (old-mark t h m) = record { replaced = OldMark t h m }
+record-of (old-budget v) = record { replaced = OldBudget v }
+
+-- The record places that are left beside a history: "Each accepted press is recorded", which sets the place at the
+-- count; a take-back and a refused call set none, so every place past the count is left as it was.
+unfoldable pub records-after : Board → (history : List Replaced) → List UndoRecord
+records-after b [] = b .records
+records-after b (o ∷ os) = cond (eqb (length os) (b .count)) (set (b .records) (b .count) (record-of o)) (b .records)
+
+-- What a call on the board b gives: answer and board as the model's result d, "board as before" after a refusal, and
+-- which record places are set. So the whole board is fixed.
+pub record Answers (d : Result) (b : Board) (r : Answered) : Type 0 where
+  pub result : result-of r ≡ d
+  pub records : r .board .records ≡ records-after b (d .board .history)
+  pub unchanged : (r .answer ≡ 0 → ⊥) → r .board ≡ b
+
+-- one record more, and nothing else
+pub record Records (o : Replaced) (b r : Board) : Type 0 where
+  pub instance : instance-of r ≡ instance-of b
+  pub records : r .records ≡ set (b .records) (b .count) (record-of o)
+  pub history : history-of (r .count) (r .records) ≡ o ∷ history-of (b .count) (b .records)
+
+-- what putting back leaves: the record itself is still counted
+pub record Restores (o : Replaced) (b r : Board) : Type 0 where
+  pub instance : instance-of r ≡ restored o (instance-of b)
+  pub records : r .records ≡ b .records
+  pub count : r .count ≡ b .count

@@ -1,0 +1,151 @@
+-- What every command does to any board of the model: it is refused, or it is accepted; undo right after an accepted one
+-- restores the whole board; and which commands add a record. Assumes nothing.
+use mathlib.Core.Path.{_≡_, refl, ap, _∙_}
+use mathlib.Core.Bool.{Bool, true, false, _&&_, not, cond, true≢false}
+use mathlib.Core.List.{List, [], _∷_}
+use Prim.Native.Nat.{ℕ, zero, suc, _<_, _≤_}
+use native.Mathlib.Omega.{arith}
+use lib.Dec.{ltb, leb}
+use lib.ListN.{length, set}
+use lib.Seq.{set-set, set-getD}
+use borrow.Author.Tests.{ltb-false, leb-false, not-false}
+use Rattle.instance.specs.Limits.{max-budget, free, max-records}
+use Rattle.instance.specs.Refusals.{bad-budget, history-full}
+use Rattle.instance.specs.Marks.{mark-number}
+use Rattle.instance.specs.Instance.{Instance, cell, mark-at, weight, mark, is-arc}
+use Rattle.instance.specs.Matrix.{unmarked}
+use Rattle.instance.specs.declared.Mark.{Mark}
+use Rattle.commands.specs.Model.{Replaced, old-mark, old-budget, Model, with-mark, with-budget, restored}
+use Rattle.commands.specs.Commands.{Command, set-mark, set-budget, undo, Result, refused, accepted, decided, arc-refusal, mark-refusal, marked, budget-refusal, budgeted, undone, applied}
+use Rattle.commands.specs.Changes.{is-undo}
+
+-- REFUSED OR ACCEPTED
+-- whatever holds of each refusal and of the other result holds of what is decided
+decided-cases :
+    (P : Result → Type 0) (k : ℕ) (d : Result) (b : Model) → ((j : ℕ) → P (refused (suc j) b)) → (k ≡ 0 → P d) → P (decided k d b)
+unfolding decided
+decided-cases P zero d b r a = a refl
+decided-cases P (suc k) d b r a = r k
+
+decided-refused : (k : ℕ) (d : Result) (b : Model) → (k ≡ 0 → ⊥) → decided k d b ≡ refused k b
+unfolding decided
+decided-refused zero d b n = absurd (n refl)
+decided-refused (suc k) d b n = refl
+
+-- what a command that names arcs passed
+arc-passed : (x y z : Bool) → arc-refusal x y z ≡ 0 → (x ≡ false) × (y ≡ false) × (z ≡ false)
+unfolding arc-refusal
+arc-passed true y z e = absurd (omega arith)
+arc-passed false true z e = absurd (omega arith)
+arc-passed false false true e = absurd (omega arith)
+arc-passed false false false e = (refl, refl, refl)
+
+budget-passed : (x z : Bool) → cond x bad-budget (cond z history-full 0) ≡ 0 → (x ≡ false) × (z ≡ false)
+budget-passed true z e = absurd (omega arith)
+budget-passed false true e = absurd (omega arith)
+budget-passed false false e = (refl, refl)
+
+pub record Unrefused (s : Instance) (k t h : ℕ) : Type 0 where
+  pub arc : is-arc s t h ≡ true
+  pub few : k < max-records
+
+pub unrefused : (s : Instance) (k t h : ℕ) → mark-refusal s k t h ≡ 0 → Unrefused s k t h
+unfolding mark-refusal
+unrefused s k t h e =
+    let p = arc-passed (not (ltb t (s .n) && ltb h (s .n))) (not (is-arc s t h)) (leb max-records k) e in
+    record { arc = not-false (is-arc s t h) (p .1); few = leb-false max-records k (p .2) }
+
+-- a refusal looks at vertices, root and weights alone
+pub mark-refusal-of : (s : Instance) (k t h : ℕ) → mark-refusal (unmarked (s .n) (s .root) (s .weights)) k t h ≡ mark-refusal s k t h
+unfolding mark-refusal is-arc weight unmarked
+mark-refusal-of s k t h = refl
+
+module _ (m : Mark) (t h : ℕ) (b : Model) where
+  pub mark-accepted :
+      mark-refusal (b .instance) (length (b .history)) t h ≡ 0 →
+      marked m t h b ≡ accepted (old-mark t h (mark (b .instance) t h)) (with-mark (mark-number m) t h (b .instance)) b
+  unfolding marked decided
+  mark-accepted e = rw e
+
+  pub mark-refused :
+      (mark-refusal (b .instance) (length (b .history)) t h ≡ 0 → ⊥) → marked m t h b ≡ refused (mark-refusal (b .instance) (length (b .history)) t h) b
+  unfolding marked
+  mark-refused n = decided-refused (mark-refusal (b .instance) (length (b .history)) t h) _ b n
+
+module _ (P : Result → Type 0) (b : Model) (r : (k : ℕ) → P (refused (suc k) b)) where
+  pub mark-cases :
+      (m : Mark) (t h : ℕ) → (is-arc (b .instance) t h ≡ true → length (b .history) < max-records →
+      P (accepted (old-mark t h (mark (b .instance) t h)) (with-mark (mark-number m) t h (b .instance)) b)) → P (marked m t h b)
+  unfolding marked
+  mark-cases m t h a =
+      decided-cases P (mark-refusal (b .instance) (length (b .history)) t h) _ b r
+      (λ e. let u = unrefused (b .instance) (length (b .history)) t h e in a (u .arc) (u .few))
+
+  pub budget-cases :
+      (v : ℕ) → (v ≤ max-budget → length (b .history) < max-records →
+      P (accepted (old-budget (b .instance .budget)) (with-budget v (b .instance)) b)) → P (budgeted v b)
+  unfolding budgeted budget-refusal
+  budget-cases v a =
+      let L = length (b .history) in
+      decided-cases P (budget-refusal L v) _ b r
+      (λ e.
+      let p = budget-passed (ltb max-budget v) (leb max-records L) e in
+      a (ltb-false max-budget v (p .0)) (leb-false max-records L (p .1)))
+
+-- UNDO RIGHT AFTER AN ACCEPTED COMMAND RESTORES THE WHOLE BOARD
+abbrev Undone-by-undo : Model → Result → Type 0
+Undone-by-undo b d = d .answer ≡ 0 → applied undo (d .board) ≡ record { answer = 0; board = b }
+
+refused-undone : (b : Model) (k : ℕ) → Undone-by-undo b (refused (suc k) b)
+unfolding refused
+refused-undone b k e = absurd (omega arith)
+
+-- setting a mark and setting the old one again leaves the marks as they were, even past their end
+pub mark-back : (s : Instance) (m t h : ℕ) → with-mark (mark s t h) t h (with-mark m t h s) ≡ s
+unfolding with-mark mark
+mark-back s m t h =
+    let e : set (set (s .marks) (cell t h) m) (cell t h) (mark-at s (cell t h)) ≡ s .marks =
+    set-set (s .marks) (cell t h) m _ ∙ set-getD (s .marks) (cell t h) free in
+    λ j. record { n = s .n; root = s .root; budget = s .budget; weights = s .weights; marks = e j }
+
+mark-undone : (b : Model) (m t h : ℕ) → Undone-by-undo b (accepted (old-mark t h (mark (b .instance) t h)) (with-mark m t h (b .instance)) b)
+unfolding accepted applied undone restored
+mark-undone b m t h e = λ j. record { answer = 0; board = record { instance = mark-back (b .instance) m t h j; history = b .history } }
+
+budget-undone : (b : Model) (v : ℕ) → Undone-by-undo b (accepted (old-budget (b .instance .budget)) (with-budget v (b .instance)) b)
+unfolding accepted applied undone restored with-budget
+budget-undone b v e = refl
+
+pub undo-restores :
+    (c : Command) (b : Model) → is-undo c ≡ false → applied c b .answer ≡ 0 → applied undo (applied c b .board) ≡ record { answer = 0; board = b }
+unfolding applied is-undo
+undo-restores (set-mark m t h) b n = mark-cases (Undone-by-undo b) b (refused-undone b) m t h (λ _ _. mark-undone b (mark-number m) t h)
+undo-restores (set-budget v) b n = budget-cases (Undone-by-undo b) b (refused-undone b) v (λ _ _. budget-undone b v)
+undo-restores undo b n = absurd (true≢false n)
+
+-- RECORDS: an accepted command adds one, and undo adds none
+abbrev pub Recorded : Model → Result → Type 0
+Recorded b d = d .answer ≡ 0 → (o : Replaced) × (d .board .history ≡ o ∷ b .history)
+
+refused-recorded : (b : Model) (k : ℕ) → Recorded b (refused (suc k) b)
+unfolding refused
+refused-recorded b k e = absurd (omega arith)
+
+accepted-recorded : (b : Model) (o : Replaced) (s : Instance) → Recorded b (accepted o s b)
+unfolding accepted
+accepted-recorded b o s e = (o, refl)
+
+pub command-recorded : (c : Command) (b : Model) → is-undo c ≡ false → Recorded b (applied c b)
+unfolding applied is-undo
+command-recorded (set-mark m t h) b n = mark-cases (Recorded b) b (refused-recorded b) m t h (λ _ _. accepted-recorded b _ _)
+command-recorded (set-budget v) b n = budget-cases (Recorded b) b (refused-recorded b) v (λ _ _. accepted-recorded b _ _)
+command-recorded undo b n = absurd (true≢false n)
+
+undone-shorter : (rs : List Replaced) (b : Model) → b .history ≡ rs → length (undone rs b .board .history) ≤ length (b .history)
+unfolding undone refused
+undone-shorter [] b e = omega arith
+undone-shorter (r ∷ rs) b e = omega (arith, ap length e)
+
+pub undo-shorter : (b : Model) → length (applied undo b .board .history) ≤ length (b .history)
+unfolding applied
+undo-shorter b = undone-shorter (b .history) b refl

@@ -1,0 +1,162 @@
+-- What is effective by a log, entry by entry; and that the mark of a cell that is no arc is always the card's. Assumes
+-- nothing.
+use mathlib.Core.Path.{_≡_, refl, sym, ap, _∙_}
+use mathlib.Core.Bool.{Bool, true, false, _&&_, not, cond}
+use mathlib.Core.List.{List, [], _∷_}
+use Prim.Native.Nat.{ℕ, _/_, _%_, _<_}
+use native.Mathlib.Omega.{arith}
+use native.Mathlib.Decide.{ℕ-discrete}
+use lib.Dec.{ltb, leb, eqb}
+use lib.ListN.{length, getD, set, length-set}
+use lib.Seq.{getD-set-same, getD-set-other}
+use borrow.Author.Tests.{eq-eqb, eqb-true, not-false}
+use Rattle.base.specs.Lists.{tabulate, all-of}
+use Rattle.base.proofs.Tests.{and-not, not-both}
+use Rattle.base.proofs.AllOfLaws.{all-of-first, all-of-rest, all-of-more}
+use Rattle.base.proofs.ListLaws.{length-tabulate, getD-tabulate, tabulate-is}
+use Rattle.instance.specs.Limits.{max-vertices, max-budget, free, max-records, cells}
+use Rattle.instance.specs.Refusals.{bad-budget, history-full}
+use Rattle.instance.specs.Marks.{mark-number}
+use Rattle.instance.specs.Instance.{Instance, cell, mark-at, mark, is-arc}
+use Rattle.instance.specs.declared.Mark.{Mark}
+use Rattle.commands.specs.Model.{with-mark, with-budget}
+use Rattle.commands.specs.Commands.{Command, set-mark, set-budget, undo}
+use Rattle.commands.specs.Log.{Entry, entry-mark, entry-budget, Log, Noted, new-log, with-entries, unnoted, noted, note-arcs, note-mark, note-budget, note-undo, note, log-length, log-after}
+use Rattle.commands.specs.Effective.{effective-mark, effective-budget, effective}
+
+-- what is effective with these entries on a card
+abbrev pub over : List Entry → Instance → Instance
+over es s = effective (record { card = s; entries = es })
+
+-- THE EFFECTIVE INSTANCE, entry by entry
+pub over-none : (s : Instance) → length (s .marks) ≡ cells → over [] s ≡ s
+unfolding effective effective-budget effective-mark mark
+over-none s l =
+    let g : (i : ℕ) → ℕ = λ i. mark-at s (cell (i / 32) (i % 32)) in
+    let e : s .marks ≡ tabulate cells g =
+    tabulate-is cells (s .marks) g free l (λ i b. let c : cell (i / 32) (i % 32) ≡ i = omega arith in rw c) in
+    λ j. record { n = s .n; root = s .root; budget = s .budget; weights = s .weights; marks = sym e j }
+
+-- the marks after one more entry, cell by cell
+mark-over :
+    (s : Instance) (es : List Entry) (m t h : ℕ) → t < max-vertices → h < max-vertices → (i : ℕ) → i < cells → Dec (i ≡ cell t h) →
+    getD (set (tabulate cells (λ i. effective-mark es s (i / 32) (i % 32))) (cell t h) m) i free
+    ≡ cond (eqb (i / 32) t && eqb (i % 32) h) m (effective-mark es s (i / 32) (i % 32))
+mark-over s es m t h lt lh i b (yes e) =
+    let g : (i : ℕ) → ℕ = λ i. effective-mark es s (i / 32) (i % 32) in
+    let l = tabulate cells g in
+    let q : i / 32 ≡ t = omega arith in
+    let r : i % 32 ≡ h = omega arith in
+    ap (λ (k : ℕ). getD (set l (cell t h) m) k free) e ∙ getD-set-same l (cell t h) m free (omega (arith, length-tabulate cells g))
+    ∙ simp (eq-eqb (i / 32) t q, eq-eqb (i % 32) h r)
+mark-over s es m t h lt lh i b (no k) =
+    let g : (i : ℕ) → ℕ = λ i. effective-mark es s (i / 32) (i % 32) in
+    getD-set-other (tabulate cells g) (cell t h) i m free k ∙ getD-tabulate cells g i free b
+    ∙ simp (and-not (eqb (i / 32) t) (eqb (i % 32) h) (λ u v. k (omega (arith, eqb-true (i / 32) t u, eqb-true (i % 32) h v))))
+
+pub over-mark :
+    (s : Instance) (es : List Entry) (m : Mark) (t h : ℕ) → t < max-vertices → h < max-vertices →
+    with-mark (mark-number m) t h (over es s) ≡ over (entry-mark m t h ∷ es) s
+unfolding effective effective-budget effective-mark with-mark
+over-mark s es m t h lt lh =
+    let g : (i : ℕ) → ℕ = λ i. effective-mark es s (i / 32) (i % 32) in
+    let l = set (tabulate cells g) (cell t h) (mark-number m) in
+    let e : l ≡ tabulate cells (λ i. cond (eqb (i / 32) t && eqb (i % 32) h) (mark-number m) (g i)) =
+    tabulate-is cells l _ free (length-set (tabulate cells g) (cell t h) (mark-number m) ∙ length-tabulate cells g)
+    (λ i b. mark-over s es (mark-number m) t h lt lh i b (ℕ-discrete i (cell t h))) in
+    λ j. record { n = s .n; root = s .root; budget = effective-budget es s; weights = s .weights; marks = e j }
+
+pub over-budget : (s : Instance) (es : List Entry) (v : ℕ) → with-budget v (over es s) ≡ over (entry-budget v ∷ es) s
+unfolding effective effective-budget effective-mark with-budget
+over-budget s es v = refl
+
+pub budget-back : (s : Instance) (es : List Entry) (v : ℕ) → with-budget (over es s .budget) (over (entry-budget v ∷ es) s) ≡ over es s
+unfolding effective effective-budget effective-mark with-budget
+budget-back s es v = refl
+
+-- A CELL THAT IS NO ARC: every entry of a log that began empty names an arc of its card
+abbrev pub on-arc : Instance → Entry → Bool
+on-arc s (entry-mark m t h) = is-arc s t h
+on-arc s (entry-budget v) = true
+
+-- a log of a card, all of whose entries name arcs
+pub record On-arcs (s : Instance) (k : Log) : Type 0 where
+  pub card : k .card ≡ s
+  pub entries : all-of (on-arc s) (k .entries) ≡ true
+
+pub new-on-arcs : (s : Instance) → On-arcs s (new-log s)
+unfolding new-log all-of
+new-on-arcs s = record { card = refl; entries = refl }
+
+module _ (s : Instance) where
+  unnoted-on-arcs : (a : ℕ) (k : Log) → On-arcs s k → On-arcs s (unnoted a k .log)
+  unfolding unnoted
+  unnoted-on-arcs a k n = n
+
+  noted-on-arcs : (e : Entry) (k : Log) → on-arc s e ≡ true → On-arcs s k → On-arcs s (noted (e ∷ k .entries) k .log)
+  unfolding noted with-entries
+  noted-on-arcs e k a n = record { card = n .card; entries = all-of-more (on-arc s) e (k .entries) a (n .entries) }
+
+  arcs-on-arcs : (x y z : Bool) (e : Entry) (k : Log) → On-arcs s k → (y ≡ false → on-arc s e ≡ true) → On-arcs s (note-arcs x y z e k .log)
+  unfolding note-arcs
+  arcs-on-arcs true y z e k n h = unnoted-on-arcs _ k n
+  arcs-on-arcs false true z e k n h = unnoted-on-arcs _ k n
+  arcs-on-arcs false false true e k n h = unnoted-on-arcs _ k n
+  arcs-on-arcs false false false e k n h = noted-on-arcs e k (h refl) n
+
+  budget-on-arcs : (x z : Bool) (d : Noted) (k : Log) → On-arcs s k → On-arcs s (d .log) →
+      On-arcs s (cond x (unnoted bad-budget k) (cond z (unnoted history-full k) d) .log)
+  budget-on-arcs true z d k n h = unnoted-on-arcs _ k n
+  budget-on-arcs false true d k n h = unnoted-on-arcs _ k n
+  budget-on-arcs false false d k n h = h
+
+  undo-on-arcs : (es : List Entry) (k : Log) → k .entries ≡ es → On-arcs s k → On-arcs s (note-undo es k .log)
+  unfolding note-undo unnoted noted with-entries
+  undo-on-arcs [] k q n = n
+  undo-on-arcs (e ∷ es) k q n = record { card = n .card; entries = all-of-rest (on-arc s) e es (rw q at (n .entries)) }
+
+  pub note-on-arcs : (c : Command) (k : Log) → On-arcs s k → On-arcs s (note c k .log)
+  unfolding note note-mark note-budget
+  note-on-arcs (set-mark m t h) k n =
+      arcs-on-arcs (not (ltb t (k .card .n) && ltb h (k .card .n))) (not (is-arc (k .card) t h)) (leb max-records (log-length k)) (entry-mark m t h) k n
+      (λ y. rw (n .card) at (not-false (is-arc (k .card) t h) y))
+  note-on-arcs (set-budget v) k n =
+      budget-on-arcs (ltb max-budget v) (leb max-records (log-length k)) _ k n (noted-on-arcs (entry-budget v) k refl n)
+  note-on-arcs undo k n = undo-on-arcs (k .entries) k refl n
+
+  pub log-on-arcs : (cs : List Command) (k : Log) → On-arcs s k → On-arcs s (log-after cs k)
+  unfolding log-after
+  log-on-arcs [] k n = n
+  log-on-arcs (c ∷ cs) k n = log-on-arcs cs (note c k .log) (note-on-arcs c k n)
+
+  mark-elsewhere : (es : List Entry) (t h : ℕ) → all-of (on-arc s) es ≡ true → is-arc s t h ≡ false → effective-mark es s t h ≡ mark s t h
+  unfolding effective-mark
+  mark-elsewhere [] t h a e = refl
+  mark-elsewhere (entry-mark m u v ∷ es) t h a e =
+      let other : eqb t u && eqb h v ≡ false =
+      and-not (eqb t u) (eqb h v)
+      (λ p q. not-both (is-arc s t h) (rw (eqb-true t u p, eqb-true h v q) (all-of-first (on-arc s) (entry-mark m u v) es a)) e) in
+      rw other (mark-elsewhere es t h (all-of-rest (on-arc s) (entry-mark m u v) es a) e)
+  mark-elsewhere (entry-budget v ∷ es) t h a e = mark-elsewhere es t h (all-of-rest (on-arc s) (entry-budget v) es a) e
+
+  -- by the index of the cell, and by its ends
+  pub cell-elsewhere : (k : Log) → On-arcs s k → (i : ℕ) → i < cells → is-arc s (i / 32) (i % 32) ≡ false → mark-at (effective k) i ≡ mark-at s i
+  unfolding effective mark
+  cell-elsewhere k n i b e =
+      let at : cell (i / 32) (i % 32) ≡ i = omega arith in
+      let as-card : effective-mark (k .entries) s (i / 32) (i % 32) ≡ mark-at s i = rw at at (mark-elsewhere (k .entries) (i / 32) (i % 32) (n .entries) e) in
+      rw (getD-tabulate cells (λ j. effective-mark (k .entries) (k .card) (j / 32) (j % 32)) i free b, n .card) as-card
+
+  -- ANY LIST OF COMMANDS on a card leaves the marks of the cells that are no arc as the card has them
+  pub effective-cell-elsewhere :
+      (cs : List Command) (i : ℕ) → i < cells → is-arc s (i / 32) (i % 32) ≡ false → mark-at (effective (log-after cs (new-log s))) i ≡ mark-at s i
+  effective-cell-elsewhere cs i b e = cell-elsewhere (log-after cs (new-log s)) (log-on-arcs cs (new-log s) (new-on-arcs s)) i b e
+
+  pub effective-elsewhere :
+      (cs : List Command) (t h : ℕ) → t < max-vertices → h < max-vertices → is-arc s t h ≡ false →
+      mark (effective (log-after cs (new-log s))) t h ≡ mark s t h
+  unfolding mark
+  effective-elsewhere cs t h lt lh e =
+      let q : cell t h / 32 ≡ t = omega arith in
+      let r : cell t h % 32 ≡ h = omega arith in
+      effective-cell-elsewhere cs (cell t h) (omega arith) (rw (q, r) e)

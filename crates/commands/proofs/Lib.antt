@@ -1,0 +1,10 @@
+-- Laws of the commands, of valid boards, of the log and of boards that are the same; lists of commands computed.
+-- Assumes nothing.
+pub mod CommandLaws
+pub mod ValidLaws
+pub mod AnsweredLaws
+pub mod ChangeLaws
+pub mod EffectiveLaws
+pub mod LogLaws
+pub mod SameBoardLaws
+pub mod WorkedCommands

@@ -1,0 +1,192 @@
+-- Every list of commands gets the log's answers, and leaves the effective instance.
+--
+-- The idea: a board and a log are tied if the board's instance is the effective one and each record of the history,
+-- applied to what is effective with the entries down to its own, leaves what is effective without that entry. One
+-- command keeps them tied: a new entry comes with the record that takes it back, and undo is that very fact about the
+-- first of both lists. Assumes nothing.
+use mathlib.Core.Path.{_≡_, refl, sym, ap}
+use mathlib.Core.Bool.{Bool, true, false, _&&_, not, cond}
+use mathlib.Core.List.{List, [], _∷_}
+use Prim.Native.Nat.{ℕ, suc, _≤_, _<_}
+use native.Mathlib.Omega.{arith}
+use lib.Dec.{ltb, leb}
+use lib.ListN.{length}
+use borrow.Author.Tests.{ltb-true, not-false}
+use Rattle.base.proofs.Tests.{and-left, and-right}
+use Rattle.instance.specs.Limits.{max-vertices, max-budget, max-records, cells}
+use Rattle.instance.specs.Refusals.{bad-budget, history-full}
+use Rattle.instance.specs.Marks.{mark-number}
+use Rattle.instance.specs.Instance.{Instance, weight, mark, is-arc}
+use Rattle.instance.specs.Valid.{valid-instance}
+use Rattle.instance.specs.declared.Mark.{Mark}
+use Rattle.commands.specs.Model.{Replaced, old-mark, old-budget, Model, opened, with-mark, with-budget, restored}
+use Rattle.commands.specs.Valid.{valid}
+use Rattle.commands.specs.Commands.{Command, set-mark, set-budget, undo, Result, refused, accepted, decided, arc-refusal, mark-refusal, marked, budget-refusal, budgeted, undone, applied, answered, answers, board-after}
+use Rattle.commands.specs.Log.{Entry, entry-mark, entry-budget, Log, Noted, new-log, with-entries, log-length, unnoted, noted, note-arcs, note-mark, note-budget, note-undo, note, log-answers, log-after}
+use Rattle.commands.specs.Effective.{effective}
+use Rattle.commands.proofs.CommandLaws.{mark-back}
+use Rattle.commands.proofs.ValidLaws.{valid-parts, opened-valid}
+use Rattle.commands.proofs.AnsweredLaws.{answered-applied, applied-valid}
+use Rattle.commands.proofs.EffectiveLaws.{over, over-none, over-mark, over-budget, budget-back}
+
+-- TIED
+-- each record takes its entry back
+abbrev pub Undoes : List Replaced → List Entry → Instance → Type 0
+Undoes [] [] s = Unit {0}
+Undoes [] (e ∷ es) s = ⊥
+Undoes (r ∷ rs) [] s = ⊥
+Undoes (r ∷ rs) (e ∷ es) s = (restored r (over (e ∷ es) s) ≡ over es s) × Undoes rs es s
+
+undoes-length : (rs : List Replaced) (es : List Entry) (s : Instance) → Undoes rs es s → length rs ≡ length es
+undoes-length [] [] s u = refl
+undoes-length [] (e ∷ es) s u = absurd u
+undoes-length (r ∷ rs) [] s u = absurd u
+undoes-length (r ∷ rs) (e ∷ es) s u = ap suc (undoes-length rs es s (u .1))
+
+pub record Tied (b : Model) (k : Log) : Type 0 where
+  pub same-instance : b .instance ≡ effective k
+  pub undoes : Undoes (b .history) (k .entries) (k .card)
+  pub small : k .card .n ≤ max-vertices
+
+pub record Step (d : Result) (t : Noted) : Type 0 where
+  pub same-answer : d .answer ≡ t .answer
+  pub tied : Tied (d .board) (t .log)
+
+pub tied-length : (b : Model) (k : Log) → Tied b k → length (b .history) ≡ length (k .entries)
+tied-length b k t = undoes-length (b .history) (k .entries) (k .card) (t .undoes)
+
+pub opened-tied : (s : Instance) → s .n ≤ max-vertices → length (s .marks) ≡ cells → Tied (opened s) (new-log s)
+unfolding opened new-log
+opened-tied s l e = record { same-instance = sym (over-none s e); undoes = tt; small = l }
+
+-- ONE COMMAND. The board of a log with its history: the instance is given, so that the tests of both sides are the same
+abbrev on : Log → List Replaced → Model
+on k rs = record { instance = effective k; history = rs }
+
+refused-step : (a : ℕ) (b : Model) (k : Log) → Tied b k → Step (refused a b) (unnoted a k)
+unfolding refused unnoted
+refused-step a b k t = record { same-answer = refl; tied = t }
+
+arc-tests :
+    (x y z : Bool) (b : Model) (k : Log) (d : Result) (e : Entry) → Tied b k → (x ≡ false → Step d (noted (e ∷ k .entries) k)) →
+    Step (decided (arc-refusal x y z) d b) (note-arcs x y z e k)
+unfolding decided arc-refusal note-arcs
+arc-tests true y z b k d e t q = refused-step _ b k t
+arc-tests false true z b k d e t q = refused-step _ b k t
+arc-tests false false true b k d e t q = refused-step _ b k t
+arc-tests false false false b k d e t q = q refl
+
+budget-tests :
+    (x z : Bool) (b : Model) (k : Log) (d : Result) (n : Noted) → Tied b k → Step d n →
+    Step (decided (cond x bad-budget (cond z history-full 0)) d b) (cond x (unnoted bad-budget k) (cond z (unnoted history-full k) n))
+unfolding decided
+budget-tests true z b k d n t q = refused-step _ b k t
+budget-tests false true b k d n t q = refused-step _ b k t
+budget-tests false false b k d n t q = q
+
+mark-accepted :
+    (m : Mark) (t h : ℕ) (k : Log) (rs : List Replaced) → Tied (on k rs) k → t < max-vertices → h < max-vertices →
+    Step (accepted (old-mark t h (mark (effective k) t h)) (with-mark (mark-number m) t h (effective k)) (on k rs)) (noted (entry-mark m t h ∷ k .entries) k)
+unfolding accepted noted with-entries restored
+mark-accepted m t h k rs d lt lh =
+    let e = over-mark (k .card) (k .entries) m t h lt lh in
+    record {
+      same-answer = refl;
+      tied = record { same-instance = e; undoes = (rw (← e) (mark-back (effective k) (mark-number m) t h), d .undoes); small = d .small };
+    }
+
+budget-accepted :
+    (v : ℕ) (k : Log) (rs : List Replaced) → Tied (on k rs) k →
+    Step (accepted (old-budget (effective k .budget)) (with-budget v (effective k)) (on k rs)) (noted (entry-budget v ∷ k .entries) k)
+unfolding accepted noted with-entries restored
+budget-accepted v k rs d =
+    record {
+      same-answer = refl;
+      tied = record {
+        same-instance = over-budget (k .card) (k .entries) v;
+        undoes = (budget-back (k .card) (k .entries) v, d .undoes);
+        small = d .small;
+      };
+    }
+
+mark-step : (m : Mark) (t h : ℕ) (k : Log) (rs : List Replaced) → Tied (on k rs) k → Step (marked m t h (on k rs)) (note-mark m t h k)
+unfolding marked mark-refusal note-mark log-length is-arc weight effective
+mark-step m t h k rs d =
+    let s = k .card in
+    let L = ltb t (s .n) in
+    let R = ltb h (s .n) in
+    rw (tied-length (on k rs) k d)
+    (arc-tests (not (L && R)) (not (is-arc s t h)) (leb max-records (length (k .entries))) (on k rs) k
+    (accepted (old-mark t h (mark (effective k) t h)) (with-mark (mark-number m) t h (effective k)) (on k rs)) (entry-mark m t h) d
+    (λ e.
+    let i = not-false (L && R) e in
+    mark-accepted m t h k rs d (omega (arith, ltb-true t (s .n) (and-left L R i), d .small)) (omega (arith, ltb-true h (s .n) (and-right L R i), d .small))))
+
+budget-step : (v : ℕ) (k : Log) (rs : List Replaced) → Tied (on k rs) k → Step (budgeted v (on k rs)) (note-budget v k)
+unfolding budgeted budget-refusal note-budget log-length
+budget-step v k rs d =
+    rw (tied-length (on k rs) k d)
+    (budget-tests (ltb max-budget v) (leb max-records (length (k .entries))) (on k rs) k
+    (accepted (old-budget (effective k .budget)) (with-budget v (effective k)) (on k rs)) (noted (entry-budget v ∷ k .entries) k) d
+    (budget-accepted v k rs d))
+
+undo-step :
+    (s : Instance) (es : List Entry) (rs : List Replaced) → Tied (on (record { card = s; entries = es }) rs) (record { card = s; entries = es }) →
+    Step (undone rs (on (record { card = s; entries = es }) rs)) (note-undo es (record { card = s; entries = es }))
+unfolding undone note-undo refused unnoted noted with-entries
+undo-step s [] [] d = record { same-answer = refl; tied = d }
+undo-step s (e ∷ es) [] d = absurd (d .undoes)
+undo-step s [] (r ∷ rs) d = absurd (d .undoes)
+undo-step s (e ∷ es) (r ∷ rs) d =
+    record { same-answer = refl; tied = record { same-instance = d .undoes .0; undoes = d .undoes .1; small = d .small } }
+
+on-step : (c : Command) (k : Log) (rs : List Replaced) → Tied (on k rs) k → Step (applied c (on k rs)) (note c k)
+unfolding applied note
+on-step (set-mark m t h) k rs d = mark-step m t h k rs d
+on-step (set-budget v) k rs d = budget-step v k rs d
+on-step undo k rs d = undo-step (k .card) (k .entries) rs d
+
+-- a command keeps the board and the log tied
+pub step-tied : (c : Command) (b : Model) (k : Log) → Tied b k → Step (applied c b) (note c k)
+step-tied c b k t =
+    let e : on k (b .history) ≡ b = λ j. record { instance = sym (t .same-instance) j; history = b .history } in
+    rw e at (on-step c k (b .history) (record { same-instance = refl; undoes = t .undoes; small = t .small }))
+
+-- LISTS OF COMMANDS: the answers xs and the last board b are the log's
+pub record Follows-log (cs : List Command) (k : Log) (xs : List ℕ) (b : Model) : Type 0 where
+  pub answers : xs ≡ log-answers cs k
+  pub instance : b .instance ≡ effective (log-after cs k)
+  pub history-length : length (b .history) ≡ length (log-after cs k .entries)
+
+pub tied-lists : (cs : List Command) (b : Model) (k : Log) → Tied b k → Follows-log cs k (answers applied cs b) (board-after applied cs b)
+unfolding answers board-after log-answers log-after
+tied-lists [] b k t = record { answers = refl; instance = t .same-instance; history-length = tied-length b k t }
+tied-lists (c ∷ cs) b k t =
+    let a = step-tied c b k t in
+    let r = tied-lists cs (applied c b .board) (note c k .log) (a .tied) in
+    record { answers = λ j. a .same-answer j ∷ r .answers j; instance = r .instance; history-length = r .history-length }
+
+-- ANY INSTANCE, whatever it holds, with at most 32 vertices and a mark for each cell
+pub lists-follow :
+    (s : Instance) (cs : List Command) → s .n ≤ max-vertices → length (s .marks) ≡ cells →
+    Follows-log cs (new-log s) (answers applied cs (opened s)) (board-after applied cs (opened s))
+lists-follow s cs l e = tied-lists cs (opened s) (new-log s) (opened-tied s l e)
+
+-- ANY VALID INSTANCE, with the test of validity before each command
+answers-agree : (cs : List Command) (b : Model) → valid b ≡ true → answers answered cs b ≡ answers applied cs b
+unfolding answers
+answers-agree [] b v = refl
+answers-agree (c ∷ cs) b v = rw (answered-applied c b v) (λ j. applied c b .answer ∷ answers-agree cs (applied c b .board) (applied-valid c b v) j)
+
+boards-agree : (cs : List Command) (b : Model) → valid b ≡ true → board-after answered cs b ≡ board-after applied cs b
+unfolding board-after
+boards-agree [] b v = refl
+boards-agree (c ∷ cs) b v = rw (answered-applied c b v) (boards-agree cs (applied c b .board) (applied-valid c b v))
+
+pub valid-lists-follow :
+    (s : Instance) (cs : List Command) → valid-instance s ≡ true → length (s .marks) ≡ cells →
+    Follows-log cs (new-log s) (answers answered cs (opened s)) (board-after answered cs (opened s))
+unfolding opened
+valid-lists-follow s cs v e =
+    let o = opened-valid s v in
+    rw (answers-agree cs (opened s) o, boards-agree cs (opened s) o) (lists-follow s cs (valid-parts (opened s) o .n-high) e)

@@ -1,0 +1,149 @@
+-- Which boards are valid, and what lists of commands answer and leave, on the board and in the log: two lists, each
+-- with one claim about the whole list. The answers, by document 01's own numbers, and what is left are written out
+-- here, so that board and log cannot be wrong alike. Computed. Assumes nothing.
+use mathlib.Core.Path.{_≡_, refl}
+use mathlib.Core.List.{List, [], _∷_, _++_, map}
+use Prim.Native.Nat.{ℕ, _*_, _/_, _%_}
+use lib.ListN.{replicate}
+use Rattle.base.specs.Bounded.{all-below}
+use Rattle.base.specs.Lists.{tabulate-from, tabulate, all-of}
+use Rattle.instance.specs.Limits.{banned}
+use Rattle.instance.specs.Instance.{Instance, weight, mark, can-be-arc, is-arc}
+use Rattle.instance.specs.declared.Mark.the-variants.{Free, Pinned, Banned}
+use Rattle.instance.specs.Valid.{cell-ok, cell-valid, header-valid, valid-instance}
+use Rattle.instance.proofs.WorkedCases.{arc, filled, instance-of, instance-q}
+use Rattle.commands.specs.Model.{Replaced, old-mark, old-budget, Model, opened, with-mark, with-budget, restored}
+use Rattle.commands.specs.Valid.{record-ok, valid}
+use Rattle.commands.specs.Commands.{Command, set-mark, set-budget, undo, refused, accepted, decided, arc-refusal, mark-refusal, marked, budget-refusal, budgeted, undone, applied, answered, answers, board-after}
+use Rattle.commands.specs.Log.{new-log, with-entries, log-length, unnoted, noted, note-arcs, note-mark, note-budget, note-undo, note, log-answers, log-after}
+use Rattle.commands.specs.Effective.{effective-mark, effective-budget, effective}
+
+abbrev pin : (tail head : ℕ) → Command
+pin t h = set-mark Pinned t h
+
+abbrev ban : (tail head : ℕ) → Command
+ban t h = set-mark Banned t h
+
+abbrev clear : (tail head : ℕ) → Command
+clear t h = set-mark Free t h
+
+-- VALID BOARDS
+-- a board, and what a pin of 99→99 answers: 9, or 15 first
+pub record Judged : Type 0 where
+  pub of : Model
+  pub answer : ℕ
+
+abbrev model : (root budget weight mark : ℕ) → List Replaced → Model
+model r b w m rs = record { instance = instance-of 3 r b (arc 0 2 4 ∷ arc 2 0 w ∷ arc 0 1 2000000 ∷ []) (arc 2 0 m ∷ arc 1 1 7 ∷ []); history = rs }
+
+abbrev with-history : List Replaced → Model
+with-history rs = model 1 5 1000000 banned rs
+
+abbrev good : Model → Judged
+good b = record { of = b; answer = 9 }
+
+abbrev bad : Model → Judged
+bad b = record { of = b; answer = 15 }
+
+-- n = 3, root 1, arcs 0→2 and 2→0; 1→2 is no arc, and the cells 0→1 and 1→1 can be none
+unfoldable pub models : List Judged
+models =
+    good (with-history [])
+    -- "a field outside the ranges above, a mark other than 0 on no link"
+    ∷ bad (model 3 5 1000000 banned [])
+    ∷ bad (model 1 31000001 1000000 banned [])
+    ∷ bad (model 1 5 1000001 banned [])
+    ∷ bad (model 1 5 1000000 3 [])
+    ∷ bad (model 1 5 1048575 banned [])
+    -- "more than 200 recorded"
+    ∷ good (with-history (replicate 200 (old-budget 31000000)))
+    ∷ bad (with-history (replicate 201 (old-budget 31000000)))
+    -- "a record naming no link": no arc, into the root, from a vertex to itself, a vertex that is not below n
+    ∷ good (with-history (old-mark 0 2 banned ∷ []))
+    ∷ bad (with-history (old-mark 1 2 0 ∷ []))
+    ∷ bad (with-history (old-mark 0 1 0 ∷ []))
+    ∷ bad (with-history (old-mark 2 2 0 ∷ []))
+    ∷ bad (with-history (old-mark 3 2 0 ∷ []))
+    -- ".. or restoring a value out of range", in an earlier record too
+    ∷ bad (with-history (old-mark 0 2 3 ∷ []))
+    ∷ bad (with-history (old-budget 31000001 ∷ []))
+    ∷ bad (with-history (old-budget 5 ∷ old-mark 0 2 3 ∷ []))
+    ∷ []
+
+-- THE CLAIM ABOUT BOARDS: "On a board, 15 comes first"
+pub judged : map (λ j. answered (pin 99 99) (j .of) .answer) models ≡ map (λ j. j .answer) models
+unfolding
+    models instance-of filled all-below all-of weight can-be-arc is-arc cell-ok cell-valid header-valid valid-instance record-ok valid refused decided
+    arc-refusal mark-refusal marked applied answered
+judged = refl
+
+-- COMMANDS
+-- the answers, and the marks and the budget that are left
+pub record Left : Type 0 where
+  pub answers : List ℕ
+  pub marks : List ℕ
+  pub budget : ℕ
+
+pub record Run : Type 0 where
+  pub from : Instance
+  pub commands : List Command
+  pub leaves : Left
+
+-- n times n marks, tail by tail
+unfoldable pub marks-in : Instance → List ℕ
+marks-in s = tabulate (s .n * s .n) (λ i. mark s (i / s .n) (i % s .n))
+
+unfoldable pub on-board : Instance → List Command → Left
+on-board s cs =
+    let b = board-after applied cs (opened s) in
+    record { answers = answers applied cs (opened s); marks = marks-in (b .instance); budget = b .instance .budget }
+
+unfoldable pub in-log : Instance → List Command → Left
+in-log s cs =
+    let t = effective (log-after cs (new-log s)) in
+    record { answers = log-answers cs (new-log s); marks = marks-in t; budget = t .budget }
+
+unfoldable pub runs : List Run
+runs =
+    -- "Undoing a pin by setting the link free, where a ban stood before": one that a command set, and one that the card
+    -- has
+    record {
+      from = instance-q 16 [];
+      commands = ban 0 1 ∷ pin 0 1 ∷ undo ∷ [];
+      leaves = record { answers = 0 ∷ 0 ∷ 0 ∷ []; marks = 0 ∷ 2 ∷ 0 ∷ 0 ∷ 0 ∷ 0 ∷ 0 ∷ 0 ∷ 0 ∷ 0 ∷ 0 ∷ 0 ∷ 0 ∷ 0 ∷ 0 ∷ 0 ∷ []; budget = 16 };
+    }
+    ∷ record {
+      from = instance-q 16 (arc 0 1 banned ∷ []);
+      commands = pin 0 1 ∷ pin 2 1 ∷ clear 0 1 ∷ undo ∷ undo ∷ undo ∷ undo ∷ [];
+      leaves = record { answers = 0 ∷ 0 ∷ 0 ∷ 0 ∷ 0 ∷ 0 ∷ 13 ∷ []; marks = 0 ∷ 2 ∷ 0 ∷ 0 ∷ 0 ∷ 0 ∷ 0 ∷ 0 ∷ 0 ∷ 0 ∷ 0 ∷ 0 ∷ 0 ∷ 0 ∷ 0 ∷ 0 ∷ []; budget = 16 };
+    }
+    -- two budgets, and the second taken back
+    ∷ record {
+      from = instance-q 16 [];
+      commands = set-budget 31000000 ∷ set-budget 15 ∷ undo ∷ [];
+      leaves = record { answers = 0 ∷ 0 ∷ 0 ∷ []; marks = replicate 16 0; budget = 31000000 };
+    }
+    -- each refusal, then marks that stay; 196 more make 200, of which the last is taken back and its room used again
+    ∷ record {
+      from = instance-q 16 [];
+      commands =
+          undo ∷ pin 4 1 ∷ ban 1 4 ∷ clear 4 4 ∷ pin 3 2 ∷ ban 1 0 ∷ clear 2 2 ∷ set-budget 31000001 ∷ ban 0 1 ∷ pin 2 1 ∷ clear 0 1 ∷ ban 2 3
+          ∷ (replicate 196 (pin 1 2) ++ (pin 1 2 ∷ clear 3 2 ∷ ban 4 1 ∷ set-budget 31000001 ∷ set-budget 3 ∷ undo ∷ set-budget 3 ∷ ban 0 1 ∷ []));
+      leaves =
+          record {
+            answers =
+                13 ∷ 9 ∷ 9 ∷ 9 ∷ 10 ∷ 10 ∷ 10 ∷ 11 ∷ 0 ∷ 0 ∷ 0 ∷ 0
+                ∷ (replicate 196 0 ++ (12 ∷ 10 ∷ 9 ∷ 11 ∷ 12 ∷ 0 ∷ 0 ∷ 12 ∷ []));
+            marks = 0 ∷ 0 ∷ 0 ∷ 0 ∷ 0 ∷ 0 ∷ 1 ∷ 0 ∷ 0 ∷ 1 ∷ 0 ∷ 2 ∷ 0 ∷ 0 ∷ 0 ∷ 0 ∷ [];
+            budget = 3;
+          };
+    }
+    ∷ []
+
+-- THE CLAIM ABOUT COMMANDS
+pub run : map (λ r. on-board (r .from) (r .commands) ∷ in-log (r .from) (r .commands) ∷ []) runs ≡ map (λ r. r .leaves ∷ r .leaves ∷ []) runs
+unfolding
+    runs on-board in-log marks-in instance-q instance-of filled tabulate-from tabulate weight mark can-be-arc is-arc opened with-mark with-budget
+    restored refused accepted decided arc-refusal mark-refusal marked budget-refusal budgeted undone applied answers board-after new-log with-entries
+    log-length unnoted noted note-arcs note-mark note-budget note-undo note effective-mark effective-budget effective log-answers log-after
+run = refl
