@@ -12,8 +12,9 @@ use Rattle.theory.specs.Readings.{States-read}
 use Rattle.theory.proofs.StateLaws.{states-read}
 use Rattle.card_format.specs.Card.{card-refusal, instance-in}
 use Rattle.card.specs.declared.write.Written.{Written}
-use Rattle.board.specs.Model.{Command}
-use Rattle.board.specs.Log.{Log, new-log, note, log-answers, log-after, effective}
+use Rattle.commands.specs.Commands.{Command}
+use Rattle.commands.specs.Log.{Log, new-log, note, log-answers, log-after}
+use Rattle.commands.specs.Effective.{effective}
 use Rattle.board.specs.ModelOf.{instance-of}
 use Rattle.board.specs.declared.Board.{Board}
 use Rattle.board.specs.declared.Answered.{Answered}

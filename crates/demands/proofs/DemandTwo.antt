@@ -19,10 +19,10 @@ use Rattle.theory.specs.Readings.{Outcome-reads}
 use Rattle.theory.proofs.Duality.{weak-duality, no-entry}
 use Rattle.theory.proofs.MarkLaws.{pinned-used, banned-unused}
 use Rattle.theory.proofs.OutcomeLaws.{plan-not-none, over-not-none, outcome-reads}
-use Rattle.board.specs.Model.{valid}
+use Rattle.commands.specs.Valid.{valid}
 use Rattle.board.specs.ModelOf.{model-of, instance-of}
 use Rattle.board.specs.declared.Board.{Board}
-use Rattle.board.proofs.ValidLaws.{valid-parts}
+use Rattle.commands.proofs.ValidLaws.{valid-parts}
 use Rattle.survey.specs.Survey.{Parents-by, Parents-shown, Cuts-shown}
 use Rattle.planner.specs.declared.View.{View}
 use Rattle.planner.specs.declared.View.the-variants.{Shown}

@@ -20,13 +20,13 @@ use Rattle.card.specs.declared.write.Written.{Written}
 use Rattle.card_format.proofs.OpensLaws.{opens}
 use Rattle.card_format.proofs.CardAgain.{card-round-trip}
 use Rattle.card_format.proofs.InstanceAgain.{written-opens, instance-round-trip}
-use Rattle.board.specs.Model.{valid}
+use Rattle.commands.specs.Valid.{valid}
 use Rattle.board.specs.ModelOf.{model-of, instance-of}
 use Rattle.board.specs.declared.Board.{Board}
 use Rattle.board.specs.declared.Answered.{Answered}
 use Rattle.planner.specs.Opening.{opened-from}
 use Rattle.planner.proofs.Learnt.{Opened-by, opened-by, Wrote, wrote}
-use Rattle.board.proofs.ValidLaws.{valid-fields}
+use Rattle.commands.proofs.ValidLaws.{valid-fields}
 use Rattle.planner.proofs.OpeningLaws.{opened-starts, opened-answer, opened-instance}
 
 card-length : (ws : List ℕ) → card-refusal ws ≡ 0 → length ws ≡ bytes-needed (instance-in ws .n)

@@ -4,8 +4,10 @@ use mathlib.Core.Bool.{cond}
 use Prim.Native.Nat.{ℕ, zero, suc, _≤_}
 use native.Mathlib.Omega.{arith}
 use Rattle.instance.specs.Refusals.{invalid-board}
-use Rattle.board.specs.Model.{Command, answered, valid}
-use Rattle.board.specs.ModelOf.{model-of, Answers}
+use Rattle.commands.specs.Commands.{Command, answered}
+use Rattle.commands.specs.Valid.{valid}
+use Rattle.board.specs.ModelOf.{model-of}
+use Rattle.board.specs.Calls.{Answers}
 use Rattle.board.specs.declared.Board.{Board}
 use Rattle.board.specs.declared.Answered.{Answered}
 use Rattle.planner.specs.declared.View.{View}

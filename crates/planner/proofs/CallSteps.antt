@@ -11,13 +11,16 @@ use Rattle.instance.specs.Instance.{Instance}
 use Rattle.instance.specs.Cuts.{words-of}
 use Rattle.instance.specs.States.{shows-tree, total-in, outcome, states}
 use Rattle.theory.proofs.StateLaws.{states-read}
-use Rattle.board.specs.Model.{Command, Result, valid, applied, answered}
-use Rattle.board.specs.Log.{Log, note, unnoted}
-use Rattle.board.specs.ModelOf.{model-of, instance-of, Answers}
+use Rattle.commands.specs.Commands.{Command, Result, applied, answered}
+use Rattle.commands.specs.Valid.{valid}
+use Rattle.commands.specs.Log.{Log, note, unnoted}
+use Rattle.board.specs.ModelOf.{model-of, instance-of}
+use Rattle.board.specs.Calls.{Answers}
 use Rattle.board.specs.declared.Board.{Board}
 use Rattle.board.specs.declared.Answered.{Answered}
-use Rattle.board.proofs.LogLaws.{Tied, step-tied}
-use Rattle.board.proofs.ValidLaws.{valid-parts, answered-applied}
+use Rattle.commands.proofs.LogLaws.{Tied, step-tied}
+use Rattle.commands.proofs.ValidLaws.{valid-parts}
+use Rattle.commands.proofs.AnsweredLaws.{answered-applied}
 use Rattle.board.proofs.CallLaws.{call-board, call-answer, call-valid, call-changes}
 use Rattle.survey.proofs.ShownLaws.{parents-length, words-length}
 use Rattle.planner.specs.declared.View.{View}

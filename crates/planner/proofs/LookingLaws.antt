@@ -15,7 +15,7 @@ use Rattle.instance.specs.Refusals.{buffer-short, invalid-board}
 use Rattle.instance.specs.Instance.{Instance}
 use Rattle.instance.specs.States.{states}
 use Rattle.theory.proofs.StateLaws.{states-read}
-use Rattle.board.specs.Model.{valid}
+use Rattle.commands.specs.Valid.{valid}
 use Rattle.board.specs.ModelOf.{model-of, instance-of}
 use Rattle.board.specs.declared.Board.{Board}
 use Rattle.states.specs.Table.{state-by}

@@ -8,12 +8,14 @@ use borrow.Author.Tests.{eq-eqb, ne-eqb, eqb-true}
 use Rattle.card_format.specs.Card.{card-refusal, instance-in}
 use Rattle.card.specs.Read.{contents-of, contents-with, no-contents}
 use Rattle.card.specs.declared.read.Contents.{Contents}
-use Rattle.board.specs.Model.{opened, valid}
-use Rattle.board.specs.Log.{new-log}
-use Rattle.board.specs.ModelOf.{model-of, instance-of, history-of, board-with, blank}
+use Rattle.commands.specs.Model.{opened}
+use Rattle.commands.specs.Valid.{valid}
+use Rattle.commands.specs.Log.{new-log}
+use Rattle.board.specs.ModelOf.{model-of, instance-of, history-of}
+use Rattle.board.specs.Create.{board-with, blank}
 use Rattle.board.specs.declared.Board.{Board}
-use Rattle.board.proofs.LogLaws.{Tied}
-use Rattle.board.proofs.RunLaws.{new-board-follows}
+use Rattle.commands.proofs.LogLaws.{Tied}
+use Rattle.board.proofs.CreateLaws.{new-board-follows}
 use Rattle.card_format.proofs.OpensLaws.{opened-valid}
 use Rattle.card_format.proofs.OpensLaws.{marks-long}
 use Rattle.board.specs.declared.Answered.{Answered}

@@ -21,13 +21,14 @@ use Rattle.instance.specs.States.{states}
 use Rattle.instance.specs.Cuts.{words-of}
 use Rattle.theory.proofs.StateLaws.{states-read}
 use Rattle.card_format.specs.Card.{card-refusal, instance-in}
-use Rattle.board.specs.Model.{valid}
-use Rattle.board.specs.Log.{Log, new-log, effective}
+use Rattle.commands.specs.Valid.{valid}
+use Rattle.commands.specs.Log.{Log, new-log}
+use Rattle.commands.specs.Effective.{effective}
 use Rattle.board.specs.ModelOf.{model-of, instance-of}
 use Rattle.board.specs.declared.Board.{Board}
 use Rattle.board.specs.declared.Answered.{Answered}
-use Rattle.board.proofs.LogLaws.{Tied}
-use Rattle.board.proofs.ValidLaws.{valid-parts}
+use Rattle.commands.proofs.LogLaws.{Tied}
+use Rattle.commands.proofs.ValidLaws.{valid-parts}
 use Rattle.planner.specs.declared.View.{View}
 use Rattle.planner.specs.declared.View.the-variants.{Refused}
 use Rattle.planner.specs.Looking.{Buffers, short-for, Shows, Looks}

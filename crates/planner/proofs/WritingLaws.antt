@@ -11,10 +11,10 @@ use Rattle.card_format.specs.Card.{bytes-needed, max-card}
 use Rattle.card_format.proofs.LengthLaws.{longest-card}
 use Rattle.card.specs.Write.{written-to}
 use Rattle.card.specs.declared.write.Written.{Written}
-use Rattle.board.specs.Model.{valid}
+use Rattle.commands.specs.Valid.{valid}
 use Rattle.board.specs.ModelOf.{model-of, instance-of}
 use Rattle.board.specs.declared.Board.{Board}
-use Rattle.board.proofs.ValidLaws.{valid-parts}
+use Rattle.commands.proofs.ValidLaws.{valid-parts}
 use Rattle.planner.specs.Writing.{Writes}
 
 pub write-answer : (b : Board) (r : Written) (out out′ : List ℕ) → max-card ≤ length out → Writes b r out out′ → r .answer ≡ cond (valid (model-of b)) 0 invalid-board

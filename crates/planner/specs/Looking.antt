@@ -13,7 +13,7 @@ use Rattle.instance.specs.Refusals.{buffer-short, invalid-board}
 use Rattle.instance.specs.Instance.{Instance}
 use Rattle.instance.specs.States.{outcome, states}
 use Rattle.instance.specs.Cuts.{Cut, words-of}
-use Rattle.board.specs.Model.{valid}
+use Rattle.commands.specs.Valid.{valid}
 use Rattle.board.specs.ModelOf.{model-of, instance-of}
 use Rattle.board.specs.declared.Board.{Board}
 use Rattle.survey.specs.Survey.{Parents-shown, Cuts-shown}

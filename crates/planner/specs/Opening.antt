@@ -5,7 +5,7 @@ use Prim.Native.Nat.{ℕ}
 use lib.Dec.{eqb}
 use Rattle.instance.specs.Instance.{Instance}
 use Rattle.card_format.specs.Card.{card-refusal, instance-in}
-use Rattle.board.specs.ModelOf.{board-with, blank}
+use Rattle.board.specs.Create.{board-with, blank}
 use Rattle.board.specs.declared.Board.{Board}
 use Rattle.board.specs.declared.Answered.{Answered}
 

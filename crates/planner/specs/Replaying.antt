@@ -8,10 +8,14 @@ use lib.Dec.{ltb}
 use lib.ListN.{length}
 use Rattle.base.specs.Lists.{in-front}
 use Rattle.instance.specs.Refusals.{buffer-short, invalid-board}
+use Rattle.instance.specs.declared.Mark.the-variants.{Free, Pinned, Banned}
 use Rattle.card_format.specs.Card.{card-refusal, instance-in}
-use Rattle.board.specs.Model.{Command, pin, ban, clear, set-budget, undo, valid, answered}
-use Rattle.board.specs.Log.{Log, new-log, Noted, unnoted, note, effective}
-use Rattle.board.specs.ModelOf.{model-of, Answers}
+use Rattle.commands.specs.Commands.{Command, set-mark, set-budget, undo, answered}
+use Rattle.commands.specs.Valid.{valid}
+use Rattle.commands.specs.Log.{Log, new-log, Noted, unnoted, note}
+use Rattle.commands.specs.Effective.{effective}
+use Rattle.board.specs.ModelOf.{model-of}
+use Rattle.board.specs.Calls.{Answers}
 use Rattle.board.specs.declared.Board.{Board}
 use Rattle.board.specs.declared.Answered.{Answered}
 use Rattle.planner.specs.declared.View.{View}
@@ -26,9 +30,9 @@ pub data Call : Type 0 where
 
 -- kinds: 0 pin, 1 ban, 2 clear, 3 budget, 4 take-back, 5 a look, any other number a write
 unfoldable pub call : (kind first second : ℕ) → Call
-call zero a b = command (pin a b)
-call (suc zero) a b = command (ban a b)
-call (suc (suc zero)) a b = command (clear a b)
+call zero a b = command (set-mark Pinned a b)
+call (suc zero) a b = command (set-mark Banned a b)
+call (suc (suc zero)) a b = command (set-mark Free a b)
 call (suc (suc (suc zero))) a b = command (set-budget a)
 call (suc (suc (suc (suc zero)))) a b = command undo
 call (suc (suc (suc (suc (suc zero))))) a b = look

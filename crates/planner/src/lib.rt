@@ -8,11 +8,11 @@ pub mod writing; // writing.rt: a board written as a card
 
 pub use board::Answered;
 pub use board::Board;
-pub use board::commands::ban;
-pub use board::commands::clear;
-pub use board::commands::pin;
-pub use board::commands::set_budget;
-pub use board::commands::take_back;
+pub use board::calls::ban;
+pub use board::calls::clear;
+pub use board::calls::pin;
+pub use board::calls::set_budget;
+pub use board::calls::take_back;
 pub use card::write::Written;
 pub use instance::Outcome;
 pub use instance::Vertex;

@@ -3,7 +3,7 @@ ghost use mathlib.Core.Path.{_≡_};
 ghost use mathlib.Core.Bool.{cond};
 ghost use Prim.Native.Nat.{_<_};
 ghost use Rattle.instance.specs.Refusals.{invalid-board};
-ghost use Rattle.board.specs.Model.{valid};
+ghost use Rattle.commands.specs.Valid.{valid};
 ghost use Rattle.board.specs.ModelOf.{model-of, command-of};
 ghost use Rattle.planner.specs.Looking.{buffers, answer-of};
 ghost use Rattle.planner.specs.Replaying.{call, Makes, unfit, Replays};
@@ -16,8 +16,9 @@ use crate::writing::write_card;
 use board::Answered;
 use board::Board;
 use board::Command;
-use board::commands::execute;
+use board::calls::execute;
 use card::MAX_CARD;
+use instance::Mark;
 use instance::Vertex;
 use instance::refusals::BUFFER_SHORT;
 
@@ -38,13 +39,13 @@ fn command_at(kind: u8, first: u32, second: u32) -> Command
     ensures { λ r. ⌜ calls.command (command-of r) ≡ call kind first second ⌝ }
 {
     if kind == 0 {
-        return Command::Pin(Vertex(first), Vertex(second));
+        return Command::SetMark(Mark::Pinned, Vertex(first), Vertex(second));
     }
     if kind == 1 {
-        return Command::Ban(Vertex(first), Vertex(second));
+        return Command::SetMark(Mark::Banned, Vertex(first), Vertex(second));
     }
     if kind == 2 {
-        return Command::Clear(Vertex(first), Vertex(second));
+        return Command::SetMark(Mark::Free, Vertex(first), Vertex(second));
     }
     if kind == 3 {
         return Command::SetBudget(first);

@@ -21,7 +21,7 @@ use Rattle.instance.proofs.ValidLaws.{valid-small}
 use Rattle.theory.proofs.StateLaws.{states-read}
 use Rattle.card_format.specs.Card.{card-refusal}
 use Rattle.card_format.proofs.OpensLaws.{card-refusal-most}
-use Rattle.board.specs.Model.{valid}
+use Rattle.commands.specs.Valid.{valid}
 use Rattle.board.specs.ModelOf.{model-of, instance-of}
 use Rattle.board.specs.declared.Board.{Board}
 use Rattle.planner.specs.declared.View.{View}
@@ -30,7 +30,7 @@ use Rattle.survey.specs.Survey.{Parents-by}
 use Rattle.planner.specs.declared.View.the-variants.{Shown, Refused}
 use Rattle.planner.specs.Opening.{opened-from}
 use Rattle.planner.specs.Looking.{Buffers, too-short, Shows, Looks}
-use Rattle.board.proofs.ValidLaws.{valid-fields}
+use Rattle.commands.proofs.ValidLaws.{valid-fields}
 use Rattle.planner.proofs.CallSteps.{tree-long, looks-long}
 use Rattle.planner.proofs.OpeningLaws.{opened-answer, opened-starts, opened-instance}
 use Rattle.report.specs.declared.Reported.{Reported}

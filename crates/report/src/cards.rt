@@ -3,7 +3,7 @@ ghost use mathlib.Core.Path.{_≡_};
 ghost use mathlib.Core.Bool.{true};
 ghost use Prim.Native.Nat.{_≤_};
 ghost use lib.ListN.{length};
-ghost use Rattle.board.specs.Model.{valid};
+ghost use Rattle.commands.specs.Valid.{valid};
 ghost use Rattle.board.specs.ModelOf.{model-of, instance-of};
 ghost use Rattle.report_text.specs.Whole.{max-text};
 ghost use Rattle.report.specs.Reports.{Reports-instance, Reports};

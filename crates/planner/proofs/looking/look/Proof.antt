@@ -4,11 +4,11 @@ use mathlib.Core.Bool.{true, false}
 use lib.ListN.{length}
 use borrow.Author.Needs.{needs}
 use borrow.Author.Tests.{not-true, not-false}
-use Rattle.board.specs.Model.{valid}
+use Rattle.commands.specs.Valid.{valid}
 use Rattle.board.specs.ModelOf.{model-of, instance-of}
 use Rattle.board.specs.declared.Board.{Board}
-use Rattle.board.proofs.BoardLaws.{Known, known}
-use Rattle.board.proofs.ValidLaws.{Valid, valid-fields, valid-parts}
+use Rattle.board.proofs.ModelOfLaws.{Known, known}
+use Rattle.commands.proofs.ValidLaws.{Valid, valid-fields, valid-parts}
 use Rattle.states.proofs.ShowLaws.{states-shown}
 use Rattle.planner.specs.Looking.{too-short}
 use Rattle.planner.proofs.LookingLaws.{shows, looks-invalid, looks-short, looks-shown, Rooms, rooms}

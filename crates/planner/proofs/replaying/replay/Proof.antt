@@ -7,7 +7,7 @@ use borrow.Author.Needs.{needs}
 use Rattle.card_format.specs.Card.{card-refusal}
 use Rattle.planner.specs.Looking.{buffers}
 use Rattle.board.specs.ModelOf.{model-of}
-use Rattle.board.proofs.ValidLaws.{valid-parts}
+use Rattle.commands.proofs.ValidLaws.{valid-parts}
 use Rattle.planner.proofs.OpeningLaws.{Starts, opened-answer, opened-starts}
 use Rattle.planner.proofs.ReplayingLaws.{Going, fitting, begun, again, not-opened, not-fitting, not-long, ended}
 use Rattle.planner.proofs.replaying.replay.Statement.{statement}

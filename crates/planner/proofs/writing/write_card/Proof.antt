@@ -3,9 +3,9 @@ use mathlib.Core.Path.{_≡_, sym, _∙_}
 use mathlib.Core.Bool.{true, false}
 use borrow.Author.Needs.{needs}
 use borrow.Author.Tests.{not-true, not-false}
-use Rattle.board.specs.Model.{valid}
+use Rattle.commands.specs.Valid.{valid}
 use Rattle.board.specs.ModelOf.{model-of}
-use Rattle.board.proofs.ValidLaws.{valid-parts}
+use Rattle.commands.proofs.ValidLaws.{valid-parts}
 use Rattle.planner.proofs.writing.write_card.Statement.{statement}
 use Rattle.planner.proofs.writing.write_card.Tie as tie
 

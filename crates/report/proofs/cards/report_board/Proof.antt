@@ -2,7 +2,7 @@
 -- text is made of. Assumes nothing.
 use native.Mathlib.Omega.{arith}
 use borrow.Author.Needs.{needs}
-use Rattle.board.proofs.BoardLaws.{known}
+use Rattle.board.proofs.ModelOfLaws.{known}
 use Rattle.report.proofs.ReportLaws.{Text-of, not-refused, text-shown}
 use Rattle.report.proofs.cards.report_board.Statement.{statement}
 use Rattle.report.proofs.cards.report_board.Tie as tie
