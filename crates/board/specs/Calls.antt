@@ -13,13 +13,13 @@ use Rattle.board.specs.declared.UndoRecord.{UndoRecord}
 use Rattle.board.specs.declared.Replaced.the-variants.{OldMark, OldBudget}
 use Rattle.board.specs.ModelOf.{instance-of, history-of, result-of}
 
--- the place of a record that says what was replaced
+-- the record of what was replaced, as the program stores it
 abbrev pub record-of : Replaced → UndoRecord
 record-of (old-mark t h m) = record { replaced = OldMark t h m }
 record-of (old-budget v) = record { replaced = OldBudget v }
 
 -- The record places that are left beside a history: "Each accepted press is recorded", which sets the place at the
--- count; a take-back and a refused call set none, so every place past the count is left as it was.
+-- count; a take-back and a refused call set none, so every later place is left as it was.
 unfoldable pub records-after : Board → (history : List Replaced) → List UndoRecord
 records-after b [] = b .records
 records-after b (o ∷ os) = cond (eqb (length os) (b .count)) (set (b .records) (b .count) (record-of o)) (b .records)
