@@ -2,25 +2,22 @@
 -- under any other condition."); after a refusal the board and all lent buffers are as they were; what is accepted leaves a valid board. (That
 -- every call ends, and that nothing is required of the caller, is what each function's own proof says.) Assumes nothing.
 use mathlib.Core.Path.{_≡_, refl, sym, ap, _∙_, subst}
-use mathlib.Core.Bool.{Bool, true, false, cond, not, _&&_}
+use mathlib.Core.Bool.{Bool, true, false}
 use mathlib.Core.List.{List, [], _∷_}
 use Prim.Native.Nat.{ℕ, zero, suc, _≤_}
 use native.Mathlib.Omega.{arith}
-use lib.Dec.{ltb, leb, eqb}
+use lib.Dec.{ltb, eqb}
 use lib.ListN.{length}
-use borrow.Author.Tests.{ne-eqb}
+use borrow.Author.Tests.{ne-eqb, eqb-true}
 use Rattle.base.proofs.Tests.{or-right}
-use Rattle.base.specs.Lists.{any-of, in-front}
-use Rattle.instance.specs.Limits.{max-records, max-budget}
-use Rattle.instance.specs.Refusals.{card-short, bad-count, bad-length, bad-root, bad-card-budget, bad-weight, bad-mark, bad-filling, no-vertex, no-such-arc, bad-budget, history-full, history-empty, buffer-short, invalid-board}
-use Rattle.instance.specs.Instance.{Instance, is-arc}
-use Rattle.card_format.specs.Card.{card-refusal, bytes-needed, card-of}
+use Rattle.base.specs.Lists.{any-of}
+use Rattle.instance.specs.Refusals.{card-short, bad-count, bad-length, bad-root, bad-card-budget, bad-weight, bad-mark, bad-filling, buffer-short, invalid-board}
+use Rattle.instance.specs.Instance.{Instance}
+use Rattle.card_format.specs.Card.{card-refusal}
 use Rattle.card_format.proofs.OpensLaws.{card-refusal-most}
-use Rattle.card.specs.Write.{written-to, buffer-after}
 use Rattle.card.specs.declared.write.Written.{Written}
-use Rattle.commands.specs.Model.{Replaced, Model}
 use Rattle.commands.specs.Valid.{valid}
-use Rattle.commands.specs.Commands.{Command, set-mark, set-budget, undo, Result, refused, accepted, decided, arc-refusal, mark-refusal, marked, budget-refusal, budgeted, undone, applied, answered}
+use Rattle.commands.specs.Commands.{Command, command-numbers}
 use Rattle.commands.specs.Log.{Log}
 use Rattle.board.specs.ModelOf.{model-of, instance-of}
 use Rattle.board.specs.Create.{blank}
@@ -28,14 +25,19 @@ use Rattle.board.specs.declared.Board.{Board}
 use Rattle.board.specs.declared.Answered.{Answered}
 use Rattle.board.proofs.CallLaws.{call-answer, call-valid}
 use Rattle.board.proofs.RunLaws.{Called, called-answers}
-use Rattle.commands.proofs.AnsweredLaws.{accepted-valid}
+use Rattle.commands.proofs.AnsweredLaws.{accepted-valid, answered-listed}
+use Rattle.text.specs.Buffer.{Filled}
+use Rattle.report_text.specs.Whole.{refused-text, max-text}
+use Rattle.report.specs.declared.Reported.{Reported}
+use Rattle.report.specs.Reports.{Reports-by, Reports}
+use Rattle.report.proofs.Learnt.{Reported-by, reported-by}
 use Rattle.planner.specs.declared.View.{View}
 use Rattle.planner.specs.Opening.{answered-with, opened-from}
-use Rattle.planner.specs.Writing.{Writes}
 use Rattle.planner.specs.Looking.{Buffers, answer-of, short-for, Looks-at, Looks}
 use Rattle.planner.specs.Replaying.{Call, Replays-at, Replays}
 use Rattle.planner.proofs.CallSteps.{shown-answer}
 use Rattle.planner.proofs.Learnt.{Opened-by, opened-by, Looked, looked, Wrote, wrote, Replayed, replayed}
+use Rattle.planner.proofs.WritingLaws.{Way, refused-board, refused-buffer, stored, writes-way}
 use Rattle.planner.proofs.OpeningLaws.{opened-answer, opened-starts}
 
 -- AN ANSWER that some public call gave
@@ -44,17 +46,12 @@ pub data Given : ℕ → Type 0 where
   by-command : {c : Command} {b : Board} {r : Answered} → Called c b r → Given (r .answer)
   by-looking : {b : Board} {v : View} {old new : Buffers} → Looked b v old new → Given (answer-of v)
   by-writing : {b : Board} {r : Written} {out out′ : List ℕ} → Wrote b r out out′ → Given (r .answer)
+  by-reporting : {ws : List ℕ} {r : Reported} {out out′ : List ℕ} → Reported-by ws r out out′ → Given (r .answer)
   by-replaying : {ws ks fs gs : List ℕ} {v : View} {xs xs′ : List ℕ} {old new : Buffers} → Replayed ws ks fs gs v xs xs′ old new → Given (answer-of v)
 
 -- THE NUMBERS OF EACH CALL, 0 for accepted: "Cards: 1 to 5 in that order; then .. 6 before 7 ..; then 8."
 abbrev pub card-numbers : List ℕ
 card-numbers = 0 ∷ card-short ∷ bad-count ∷ bad-length ∷ bad-root ∷ bad-card-budget ∷ bad-weight ∷ bad-mark ∷ bad-filling ∷ []
-
--- "On a board, 15 comes first; then 9, 10, 12 for marks, 11, 12 for budgets, 13 for a take-back"
-abbrev pub command-numbers : Command → List ℕ
-command-numbers (set-mark m t h) = 0 ∷ invalid-board ∷ no-vertex ∷ no-such-arc ∷ history-full ∷ []
-command-numbers (set-budget v) = 0 ∷ invalid-board ∷ bad-budget ∷ history-full ∷ []
-command-numbers undo = 0 ∷ invalid-board ∷ history-empty ∷ []
 
 -- "14 for looks and writes"
 abbrev pub buffer-numbers : List ℕ
@@ -65,10 +62,16 @@ numbers (by-opening p) = card-numbers
 numbers (by-command {c = c} p) = command-numbers c
 numbers (by-looking p) = buffer-numbers
 numbers (by-writing p) = buffer-numbers
+numbers (by-reporting p) = buffer-short ∷ card-numbers
 numbers (by-replaying p) = buffer-short ∷ card-numbers
 
 abbrev pub among : (a : ℕ) → List ℕ → Bool
 among a ns = any-of (eqb a) ns
+
+-- a report that is refused: 14 leaves the buffer as it was; the line of a refused card is what it is to write
+pub record Reports-before (r : Reported) (out out′ : List ℕ) : Type 0 where
+  pub short : r .answer ≡ buffer-short → out′ ≡ out
+  pub line : (r .answer ≡ buffer-short → ⊥) → Filled (refused-text (r .answer)) out out′ (r .length)
 
 -- what a refusal leaves as it was; a card that is refused gives the blank board
 abbrev pub As-before : {a : ℕ} → Given a → Type 0
@@ -76,6 +79,7 @@ As-before (by-opening {o = o} p) = o .board ≡ blank
 As-before (by-command {b = b} {r = r} p) = r .board ≡ b
 As-before (by-looking {old = old} {new = new} p) = new ≡ old
 As-before (by-writing {out = out} {out′ = out′} p) = out′ ≡ out
+As-before (by-reporting {r = r} {out = out} {out′ = out′} p) = Reports-before r out out′
 As-before (by-replaying {xs = xs} {xs′ = xs′} {old = old} {new = new} p) = (xs′ ≡ xs) × (new ≡ old)
 
 -- what an accepted call leaves, where it leaves a board: a valid one
@@ -84,6 +88,7 @@ Leaves-valid (by-opening {o = o} p) = valid (model-of (o .board)) ≡ true
 Leaves-valid (by-command {r = r} p) = valid (model-of (r .board)) ≡ true
 Leaves-valid (by-looking {b = b} p) = valid (model-of b) ≡ true
 Leaves-valid (by-writing {b = b} p) = valid (model-of b) ≡ true
+Leaves-valid (by-reporting {ws = ws} p) = card-refusal ws ≡ 0
 Leaves-valid (by-replaying {ws = ws} p) = card-refusal ws ≡ 0
 
 pub record Demand-1 {a : ℕ} (g : Given a) : Type 0 where
@@ -112,54 +117,6 @@ opened-as-before ws o e n =
     let q : o ≡ answered-with (card-refusal ws) blank = e ∙ rw (ne-eqb (card-refusal ws) 0 z) in
     ap (λ (x : Answered). x .board) q
 
--- COMMANDS
-decided-answer : (a : ℕ) (d : Result) (b : Model) → d .answer ≡ 0 → decided a d b .answer ≡ a
-unfolding decided refused
-decided-answer zero d b e = e
-decided-answer (suc k) d b e = refl
-
-arc-among : (p q r : Bool) → among (arc-refusal p q r) (0 ∷ invalid-board ∷ no-vertex ∷ no-such-arc ∷ history-full ∷ []) ≡ true
-unfolding arc-refusal any-of
-arc-among true q r = refl
-arc-among false true r = refl
-arc-among false false true = refl
-arc-among false false false = refl
-
-budget-among : (p r : Bool) → among (cond p bad-budget (cond r history-full 0)) (0 ∷ invalid-board ∷ bad-budget ∷ history-full ∷ []) ≡ true
-unfolding any-of
-budget-among true r = refl
-budget-among false true = refl
-budget-among false false = refl
-
-undo-among : (rs : List Replaced) (b : Model) → among (undone rs b .answer) (command-numbers undo) ≡ true
-unfolding undone refused any-of
-undo-among [] b = refl
-undo-among (r ∷ rs) b = refl
-
-applied-among : (c : Command) (b : Model) → among (applied c b .answer) (command-numbers c) ≡ true
-unfolding applied marked budgeted accepted mark-refusal budget-refusal
-applied-among (set-mark m t h) b =
-    let s = b .instance in
-    rw (decided-answer (mark-refusal s (length (b .history)) t h) _ b refl)
-    (arc-among (not (ltb t (s .n) && ltb h (s .n))) (not (is-arc s t h)) (leb max-records (length (b .history))))
-applied-among (set-budget v) b =
-    rw (decided-answer (budget-refusal (length (b .history)) v) _ b refl) (budget-among (ltb max-budget v) (leb max-records (length (b .history))))
-applied-among undo b = undo-among (b .history) b
-
-invalid-among : (c : Command) → among invalid-board (command-numbers c) ≡ true
-unfolding any-of
-invalid-among (set-mark m t h) = refl
-invalid-among (set-budget v) = refl
-invalid-among undo = refl
-
-answered-among : (c : Command) (b : Model) → among (answered c b .answer) (command-numbers c) ≡ true
-unfolding answered refused
-answered-among c b = go (valid b)
-  where
-    go : (t : Bool) → among (cond t (applied c b) (refused invalid-board b) .answer) (command-numbers c) ≡ true
-    go true = applied-among c b
-    go false = invalid-among c
-
 -- LOOKS
 module _ (s : Instance) (v : View) (old new : Buffers) where
   looks-at-among : (g t : Bool) → Looks-at g t s v old new → among (answer-of v) buffer-numbers ≡ true
@@ -179,53 +136,51 @@ module _ (s : Instance) (v : View) (old new : Buffers) where
   looks-at-valid true t u e = refl
   looks-at-valid false t u e = absurd (omega (arith, sym e ∙ ap answer-of (u .result)))
 
--- WRITES, by whether the board is valid and the buffer too short
-written-by : (b : Board) (valid short : Bool) → Written
-written-by b false short = record { answer = invalid-board; length = 0 }
-written-by b true true = record { answer = buffer-short; length = 0 }
-written-by b true false = record { answer = 0; length = bytes-needed (b .n) }
-
+-- WRITES
 module _ (b : Board) (r : Written) (out out′ : List ℕ) where
-  abbrev left : (valid short : Bool) → List ℕ
-  left g t = cond g (cond t out (in-front (card-of (instance-of b)) out)) out
+  writes-among : Way b r out out′ → among (r .answer) buffer-numbers ≡ true
+  unfolding any-of
+  writes-among (refused-board e p q) = rw p
+  writes-among (refused-buffer e l p q) = rw p
+  writes-among (stored e l p q) = rw p
 
-  writes-by : Writes b r out out′ → (g t : Bool) × (valid (model-of b) ≡ g) × (r ≡ written-by b g t) × (out′ ≡ left g t)
-  unfolding written-by written-to buffer-after
-  writes-by w = go (valid (model-of b)) refl (ltb (length out) (bytes-needed (b .n))) (w .result) (w .buffer)
-    where
-      go : (g : Bool) → valid (model-of b) ≡ g → (t : Bool)
-          → r ≡ cond {A = Written} g (cond t (record { answer = buffer-short; length = 0 }) (record { answer = 0; length = bytes-needed (b .n) })) (record { answer = invalid-board; length = 0 })
-          → out′ ≡ left g t → (g t : Bool) × (valid (model-of b) ≡ g) × (r ≡ written-by b g t) × (out′ ≡ left g t)
-      go true e true p q = (true, true, e, p, q)
-      go true e false p q = (true, false, e, p, q)
-      go false e t p q = (false, t, e, p, q)
+  writes-as-before : Way b r out out′ → (r .answer ≡ 0 → ⊥) → out′ ≡ out
+  writes-as-before (refused-board e p q) n = q
+  writes-as-before (refused-buffer e l p q) n = q
+  writes-as-before (stored e l p q) n = absurd (n (ap (λ (x : Written). x .answer) p))
 
-  module _ (p : (g t : Bool) × (valid (model-of b) ≡ g) × (r ≡ written-by b g t) × (out′ ≡ left g t)) where
-    writes-among : among (r .answer) buffer-numbers ≡ true
-    unfolding written-by any-of
-    writes-among = go (p .0) (p .1) (p .3)
-      where
-        go : (g t : Bool) → r ≡ written-by b g t → among (r .answer) buffer-numbers ≡ true
-        go true true e = rw e
-        go true false e = rw e
-        go false t e = rw e
+  writes-valid : Way b r out out′ → r .answer ≡ 0 → valid (model-of b) ≡ true
+  writes-valid (refused-board e p q) z = absurd (omega (arith, sym z ∙ ap (λ (x : Written). x .answer) p))
+  writes-valid (refused-buffer e l p q) z = e
+  writes-valid (stored e l p q) z = e
 
-    writes-as-before : (r .answer ≡ 0 → ⊥) → out′ ≡ out
-    unfolding written-by
-    writes-as-before n = go (p .0) (p .1) (p .3) (p .4)
-      where
-        go : (g t : Bool) → r ≡ written-by b g t → out′ ≡ left g t → out′ ≡ out
-        go true true e q = q
-        go true false e q = absurd (n (ap (λ (x : Written). x .answer) e))
-        go false t e q = q
+-- REPORTS, by whether the buffer is too short and the card opens
+module _ (ws : List ℕ) (r : Reported) (out out′ : List ℕ) where
+  abbrev opens : Bool
+  opens = eqb (card-refusal ws) 0
 
-    writes-valid : r .answer ≡ 0 → valid (model-of b) ≡ true
-    unfolding written-by
-    writes-valid z = go (p .0) (p .1) (p .2) (p .3)
-      where
-        go : (g t : Bool) → valid (model-of b) ≡ g → r ≡ written-by b g t → valid (model-of b) ≡ true
-        go true t v e = v
-        go false t v e = absurd (omega (arith, sym z ∙ ap (λ (x : Written). x .answer) e))
+  reports-among : (t u : Bool) → Reports-by t u ws out out′ r → among (r .answer) (buffer-short ∷ card-numbers) ≡ true
+  unfolding Reports-by any-of
+  reports-among true u x = rw (ap (λ (y : Reported). y .answer) (x .result))
+  reports-among false false x =
+      rw (x .answer) (or-right (eqb (card-refusal ws) buffer-short) (among (card-refusal ws) card-numbers) (card-among (card-refusal ws) (card-refusal-most ws)))
+  reports-among false true x = rw (x .answer)
+
+  reports-before : (t u : Bool) → Reports-by t u ws out out′ r → (r .answer ≡ 0 → ⊥) → Reports-before r out out′
+  unfolding Reports-by
+  reports-before true u x n = record { short = λ e. x .buffer; line = λ e. absurd (e (ap (λ (y : Reported). y .answer) (x .result))) }
+  reports-before false false x n =
+      record {
+        short = λ e. absurd (omega (arith, sym (x .answer) ∙ e, card-refusal-most ws));
+        line = λ e. subst (λ (a : ℕ). Filled (refused-text a) out out′ (r .length)) (sym (x .answer)) (x .text);
+      }
+  reports-before false true x n = absurd (n (x .answer))
+
+  reports-opened : (t u : Bool) → opens ≡ u → Reports-by t u ws out out′ r → r .answer ≡ 0 → card-refusal ws ≡ 0
+  unfolding Reports-by
+  reports-opened true u q x e = absurd (omega (arith, sym e ∙ ap (λ (y : Reported). y .answer) (x .result)))
+  reports-opened false false q x e = sym (x .answer) ∙ e
+  reports-opened false true q x e = eqb-true (card-refusal ws) 0 q
 
 -- REPLAYS
 module _ (cs : List Call) (k : Log) (v : View) (xs xs′ : List ℕ) (old new : Buffers) where
@@ -248,7 +203,7 @@ module _ (cs : List Call) (k : Log) (v : View) (xs xs′ : List ℕ) (old new : 
 
 -- THE DEMAND
 pub demand-1 : {a : ℕ} (g : Given a) → Demand-1 g
-unfolding Looks Replays
+unfolding Looks Reports Replays
 demand-1 (by-opening {ws = ws} {o = o} p) =
     let e = opened-answer ws o (opened-by p) in
     record {
@@ -260,7 +215,7 @@ demand-1 (by-command {c = c} {b = b} {r = r} p) =
     let a = called-answers p in
     let e = call-answer c b r a in
     record {
-      listed = rw e (answered-among c (model-of b));
+      listed = rw e (answered-listed c (model-of b));
       as-before = a .unchanged;
       leaves-valid = λ z. call-valid c b r a (accepted-valid c (model-of b) (sym e ∙ z));
     }
@@ -274,11 +229,20 @@ demand-1 (by-looking {b = b} {v = v} {old = old} {new = new} p) =
       leaves-valid = looks-at-valid (instance-of b) v old new g t l;
     }
 demand-1 (by-writing {b = b} {r = r} {out = out} {out′ = out′} p) =
-    let w = writes-by b r out out′ (wrote p) in
+    let w = writes-way b r out out′ (wrote p) in
     record {
       listed = writes-among b r out out′ w;
       as-before = writes-as-before b r out out′ w;
       leaves-valid = writes-valid b r out out′ w;
+    }
+demand-1 (by-reporting {ws = ws} {r = r} {out = out} {out′ = out′} p) =
+    let x = reported-by p in
+    let t = ltb (length out) max-text in
+    let u = eqb (card-refusal ws) 0 in
+    record {
+      listed = reports-among ws r out out′ t u x;
+      as-before = reports-before ws r out out′ t u x;
+      leaves-valid = reports-opened ws r out out′ t u refl x;
     }
 demand-1 (by-replaying {ws = ws} {v = v} {xs = xs} {xs′ = xs′} {old = old} {new = new} p) =
     let r = replayed p in

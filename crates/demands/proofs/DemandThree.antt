@@ -37,12 +37,12 @@ pub data Run : List Command → Board → (answers : List ℕ) → (last : Board
   then-write :
       {cs : List Command} {b : Board} {xs : List ℕ} {e : Board} {r : Written} {out out′ : List ℕ} → Wrote b r out out′ → Run cs b xs e → Run cs b xs e
 
-record Follows-run (cs : List Command) (k : Log) (b : Board) (xs : List ℕ) (e : Board) : Type 0 where
-  same-answers : xs ≡ log-answers cs k
-  follows : Follows e (log-after cs k)
-  same-n : e .n ≡ b .n
+pub record Follows-run (cs : List Command) (k : Log) (b : Board) (xs : List ℕ) (e : Board) : Type 0 where
+  pub same-answers : xs ≡ log-answers cs k
+  pub follows : Follows e (log-after cs k)
+  pub same-n : e .n ≡ b .n
 
-run-follows : {cs : List Command} {b : Board} {xs : List ℕ} {e : Board} → Run cs b xs e → (k : Log) → Follows b k → Follows-run cs k b xs e
+pub run-follows : {cs : List Command} {b : Board} {xs : List ℕ} {e : Board} → Run cs b xs e → (k : Log) → Follows b k → Follows-run cs k b xs e
 unfolding log-answers log-after
 run-follows no-call k f = record { same-answers = refl; follows = f; same-n = refl }
 run-follows (then-command {c = c} {b = b} {r = r} l rest) k f =

@@ -1,3 +1,5 @@
--- The demands, and the round trips of the calls. Assumes nothing.
+-- The demands, and what else is said of the public calls together. Assumes nothing.
+pub mod DemandOne
+pub mod DemandTwo
 pub mod DemandThree
 pub mod RoundTrips

@@ -1,50 +1,60 @@
 -- The round trips of the calls themselves: "A read card written back yields the same bytes; a written board read back has equal positions, root
--- and budget and, where a link can be, equal prices and marks." Assumes nothing.
+-- and budget and, where a link can be, equal prices and marks." Of a board that was reached from a card by a run of calls the second holds of
+-- every cell: where no link can be, card and board hold the same. Boards that are called equal are written alike. Assumes nothing.
 use mathlib.Core.Path.{_≡_, refl, sym, ap, _∙_, subst}
-use mathlib.Core.Bool.{Bool, true, false, cond}
-use mathlib.Core.List.{List, _++_}
-use Prim.Native.Nat.{ℕ, _≤_}
+use mathlib.Core.Bool.{true, false, cond}
+use mathlib.Core.List.{List}
+use Prim.Native.Nat.{ℕ, _/_, _%_, _≤_, _<_}
 use native.Mathlib.Omega.{arith}
 use lib.Dec.{ltb}
-use lib.ListN.{length, take, drop}
-use lib.Seq.{take-at}
+use lib.ListN.{length, take}
 use borrow.Author.Tests.{le-ltb}
+use Rattle.base.specs.Lists.{in-front}
+use Rattle.base.proofs.FrontLaws.{front-take}
+use Rattle.base.proofs.ListLaws.{length-tabulate}
 use Rattle.bits.specs.Bits.{are-bytes}
-use Rattle.instance.specs.Refusals.{buffer-short, invalid-board}
-use Rattle.instance.specs.Instance.{Instance}
+use Rattle.instance.specs.Limits.{no-arc, free, cells}
+use Rattle.instance.specs.Refusals.{invalid-board}
+use Rattle.instance.specs.Instance.{Instance, weight-at, mark-at, is-arc}
 use Rattle.instance.specs.Same.{Same-instance}
 use Rattle.instance.specs.Valid.{valid-instance}
-use Rattle.card_format.specs.Card.{card-refusal, instance-in, bytes-needed, card-of}
+use Rattle.card_format.specs.Card.{card-refusal, instance-in, on-card, bytes-needed, card-of}
 use Rattle.card.specs.Write.{written-to, buffer-after}
 use Rattle.card.specs.declared.write.Written.{Written}
-use Rattle.card_format.proofs.OpensLaws.{opens}
+use Rattle.card_format.proofs.OpensLaws.{opened-length, weights-long, opened-elsewhere}
+use Rattle.card_format.proofs.LengthLaws.{length-card-of}
 use Rattle.card_format.proofs.CardAgain.{card-round-trip}
-use Rattle.card_format.proofs.InstanceAgain.{written-opens, instance-round-trip}
+use Rattle.card_format.proofs.InstanceAgain.{written-opens, instance-round-trip, instance-back}
+use Rattle.card_format.proofs.SameCard.{same-card}
 use Rattle.commands.specs.Valid.{valid}
+use Rattle.commands.specs.Commands.{Command}
+use Rattle.commands.specs.Log.{Log, new-log, log-after}
+use Rattle.commands.specs.Effective.{effective}
+use Rattle.commands.specs.SameBoard.{Same-board}
+use Rattle.commands.proofs.ValidLaws.{valid-fields}
+use Rattle.commands.proofs.EffectiveLaws.{new-on-arcs, log-on-arcs, effective-cell-elsewhere}
+use Rattle.commands.proofs.SameBoardLaws.{same-valid}
 use Rattle.board.specs.ModelOf.{model-of, instance-of}
 use Rattle.board.specs.declared.Board.{Board}
 use Rattle.board.specs.declared.Answered.{Answered}
 use Rattle.planner.specs.Opening.{opened-from}
 use Rattle.planner.proofs.Learnt.{Opened-by, opened-by, Wrote, wrote}
-use Rattle.commands.proofs.ValidLaws.{valid-fields}
 use Rattle.planner.proofs.OpeningLaws.{opened-starts, opened-answer, opened-instance}
-
-card-length : (ws : List ℕ) → card-refusal ws ≡ 0 → length ws ≡ bytes-needed (instance-in ws .n)
-unfolding instance-in
-card-length ws z = opens ws z .sized
+use Rattle.planner.proofs.WritingLaws.{Way, refused-board, refused-buffer, stored, writes-way}
+use Rattle.demands.proofs.DemandThree.{Run, run-follows}
 
 -- FROM A CARD AND BACK
 pub record Same-card (ws : List ℕ) (r : Written) (out out′ : List ℕ) : Type 0 where
   pub result : r ≡ record { answer = 0; length = length ws }
-  pub buffer : out′ ≡ ws ++ drop (length ws) out
+  pub buffer : out′ ≡ in-front ws out
 
 written-card : (ws : List ℕ) (s : Instance) (r : Written) (out out′ : List ℕ) → s ≡ instance-in ws → are-bytes ws ≡ true → card-refusal ws ≡ 0
-    → length ws ≤ length out → r ≡ written s out → out′ ≡ buffer-after s out → Same-card ws r out out′
+    → length ws ≤ length out → r ≡ written-to s out → out′ ≡ buffer-after s out → Same-card ws r out out′
 unfolding written-to buffer-after
 written-card ws s r out out′ e y z h p q =
-    let l = card-length ws z in
+    let l = opened-length ws z in
     let long : ltb (length out) (bytes-needed (instance-in ws .n)) ≡ false = le-ltb (length out) (bytes-needed (instance-in ws .n)) (omega arith) in
-    record { result = p ∙ rw (e, long, ← l); buffer = q ∙ rw (e, long, ← l, card-round-trip ws y z) }
+    record { result = p ∙ rw (e, long, ← l); buffer = q ∙ rw (e, long, card-round-trip ws y z) }
 
 pub card-back : {ws : List ℕ} {o : Answered} {r : Written} {out out′ : List ℕ} → are-bytes ws ≡ true → Opened-by ws o → o .answer ≡ 0
     → Wrote (o .board) r out out′ → length ws ≤ length out → Same-card ws r out out′
@@ -55,35 +65,81 @@ card-back {ws} {o} {r} {out} {out′} y p a w h =
     written-card ws (instance-of (o .board)) r out out′ (opened-instance ws o e z) y z h (wrote w .result ∙ rw good) (wrote w .buffer ∙ rw good)
 
 -- FROM A BOARD AND BACK
-written-length : (s : Instance) → valid-instance s ≡ true → length (card-of s) ≡ bytes-needed (s .n)
-written-length s v = card-length (card-of s) (written-opens s v) ∙ ap bytes-needed (instance-round-trip s v .same-n)
+-- what was written, and can be opened again, is the board's card
+pub record Stored (b : Board) (ws : List ℕ) : Type 0 where
+  pub fields : valid-instance (instance-of b) ≡ true
+  pub card : ws ≡ card-of (instance-of b)
+
+stored-card : {b : Board} {r : Written} {out out′ : List ℕ} → Wrote b r out out′ → r .answer ≡ 0 → Stored b (take (r .length) out′)
+stored-card {b} {r} {out} {out′} w z = go (writes-way b r out out′ (wrote w))
+  where
+    s : Instance
+    s = instance-of b
+
+    go : Way b r out out′ → Stored b (take (r .length) out′)
+    go (refused-board v p q) = absurd (omega (arith, sym z ∙ ap (λ (x : Written). x .answer) p))
+    go (refused-buffer v l p q) = absurd (omega (arith, sym z ∙ ap (λ (x : Written). x .answer) p))
+    go (stored v l p q) =
+        record { fields = valid-fields (model-of b) v; card = rw (q, p) (front-take (card-of s) out (bytes-needed (b .n)) (length-card-of s)) }
+
+-- opening it gives the board's instance as the card tells it
+reopened : (b : Board) (ws : List ℕ) (o : Answered) → Stored b ws → o ≡ opened-from ws → (o .answer ≡ 0) × (instance-of (o .board) ≡ instance-in (card-of (instance-of b)))
+reopened b ws o c e =
+    let z : card-refusal ws ≡ 0 = ap card-refusal (c .card) ∙ written-opens (instance-of b) (c .fields) in
+    (opened-answer ws o e ∙ z, opened-instance ws o e z ∙ ap instance-in (c .card))
 
 pub record Same-fields (b : Board) (o : Answered) : Type 0 where
   pub opens : o .answer ≡ 0
   pub same : Same-instance (instance-of (o .board)) (instance-of b)
 
-reopened : (b : Board) (ws : List ℕ) (o : Answered) → valid-instance (instance-of b) ≡ true → ws ≡ card-of (instance-of b) → o ≡ opened-from ws → Same-fields b o
-reopened b ws o v c e =
-    let s = instance-of b in
-    let z : card-refusal ws ≡ 0 = ap card-refusal c ∙ written-opens s v in
-    record {
-      opens = opened-answer ws o e ∙ z;
-      same = subst (λ (x : Instance). Same-instance x s) (sym (opened-instance ws o e z ∙ ap instance-in c)) (instance-round-trip s v);
-    }
-
 pub board-back : {b : Board} {r : Written} {out out′ : List ℕ} {o : Answered} → Wrote b r out out′ → r .answer ≡ 0 → Opened-by (take (r .length) out′) o → Same-fields b o
-unfolding written-to buffer-after
-board-back {b} {r} {out} {out′} {o} w z p = go (valid (model-of b)) refl (ltb (length out) (bytes-needed (b .n))) (wrote w .result) (wrote w .buffer)
-  where
-    s : Instance
-    s = instance-of b
+board-back {b} {r} {out} {out′} {o} w z p =
+    let c = stored-card w z in
+    let e = reopened b (take (r .length) out′) o c (opened-by p) in
+    record { opens = e .0; same = subst (λ (x : Instance). Same-instance x (instance-of b)) (sym (e .1)) (instance-round-trip (instance-of b) (c .fields)) }
 
-    go : (g : Bool) → valid (model-of b) ≡ g → (t : Bool)
-        → r ≡ cond {A = Written} g (cond t (record { answer = buffer-short; length = 0 }) (record { answer = 0; length = bytes-needed (b .n) })) (record { answer = invalid-board; length = 0 })
-        → out′ ≡ cond g (cond t out (card-of s ++ drop (bytes-needed (b .n)) out)) out → Same-fields b o
-    go true v true e q = absurd (omega (arith, sym z ∙ ap (λ (x : Written). x .answer) e))
-    go true v false e q =
-        let f = valid-fields (model-of b) v in
-        let c : take (r .length) out′ ≡ card-of s = rw (q, e) (take-at (card-of s) (drop (bytes-needed (b .n)) out) (bytes-needed (b .n)) (written-length s f)) in
-        reopened b (take (r .length) out′) o f c (opened-by p)
-    go false v t e q = absurd (omega (arith, sym z ∙ ap (λ (x : Written). x .answer) e))
+-- FROM A RUN AND BACK, exactly
+no-arc-off : (s : Instance) (i : ℕ) → on-card (s .n) (s .root) i ≡ false → is-arc s (i / 32) (i % 32) ≡ false
+unfolding on-card is-arc
+no-arc-off s i e = rw e
+
+module _ (ws : List ℕ) (cs : List Command) where
+  abbrev after : Log
+  after = log-after cs (new-log (instance-in ws))
+
+  same-log-card : after .card ≡ instance-in ws
+  same-log-card = log-on-arcs (instance-in ws) cs (new-log (instance-in ws)) (new-on-arcs (instance-in ws)) .card
+
+  off-card : (i : ℕ) → i < cells → on-card (effective after .n) (effective after .root) i ≡ false → (weight-at (effective after) i ≡ no-arc) × (mark-at (effective after) i ≡ free)
+  unfolding effective
+  off-card i l q =
+      let off : on-card (instance-in ws .n) (instance-in ws .root) i ≡ false = rw same-log-card at q in
+      let none = opened-elsewhere ws i l off in
+      (rw same-log-card (none .0), effective-cell-elsewhere (instance-in ws) cs i l (no-arc-off (instance-in ws) i off) ∙ none .1)
+
+  reached-back : valid-instance (effective after) ≡ true → instance-in (card-of (effective after)) ≡ effective after
+  unfolding effective
+  reached-back v =
+      instance-back (effective after) v (ap (λ (s : Instance). length (s .weights)) same-log-card ∙ weights-long ws) (length-tabulate cells _) off-card
+
+pub run-back : {ws : List ℕ} {o : Answered} {cs : List Command} {xs : List ℕ} {last : Board} {r : Written} {out out′ : List ℕ} {q : Answered} → card-refusal ws ≡ 0
+    → Opened-by ws o → Run cs (o .board) xs last → Wrote last r out out′ → r .answer ≡ 0 → Opened-by (take (r .length) out′) q → instance-of (q .board) ≡ instance-of last
+run-back {ws} {o} {cs} {xs} {last} {r} {out} {out′} {q} z p run w a u =
+    let s = opened-starts ws o (opened-by p) z in
+    let f = run-follows run (new-log (instance-in ws)) (record { is-valid = s .good; tied = s .tied }) in
+    let same = f .follows .tied .same-instance in
+    let c = stored-card w a in
+    let e = reopened last (take (r .length) out′) q c (opened-by u) in
+    e .1 ∙ ap (λ (x : Instance). instance-in (card-of x)) same ∙ reached-back ws cs (subst (λ (x : Instance). valid-instance x ≡ true) same (c .fields)) ∙ sym same
+
+-- BOARDS THAT ARE CALLED EQUAL are written alike
+pub same-write : {a b : Board} {r q : Written} {out r′ q′ : List ℕ} → Same-board (model-of a) (model-of b) → Wrote a r out r′ → Wrote b q out q′ → (r ≡ q) × (r′ ≡ q′)
+unfolding written-to buffer-after
+same-write {a} {b} {r} {q} {out} {r′} {q′} s x y =
+    let v = same-valid (model-of a) (model-of b) s in
+    let n = s .same-instances .same-n in
+    let c = same-card (instance-of a) (instance-of b) (s .same-instances) in
+    let refusal : Written = record { answer = invalid-board; length = 0 } in
+    let same-result : cond (valid (model-of a)) (written-to (instance-of a) out) refusal ≡ cond (valid (model-of b)) (written-to (instance-of b) out) refusal = rw (v, n) in
+    let same-buffer : cond (valid (model-of a)) (buffer-after (instance-of a) out) out ≡ cond (valid (model-of b)) (buffer-after (instance-of b) out) out = rw (c, v, n) in
+    (wrote x .result ∙ same-result ∙ sym (wrote y .result), wrote x .buffer ∙ same-buffer ∙ sym (wrote y .buffer))
