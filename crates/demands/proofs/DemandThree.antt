@@ -87,8 +87,8 @@ demand-3 ws cs o xs last v old new z p run l =
     let k = log-after cs (new-log (instance-in ws)) in
     let same = r .follows .tied .same-instance in
     let looks : Looks-at true t (effective k) v old new =
-            subst (λ (i : Instance). Looks-at true t i v old new) same
-            (subst (λ (n : ℕ). Looks-at true (short-for n old) (instance-of last) v old new) (r .same-n ∙ s .same-n) shown) in
+    subst (λ (i : Instance). Looks-at true t i v old new) same
+    (subst (λ (n : ℕ). Looks-at true (short-for n old) (instance-of last) v old new) (r .same-n ∙ s .same-n) shown) in
     let n : effective k .n ≡ instance-in ws .n = sym (ap (λ (i : Instance). i .n) same) ∙ r .same-n ∙ s .same-n in
     record {
       answers = r .same-answers;

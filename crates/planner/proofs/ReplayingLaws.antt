@@ -120,7 +120,7 @@ module _ (ws ks fs gs xs : List ℕ) (old : Buffers) (v : View) (z : card-refusa
 shows-since : (s : Instance) (v : View) (old mid new : Buffers) → s .n ≤ max-vertices → Since (s .n) old mid → Shows s v mid new → Shows s v old new
 shows-since s v old mid new small e x =
     let same : (k : ℕ) (l a b : List ℕ) → length l ≡ k → drop k a ≡ drop k b → in-front l a ≡ in-front l b =
-            λ k l a b n q. sym (front-is l a k n) ∙ ap (λ (r : List ℕ). l ++ r) q ∙ front-is l b k n in
+    λ k l a b n q. sym (front-is l a k n) ∙ ap (λ (r : List ℕ). l ++ r) q ∙ front-is l b k n in
     record {
       tree = x .tree;
       found = x .found;

@@ -34,10 +34,10 @@ module _ (s : Instance) (ps : List ℕ) (a : is-arborescence s ps ≡ true) (t h
       let k = arc-ends s t h arc in
       let alone = remaining-alone s (parent ps h) h (joined s ps a h (k .head-below) (k .not-root) .arc) in
       let other : eqb t (parent ps h) ≡ false → ⊥ =
-              λ d.
-              not-both (other-pinned s (parent ps h) h)
-              (any-intro (s .n) (λ g. not (eqb g (parent ps h)) && is-pinned s g h) t (k .tail-below) (and-both (not (eqb t (parent ps h))) (is-pinned s t h) (rw d) p))
-              alone in
+      λ d.
+      not-both (other-pinned s (parent ps h) h)
+      (any-intro (s .n) (λ g. not (eqb g (parent ps h)) && is-pinned s g h) t (k .tail-below) (and-both (not (eqb t (parent ps h))) (is-pinned s t h) (rw d) p))
+      alone in
       eq-eqb (parent ps h) t (sym (eqb-true t (parent ps h) (is-true (eqb t (parent ps h)) other)))
 
   -- "not banned"
