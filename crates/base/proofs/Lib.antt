@@ -6,3 +6,4 @@ pub mod AllOfLaws
 pub mod CountingLaws
 pub mod FillingLaws
 pub mod FrontLaws
+pub mod OverwriteLaws

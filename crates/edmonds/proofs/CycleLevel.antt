@@ -20,12 +20,12 @@ use Rattle.contraction.proofs.EachLaws.{each-append, tree-same}
 use Rattle.contraction.proofs.Lowering.{lowered-twice, chosen-lowered}
 use Rattle.contraction.proofs.Expansion.{expand-tree}
 use Rattle.contraction.proofs.SearchLaws as search-laws
-use Rattle.edmonds.specs.Cells.{at, cost}
-use Rattle.edmonds.specs.Charge.{Enters, Charged-group}
-use Rattle.edmonds.specs.Cycle.{Met, on-cycle, Contracted, Entry, Entered, Expanded}
+use Rattle.contraction.specs.Cells.{at, cost}
+use Rattle.charging.specs.Charge.{Enters, Charged-group}
+use Rattle.cycles.specs.Cycle.{Met, on-cycle, Contracted, Entry, Entered, Expanded}
 use Rattle.edmonds.specs.Level.{Ready, Solution, Solved}
-use Rattle.edmonds.proofs.CutLaws.{cuts-joined}
-use Rattle.edmonds.proofs.ChargeLaws.{closed-before}
+use Rattle.instance.proofs.CutLaws.{cuts-joined}
+use Rattle.charging.proofs.ChargeLaws.{closed-before}
 
 module _ {ws ls tails heads : List ℕ} {n root left : ℕ} (r : Ready ws ls tails heads n root left) where
   root-below : root < n

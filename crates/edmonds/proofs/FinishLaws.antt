@@ -15,19 +15,19 @@ use Rattle.instance.specs.Limits.{max-vertices, no-arc, no-parent, cells, cut-l
 use Rattle.instance.specs.Instance.{Instance, cell, weight, weight-at}
 use Rattle.instance.specs.Arborescence.{remaining, parent}
 use Rattle.instance.specs.Cuts.{Cut, cuts-from, cuts-in, charged, reduced-cost, No-entry}
-use Rattle.instance.specs.Matrix.{unmarked}
+use Rattle.instance.specs.Matrix.{unmarked, Matrix-ok}
 use Rattle.contraction.specs.Groups.{Lowered}
 use Rattle.contraction.specs.Trees.{Each, Tree, Fine}
 use Rattle.contraction.proofs.EachLaws.{each-append, tree-same}
 use Rattle.contraction.proofs.Lowering.{lowered-twice}
 use Rattle.contraction.proofs.Finish.{set-fine, charged-self, charged-root, arborescence, proves}
-use Rattle.contraction.proofs.Unmarked.{remaining-arc, shows}
-use Rattle.edmonds.specs.Cells.{at, cost, Own-labels}
-use Rattle.edmonds.specs.Charge.{Closed}
+use Rattle.contraction.proofs.ArcWeights.{matrix-weights}
+use Rattle.contraction.specs.Cells.{at, cost, Own-labels}
+use Rattle.charging.specs.Charge.{Closed}
 use Rattle.edmonds.specs.Level.{Solved}
-use Rattle.edmonds.specs.Planned.{Weights, reduced-matrix, Minimum, Planned-matrix}
-use Rattle.edmonds.proofs.CutLaws.{cuts-length, cuts-begun}
-use Rattle.edmonds.proofs.ChargeLaws.{closed-before}
+use Rattle.edmonds.specs.Planned.{reduced-matrix, Minimum, Planned-matrix}
+use Rattle.instance.proofs.CutLaws.{cuts-length, cuts-begun}
+use Rattle.charging.proofs.ChargeLaws.{closed-before}
 use Rattle.edmonds.proofs.FirstCharges.{Begun, all-few}
 
 -- lists that agree from a place on
@@ -36,7 +36,7 @@ drop-same d l m e h =
     ext-getD 0 (drop d l) (drop d m) (simp length-drop (ap (λ (x : ℕ). x - d) e))
     (λ i lt. getD-drop d l i 0 ∙ h (d + i) (omega arith) ∙ sym (getD-drop d m i 0))
 
-module _ (ws₀ : List ℕ) (n root : ℕ) (size : length ws₀ ≡ cells) (small : n ≤ max-vertices) (rb : root < n) (fits : Weights ws₀) where
+module _ (ws₀ : List ℕ) (n root : ℕ) (ok : Matrix-ok n root ws₀) where
   abbrev s : Instance
   s = unmarked n root ws₀
 
@@ -49,7 +49,7 @@ module _ (ws₀ : List ℕ) (n root : ℕ) (size : length ws₀ ≡ cells) (smal
         value-zero = refl;
         shut =
             λ t h r.
-            let sh = shows n root ws₀ small size fits in
+            let sh = matrix-weights n root ws₀ ok in
             c .shut t h (sh .tail-below t h r) (sh .head-below t h r) (sh .there t h r);
       }
 
@@ -81,7 +81,7 @@ module _ (ws₀ : List ℕ) (n root : ℕ) (size : length ws₀ ≡ cells) (smal
         (λ (a : eqb t h ≡ false).
         ⊎-elim (λ (b : eqb h root ≡ true). let e = eqb-true h root b in let z : charged cs t h ≡ 0 = rw e (charged-root cs t fine) in omega arith)
         (λ (b : eqb h root ≡ false).
-        absurd (not-both (remaining s t h) (shows n root ws₀ small size fits .only t h l m (eqb-false t h a) (eqb-false h root b) th) r))
+        absurd (not-both (remaining s t h) (matrix-weights n root ws₀ ok .only t h l m (eqb-false t h a) (eqb-false h root b) th) r))
         (test (eqb h root)))
         (test (eqb t h))
 
@@ -101,12 +101,11 @@ module _ (ws₀ : List ℕ) (n root : ℕ) (size : length ws₀ ≡ cells) (smal
     one-cell t h l m =
         ⊎-elim
         (λ (r : remaining s t h ≡ true).
-        let a = remaining-arc n root ws₀ t h r in
-        let sh = shows n root ws₀ small size fits in
-        let x = lo .paid t h (a .tail-below) (a .head-below) (sh .there t h r) in
+        let sh = matrix-weights n root ws₀ ok in
+        let x = lo .paid t h (sh .tail-below t h r) (sh .head-below t h r) (sh .there t h r) in
         let e = sh .is t h r in
         rw r (omega arith))
-        (λ (r : remaining s t h ≡ false). rw r (same-cell t h l m r ∙ default ws₀ (cell t h) 0 no-arc (omega arith))) (test (remaining s t h))
+        (λ (r : remaining s t h ≡ false). let size = ok .size in rw r (same-cell t h l m r ∙ default ws₀ (cell t h) 0 no-arc (omega arith))) (test (remaining s t h))
 
     pub is-reduced : ws′ ≡ reduced-matrix s cs
     unfolding reduced-matrix
@@ -135,22 +134,25 @@ module _ (ws₀ : List ℕ) (n root : ℕ) (size : length ws₀ ≡ cells) (smal
         fine = subst (Each (Fine n root)) joined (each-append (cuts-from k 0 cuts) (cuts-from (count - k) k cuts′) (b .fine) (so .solution th .fine))
 
         same-parent : (q : ℕ) → q < n → parent (take n ps) q ≡ at ps q
-        same-parent q l = let z = so .parents-size in getD-take n ps q no-parent l ∙ default ps q no-parent 0 (omega arith)
+        same-parent q l = let small = ok .small in let z = so .parents-size in getD-take n ps q no-parent l ∙ default ps q no-parent 0 (omega arith)
 
         tree : Tree n root (cost ws′) (λ q. q) cs (parent (take n ps))
         tree =
-            tree-same n root (cost ws′) (at ls) (λ q. q) (at ps) (parent (take n ps)) rb (λ q l. sym (own q (omega arith))) same-parent cs
+            let small = ok .small in
+            tree-same n root (cost ws′) (at ls) (λ q. q) (at ps) (parent (take n ps)) (ok .root-below) (λ q l. sym (own q (omega arith))) same-parent cs
             (subst (λ (x : List Cut). Tree n root (cost ws′) (at ls) x (at ps)) joined
             (b .lifts (cost ws′) (cuts-from (count - k) k cuts′) (at ps) (so .solution th .tree)))
 
         few : count ≤ cut-limit n
-        few = all-few small own rb b end le bound count (so .solution th .most)
+        few = all-few (ok .small) own (ok .root-below) b end le bound count (so .solution th .most)
 
         minimum : Minimum s (take n ps) cs
         unfolding unmarked
         minimum =
+            let small = ok .small in
+            let rb = ok .root-below in
             let z = so .parents-size in
-            let sh = shows n root ws₀ small size fits in
+            let sh = matrix-weights n root ws₀ ok in
             let sized : length (take n ps) ≡ n = length-take-le n ps (omega arith) in
             let at-root : parent (take n ps) root ≡ no-parent = same-parent root rb ∙ so .solution th .root-none in
             let l = cuts-length count 0 cuts′ in

@@ -16,11 +16,11 @@ use Rattle.contraction.specs.Trees.{Each, none-left, Tree, Fine}
 use Rattle.base.proofs.CountingLaws.{count-le}
 use Rattle.contraction.proofs.EachLaws.{each-append}
 use Rattle.contraction.proofs.Lowering.{lowered-none, lowered-twice}
-use Rattle.edmonds.specs.Cells.{at, cost, Own-labels}
-use Rattle.edmonds.specs.Charge.{Enters, Closed, Charged-group}
+use Rattle.contraction.specs.Cells.{at, cost, Own-labels}
+use Rattle.charging.specs.Charge.{Enters, Closed, Charged-group}
 use Rattle.edmonds.specs.Level.{Ready}
-use Rattle.edmonds.proofs.CutLaws.{cuts-begun}
-use Rattle.edmonds.proofs.ChargeLaws.{closed-before}
+use Rattle.instance.proofs.CutLaws.{cuts-begun}
+use Rattle.charging.proofs.ChargeLaws.{closed-before}
 
 -- every vertex below v but the root is charged; ws₀ and cuts₀ are matrix and buffer at the start
 pub record Begun (ws₀ ws ls tails heads : List ℕ) (n root : ℕ) (cuts₀ cuts : List ℕ) (k v : ℕ) : Type 0 where

@@ -15,7 +15,8 @@ use Rattle.instance.specs.Limits.{max-vertices, no-arc, cells}
 use Rattle.instance.specs.Instance.{Instance, cell, weight-at}
 use Rattle.instance.specs.Arborescence.{remaining}
 use Rattle.instance.specs.Cuts.{Cut, reduced-cost}
-use Rattle.edmonds.specs.Planned.{Weights, reduced-matrix}
+use Rattle.instance.specs.Matrix.{Weights}
+use Rattle.edmonds.specs.Planned.{reduced-matrix}
 
 -- MATRICES
 pub no-arcs-fit : Weights (replicate cells no-arc)

@@ -13,10 +13,10 @@ use Rattle.contraction.specs.Trees.{none-left}
 use Rattle.contraction.proofs.EachLaws.{tree-same}
 use Rattle.contraction.proofs.Lowering.{lowered-none}
 use Rattle.contraction.proofs.NoCycle.{own-tree}
-use Rattle.edmonds.specs.Cells.{at, cost}
-use Rattle.edmonds.specs.Cycle.{Searchable, No-cycle, Own-arcs}
+use Rattle.contraction.specs.Cells.{at, cost}
+use Rattle.cycles.specs.Cycle.{Searchable, No-cycle, Own-arcs}
 use Rattle.edmonds.specs.Level.{Ready, Solved}
-use Rattle.edmonds.proofs.CutLaws.{no-cuts}
+use Rattle.instance.proofs.CutLaws.{no-cuts}
 
 module _ {ws ls tails heads : List ℕ} {n root left : ℕ} (r : Ready ws ls tails heads n root left) where
   pub searchable : Searchable ls tails n root

@@ -9,8 +9,8 @@ use Rattle.instance.specs.Limits.{max-vertices, no-parent, cells, cut-words}
 use Rattle.instance.specs.Cuts.{cuts-from}
 use Rattle.contraction.specs.Groups.{Labels, Chosen, Lowered, groups}
 use Rattle.contraction.specs.Trees.{Each, Tree, Fine}
-use Rattle.edmonds.specs.Cells.{at, cost}
-use Rattle.edmonds.specs.Charge.{Closed}
+use Rattle.contraction.specs.Cells.{at, cost}
+use Rattle.charging.specs.Charge.{Closed}
 
 pub record Ready (ws ls tails heads : List ℕ) (n root left : ℕ) : Type 0 where
   pub size : length ws ≡ cells

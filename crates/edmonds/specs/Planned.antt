@@ -3,18 +3,14 @@
 use mathlib.Core.Path.{_≡_}
 use mathlib.Core.Bool.{Bool, true, false, cond}
 use mathlib.Core.List.{List}
-use Prim.Native.Nat.{ℕ, _*_, _/_, _%_, _≤_, _<_}
-use lib.ListN.{length, getD, take, drop, replicate}
+use Prim.Native.Nat.{ℕ, _*_, _/_, _%_, _≤_}
+use lib.ListN.{length, take, drop, replicate}
 use Rattle.base.specs.Lists.{tabulate}
-use Rattle.instance.specs.Limits.{max-vertices, no-arc, no-parent, cells, cut-limit, cut-words}
+use Rattle.instance.specs.Limits.{max-vertices, no-parent, cells, cut-limit, cut-words}
 use Rattle.instance.specs.Instance.{Instance, weight-at}
 use Rattle.instance.specs.Arborescence.{remaining, is-arborescence, total}
 use Rattle.instance.specs.Cuts.{Cut, cuts-in, Proves, reduced-cost, No-entry}
 use Rattle.instance.specs.Matrix.{unmarked}
-
--- every cell holds a weight, or no arc
-abbrev pub Weights : (matrix : List ℕ) → Type 0
-Weights ws = (i : ℕ) → i < cells → getD ws i no-arc ≤ no-arc
 
 -- the matrix with the reduced cost of each remaining arc, and the other cells as they are
 unfoldable pub reduced-matrix : Instance → List Cut → List ℕ

@@ -6,18 +6,13 @@ ghost use mathlib.Core.Path.{_≡_};
 ghost use mathlib.Core.Bool.{true, false};
 ghost use Prim.Native.Nat.{_+_, _-_, _≤_, _<_};
 ghost use lib.ListN.{length, replicate};
-ghost use Rattle.edmonds.specs.Cells.{Own-labels};
-ghost use Rattle.edmonds.specs.Planned.{Weights, Planned-matrix};
+ghost use Rattle.contraction.specs.Cells.{Own-labels};
+ghost use Rattle.instance.specs.Matrix.{Matrix-ok};
+ghost use Rattle.edmonds.specs.Planned.{Planned-matrix};
 
-mod entering; // entering.rt: the cheapest arc into a group
-mod lower; // lower.rt: the arcs into a group, lowered
-mod charge; // charge.rt: a group charged for its cheapest arc, with the cut that proves it
-mod cycle; // cycle.rt: the first cycle of chosen arcs
-mod contract; // contract.rt: a cycle's groups become one
-mod expand; // expand.rt: the cycle's arcs again, but one
 mod plan; // plan.rt: planning that calls itself on the contracted instance
 
-use charge::charge_group;
+use charging::charge::charge_group;
 use instance::CutIndex;
 use instance::Vertex;
 use instance::limits::NO_PARENT;
@@ -79,7 +74,7 @@ fn group_bound(n: usize) -> u32
 // Plans a weight matrix with a stride of 32. "Each position first takes its cheapest entering link": every vertex but the root is
 // charged by itself, and then the groups are planned.
 pub fn plan_matrix(w: &mut [u32; 1024], n: usize, root: Vertex, cuts: &mut [u32; 122]) -> Planned
-    requires { ⌜ (length (now w) ≡ 1024) × (length (now cuts) ≡ 122) × (n ≤ 32) × (root .0 < n) × Weights (now w) ⌝ }
+    requires { ⌜ Matrix-ok n (root .0) (now w) × (length (now cuts) ≡ 122) ⌝ }
     ensures { λ r. ⌜ Planned-matrix n (root .0) (now (w .entry)) (now (w .exit)) (now (cuts .entry)) (now (cuts .exit)) (r .found) (r .parents) (r .count) (r .set) ⌝ }
 {
     let r = root.0;

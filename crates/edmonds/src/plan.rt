@@ -5,11 +5,11 @@ ghost use Prim.Native.Nat.{_+_, _≤_, _<_};
 ghost use lib.ListN.{length, set};
 ghost use Rattle.edmonds.specs.Level.{Ready, Solved};
 use super::Planned;
-use super::charge::charge_group;
-use super::contract::contracted_labels;
-use super::cycle::find_cycle;
-use super::expand::expand_cycle;
-use super::expand::own_parents;
+use charging::charge::charge_group;
+use cycles::contract::contracted_labels;
+use cycles::cycle::find_cycle;
+use cycles::expand::expand_cycle;
+use cycles::expand::own_parents;
 use instance::CutIndex;
 use instance::Vertex;
 

@@ -11,11 +11,11 @@ use Rattle.edmonds.proofs.CycleLevel.{three, stopped, ready, none-below
 use Rattle.edmonds.proofs.plan.plan_groups.Reads as plan
 use Rattle.edmonds.proofs.plan.plan_groups.Kinds as kinds
 use Rattle.edmonds.proofs.plan.+plan_groups.Lts-plan_groups as lts
-use Rattle.edmonds.proofs.charge.charge_group.Reads as charge-group
-use Rattle.edmonds.proofs.contract.contracted_labels.Reads as contracted-labels
-use Rattle.edmonds.proofs.cycle.find_cycle.Reads as find-cycle
-use Rattle.edmonds.proofs.expand.expand_cycle.Reads as expand-cycle
-use Rattle.edmonds.proofs.expand.own_parents.Reads as own-parents
+use Rattle.charging.proofs.charge.charge_group.Reads as charge-group
+use Rattle.cycles.proofs.contract.contracted_labels.Reads as contracted-labels
+use Rattle.cycles.proofs.cycle.find_cycle.Reads as find-cycle
+use Rattle.cycles.proofs.expand.expand_cycle.Reads as expand-cycle
+use Rattle.cycles.proofs.expand.own_parents.Reads as own-parents
 use Rattle.edmonds.proofs.Planned.tree.Reads as tree
 use Rattle.edmonds.proofs.Planned.none.Reads as none
 use Rattle.edmonds.proofs.plan.replaced.Reads as replaced

@@ -1,0 +1,3 @@
+-- Laws of cycles that the functions' proofs cite. Assumes nothing.
+pub mod SearchLoop
+pub mod EntryLaws

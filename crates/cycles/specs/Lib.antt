@@ -1,0 +1,2 @@
+-- What the functions on cycles give. Assumes nothing.
+pub mod Cycle
