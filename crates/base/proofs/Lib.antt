@@ -1,4 +1,4 @@
--- Laws of tests, bounded tests and sums, and lists. Assumes nothing.
+-- Laws of tests, bounded tests and sums, and lists, and of the loops that fill them. Assumes nothing.
 pub mod Tests
 pub mod BoundedLaws
 pub mod ListLaws
@@ -7,3 +7,7 @@ pub mod CountingLaws
 pub mod FillingLaws
 pub mod FrontLaws
 pub mod OverwriteLaws
+pub mod SumLaws
+pub mod CondLaws
+pub mod GridLaws
+pub mod PartLaws

@@ -10,7 +10,7 @@ use lib.ListN.{length, set, length-set}
 use lib.Seq.{getD-set-other}
 use borrow.Author.Tests.{eq-eqb, ne-eqb, ltb-true, ltb-false}
 use Rattle.base.proofs.Tests.{test, not-both}
-use Rattle.instance.specs.Limits.{max-vertices, no-arc, cells, cut-words}
+use Rattle.instance.specs.Limits.{max-vertices, no-arc, no-parent, cells, max-cuts, cut-words}
 use Rattle.instance.specs.Cuts.{Cut, cuts-from}
 use Rattle.contraction.specs.Groups.{Lowered}
 use Rattle.contraction.specs.Trees.{none-left, more, Proper}
@@ -20,13 +20,14 @@ use Rattle.instance.proofs.SetBits.{inside-some}
 use Rattle.contraction.specs.Cells.{at, cost}
 use Rattle.charging.specs.Entering.{Cheapest}
 use Rattle.charging.specs.Lower.{Affords, Lowered-cells, low}
-use Rattle.charging.specs.Charge.{Members, Closed, Charged-group}
+use Rattle.charging.specs.Members.{Members}
+use Rattle.charging.specs.Charge.{Unentered, Charged-group}
 use Rattle.charging.proofs.LowerLaws.{low-in, low-out}
 use Rattle.instance.proofs.CutLaws.{no-cuts, one-cut}
 
 -- a set that no arc enters was one before the arcs were lowered
-pub closed-before : {n root : ℕ} {ws ws′ : List ℕ} {cs : List Cut} {s : ℕ} → Lowered n (cost ws) (cost ws′) cs → Closed n root ws′ s → Closed n root ws s
-closed-before lo c = record { proper = c .proper; shut = λ t h l m th. c .shut t h l m (lowered-there lo t h l m th) }
+pub unentered-before : {n root : ℕ} {ws ws′ : List ℕ} {cs : List Cut} {s : ℕ} → Lowered n (cost ws) (cost ws′) cs → Unentered n root ws′ s → Unentered n root ws s
+unentered-before lo c = record { proper = c .proper; shut = λ t h l m th. c .shut t h l m (lowered-there lo t h l m th) }
 
 -- the vertices of a group other than the root's
 pub group-proper : {ls : List ℕ} {n g s : ℕ} → Members ls g n s → (root : ℕ) → root < n → at ls root ≢ g → (v : ℕ) → v < n → at ls v ≡ g → Proper n root s
@@ -37,7 +38,7 @@ group-proper {ls} {n} {g} {s} ms root rl ne v l e =
       no-root = ms .is root rl ∙ ne-eqb (at ls root) g ne;
     }
 
-module _ (ws ls : List ℕ) (n g : ℕ) (small : n ≤ 32) {t h a : ℕ} (b : Cheapest ws ls n g n t h a) where
+module _ (ws ls : List ℕ) (n g : ℕ) (small : n ≤ max-vertices) {t h a : ℕ} (b : Cheapest ws ls n g n t h a) where
   pub affords : Affords ws ls n g a
   affords v m e u l ne = b .least u v l m e ne
 
@@ -64,7 +65,7 @@ module _ (ws ls : List ℕ) (n g : ℕ) (small : n ≤ 32) {t h a : ℕ} (b : Ch
         (λ (q : ltb v n ≡ false). lo .rest u v l (inr (ltb-false v n q))) (test (ltb v n)))
         (λ (p : ltb u n ≡ false). lo .rest u v l (inl (ltb-false u n p))) (test (ltb u n))
 
-    module _ (cuts : List ℕ) (k s : ℕ) (room : k < 61) (cuts-size : length cuts ≡ cut-words) (ms : Members ls g n s) (lt : a < no-arc) (pos : 1 ≤ a) where
+    module _ (cuts : List ℕ) (k s : ℕ) (room : k < max-cuts) (cuts-size : length cuts ≡ cut-words) (ms : Members ls g n s) (lt : a < no-arc) (pos : 1 ≤ a) where
       abbrev cut : Cut
       cut = record { set = s; value = a }
 
@@ -104,7 +105,7 @@ module _ (ws ls : List ℕ) (n g : ℕ) (small : n ≤ 32) {t h a : ℕ} (b : Ch
                 };
             lifts = λ _ root off w cs parent tr. rw is-one (charge-tree n (at ls) g cut (ms .is) root w cs parent tr off h (b .head-below lt) (b .head-in lt));
             fine = λ _ root rl ne. rw is-one (more (record { proper = group-proper ms root rl ne h (b .head-below lt) (b .head-in lt); value = pos }) none-left);
-            closed = λ e. absurd (not-both true refl e);
+            unentered = λ e. absurd (not-both true refl e);
           }
 
   -- the cheapest arc has weight 0 already
@@ -130,12 +131,12 @@ module _ (ws ls : List ℕ) (n g : ℕ) (small : n ≤ 32) {t h a : ℕ} (b : Ch
             };
         lifts = λ _ root off w cs parent tr. rw e tr;
         fine = λ _ root rl ne. rw e none-left;
-        closed = λ x. absurd (not-both true refl x);
+        unentered = λ x. absurd (not-both true refl x);
       }
 
   -- no arc at all
   pub no-arcs : (cuts : List ℕ) (k s : ℕ) → length ws ≡ cells → length cuts ≡ cut-words → a ≡ no-arc → Members ls g n s
-      → Charged-group ws ws ls n g cuts cuts k false 255 255 k s
+      → Charged-group ws ws ls n g cuts cuts k false no-parent no-parent k s
   no-arcs cuts k s size cuts-size e ms =
       record {
         size = size;
@@ -147,7 +148,7 @@ module _ (ws ls : List ℕ) (n g : ℕ) (small : n ≤ 32) {t h a : ℕ} (b : Ch
         arc = λ x. absurd (not-both false x refl);
         lifts = λ x. absurd (not-both false x refl);
         fine = λ x. absurd (not-both false x refl);
-        closed =
+        unentered =
             λ _ root rl ne v l ve.
             record {
               proper = group-proper ms root rl ne v l ve;

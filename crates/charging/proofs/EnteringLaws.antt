@@ -8,7 +8,7 @@ use native.Mathlib.Omega.{arith}
 use lib.Dec.{ltb}
 use borrow.Author.Tests.{ltb-true, ltb-false}
 use Rattle.base.proofs.Tests.{test}
-use Rattle.instance.specs.Limits.{no-arc}
+use Rattle.instance.specs.Limits.{no-arc, no-parent}
 use Rattle.contraction.specs.Cells.{at, cost}
 use Rattle.charging.specs.Entering.{Cheapest}
 
@@ -18,7 +18,7 @@ pub record Cheapest-so-far (ws ls : List ℕ) (n g h bound t v best : ℕ) : Typ
   pub here : (u : ℕ) → u < bound → at ls u ≢ g → best ≤ cost ws u h
 
 module _ (ws ls : List ℕ) (n g : ℕ) where
-  pub none-yet : Cheapest ws ls n g 0 255 255 no-arc
+  pub none-yet : Cheapest ws ls n g 0 no-parent no-parent no-arc
   none-yet =
       record {
         most = omega arith;

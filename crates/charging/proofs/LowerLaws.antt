@@ -10,7 +10,7 @@ use lib.ListN.{length, set, length-set}
 use lib.Seq.{getD-set-same, getD-set-other}
 use borrow.Author.Tests.{ltb-true, ltb-false, lt-ltb, le-ltb, eq-eqb, ne-eqb}
 use Rattle.base.proofs.Tests.{test, and-false-right}
-use Rattle.instance.specs.Limits.{no-arc, cells}
+use Rattle.instance.specs.Limits.{max-vertices, no-arc, cells}
 use Rattle.instance.specs.Instance.{cell}
 use Rattle.contraction.specs.Cells.{at, cost}
 use Rattle.charging.specs.Lower.{low, Lowered-into, Lowered-cells}
@@ -26,7 +26,7 @@ module _ (ls : List ℕ) (g a : ℕ) where
       rw (le-ltb x no-arc le, and-false-right (not (eqb (at ls t) g)) false refl, and-false-right (eqb (at ls h) g) false refl)
 
 -- INTO ONE VERTEX
-module _ (ws ls : List ℕ) (g a h : ℕ) (small : h < 32) where
+module _ (ws ls : List ℕ) (g a h : ℕ) (small : h < max-vertices) where
   pub no-tail : length ws ≡ cells → Lowered-into ws ws ls g a h 0
   no-tail e = record { size = e; done = λ t l. absurd (omega arith); rest = λ t v l why. refl }
 
@@ -52,7 +52,7 @@ module _ (ws ls : List ℕ) (g a h : ℕ) (small : h < 32) where
         rest = λ u v l w. c .rest u v l (⊎-elim (λ (d : t + 1 ≤ u). inl (omega arith)) (λ (d : v ≢ h). inr d) w);
       }
 
-  pub lower-tail : (ws′ : List ℕ) (t : ℕ) → Lowered-into ws ws′ ls g a h t → t < 32 → at ls h ≡ g → at ls t ≢ g → cost ws′ t h < no-arc
+  pub lower-tail : (ws′ : List ℕ) (t : ℕ) → Lowered-into ws ws′ ls g a h t → t < max-vertices → at ls h ≡ g → at ls t ≢ g → cost ws′ t h < no-arc
       → Lowered-into ws (set ws′ (cell t h) (cost ws′ t h - a)) ls g a h (t + 1)
   lower-tail ws′ t c lt e ne th =
       let size = c .size in
@@ -85,7 +85,7 @@ module _ (ws ls : List ℕ) (n g a : ℕ) where
   pub none-lowered : length ws ≡ cells → Lowered-cells ws ws ls n g a 0
   none-lowered e = record { size = e; done = λ t h l m. absurd (omega arith); rest = λ t h l why. refl }
 
-  pub skip-vertex : (ws′ : List ℕ) (h : ℕ) → h < 32 → Lowered-cells ws ws′ ls n g a h → at ls h ≢ g → Lowered-cells ws ws′ ls n g a (h + 1)
+  pub skip-vertex : (ws′ : List ℕ) (h : ℕ) → h < max-vertices → Lowered-cells ws ws′ ls n g a h → at ls h ≢ g → Lowered-cells ws ws′ ls n g a (h + 1)
   skip-vertex ws′ h small c ne =
       record {
         size = c .size;
@@ -100,7 +100,7 @@ module _ (ws ls : List ℕ) (n g a : ℕ) where
         rest = λ t v l why. c .rest t v l (⊎-elim (λ (d : n ≤ t). inl d) (λ (d : h + 1 ≤ v). inr (omega arith)) why);
       }
 
-  pub next-vertex : (ws₁ ws₂ : List ℕ) (h : ℕ) → h < 32 → Lowered-cells ws ws₁ ls n g a h → Lowered-into ws₁ ws₂ ls g a h n → Lowered-cells ws ws₂ ls n g a (h + 1)
+  pub next-vertex : (ws₁ ws₂ : List ℕ) (h : ℕ) → h < max-vertices → Lowered-cells ws ws₁ ls n g a h → Lowered-into ws₁ ws₂ ls g a h n → Lowered-cells ws ws₂ ls n g a (h + 1)
   next-vertex ws₁ ws₂ h small x y =
       record {
         size = y .size;

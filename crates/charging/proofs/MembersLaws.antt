@@ -10,7 +10,7 @@ use lib.Pow.{pow-mono, pow-lt}
 use borrow.Author.Tests.{eq-eqb, ne-eqb}
 use Rattle.instance.proofs.SetBits.{inside-low, inside-top, inside-none}
 use Rattle.contraction.specs.Cells.{at}
-use Rattle.charging.specs.Charge.{Members}
+use Rattle.charging.specs.Members.{Members}
 
 shifted : (v : ℕ) → v < 32 → 1 * 2 ^ v % 4294967296 ≡ 2 ^ v
 shifted v l = ap (λ (x : ℕ). x % 4294967296) (one-mul (2 ^ v)) ∙ mod-eq-of-lt (pow-lt {i = v} {j = 32} l)

@@ -4,36 +4,23 @@
 ghost use mathlib.Core.Path.{_≡_};
 ghost use mathlib.Core.Bool.{true, false};
 ghost use Prim.Native.Nat.{_+_, _*_, _≤_, _<_};
-ghost use lib.ListN.{set, length};
-ghost use Rattle.charging.specs.Charge.{Members, Charged-group};
-use super::entering::NO_VERTEX;
+ghost use lib.ListN.{length, set as set-at};
+ghost use Rattle.instance.specs.Limits.{max-vertices, no-parent, cells, max-cuts, cut-words};
+ghost use Rattle.charging.specs.Charge.{Charged-group};
+use super::entering::NO_END;
 use super::entering::cheapest_arc;
 use super::lower::lower_arcs;
+use super::members::members;
 use instance::CutIndex;
 use instance::Vertex;
+use instance::limits::CELLS;
+use instance::limits::CUT_WORDS;
 use instance::limits::NO_ARC;
 
-// The vertices of a group as bits.
-pub fn members(label: &[u8; 32], n: usize, g: Vertex) -> u32
-    requires { ⌜ (n ≤ 32) × (g .0 < n) ⌝ }
-    ensures { λ r. ⌜ Members (now (label .entry)) (g .0) n r ⌝ }
-{
-    let group = g.0 as u8;
-    let mut set: u32 = 0;
-    let mut v: usize = 0;
-    while v < n {
-        if label[v] == group {
-            set += 1u32 << v;
-        }
-        v += 1;
-    }
-    set
-}
-
 // Writes a cut at its place.
-pub fn put_cut(cuts: &mut [u32; 122], c: CutIndex, set: u32, value: u32)
-    requires { ⌜ c .0 < 61 ⌝ }
-    ensures { λ _. ⌜ now (cuts .exit) ≡ lib.ListN.set (lib.ListN.set (now (cuts .entry)) (2 * c .0) set) (2 * c .0 + 1) value ⌝ }
+fn put_cut(c: CutIndex, set: u32, value: u32, cuts: &mut [u32; CUT_WORDS])
+    requires { ⌜ c .0 < max-cuts ⌝ }
+    ensures { λ _. ⌜ now (cuts .exit) ≡ set-at (set-at (now (cuts .entry)) (2 * c .0) set) (2 * c .0 + 1) value ⌝ }
 {
     let k = c.0 as usize;
     cuts[2 * k] = set;
@@ -43,15 +30,15 @@ pub fn put_cut(cuts: &mut [u32; 122], c: CutIndex, set: u32, value: u32)
 // The arc that a charged group chose, and the place of the next cut; or, where no arc enters, the group's vertices.
 pub struct Charged {
     pub found: bool,
-    pub tail: usize,
-    pub head: usize,
+    pub tail: Vertex,
+    pub head: Vertex,
     pub next: CutIndex,
     pub set: u32,
 }
 
 impl Charged {
-    fn arc(tail: usize, head: usize, next: CutIndex) -> Charged
-        ensures { λ r. ⌜ (r .found ≡ true) × (r .tail ≡ tail) × (r .head ≡ head) × (r .next .0 ≡ next .0) × (r .set ≡ 0) ⌝ }
+    fn arc(tail: Vertex, head: Vertex, next: CutIndex) -> Charged
+        ensures { λ r. ⌜ (r .found ≡ true) × (r .tail .0 ≡ tail .0) × (r .head .0 ≡ head .0) × (r .next .0 ≡ next .0) × (r .set ≡ 0) ⌝ }
     {
         Charged {
             found: true,
@@ -63,29 +50,29 @@ impl Charged {
     }
 
     fn none(next: CutIndex, set: u32) -> Charged
-        ensures { λ r. ⌜ (r .found ≡ false) × (r .tail ≡ 255) × (r .head ≡ 255) × (r .next .0 ≡ next .0) × (r .set ≡ set) ⌝ }
+        ensures { λ r. ⌜ (r .found ≡ false) × (r .tail .0 ≡ no-parent) × (r .head .0 ≡ no-parent) × (r .next .0 ≡ next .0) × (r .set ≡ set) ⌝ }
     {
         Charged {
             found: false,
-            tail: NO_VERTEX,
-            head: NO_VERTEX,
+            tail: Vertex(NO_END),
+            head: Vertex(NO_END),
             next,
             set,
         }
     }
 }
 
-// Charges a group for its cheapest entering arc.
+// Charges a group for its cheapest entering arc. The cut, if there is one, goes to place c.
 pub fn charge_group(
-    w: &mut [u32; 1024],
+    w: &mut [u32; CELLS],
     label: &[u8; 32],
     n: usize,
     g: Vertex,
-    cuts: &mut [u32; 122],
     c: CutIndex,
+    cuts: &mut [u32; CUT_WORDS],
 ) -> Charged
-    requires { ⌜ (length (now w) ≡ 1024) × (length (now cuts) ≡ 122) × (n ≤ 32) × (g .0 < n) × (c .0 < 61) ⌝ }
-    ensures { λ r. ⌜ Charged-group (now (w .entry)) (now (w .exit)) (now (label .entry)) n (g .0) (now (cuts .entry)) (now (cuts .exit)) (c .0) (r .found) (r .tail) (r .head) (r .next .0) (r .set) ⌝ }
+    requires { ⌜ (length (now w) ≡ cells) × (length (now cuts) ≡ cut-words) × (n ≤ max-vertices) × (g .0 < n) × (c .0 < max-cuts) ⌝ }
+    ensures { λ r. ⌜ Charged-group (now (w .entry)) (now (w .exit)) (now (label .entry)) n (g .0) (now (cuts .entry)) (now (cuts .exit)) (c .0) (r .found) (r .tail .0) (r .head .0) (r .next .0) (r .set) ⌝ }
 {
     let group = g.0;
     let k = c.0;
@@ -100,6 +87,6 @@ pub fn charge_group(
     }
     lower_arcs(w, label, n, Vertex(group), value);
     let set = members(label, n, Vertex(group));
-    put_cut(cuts, CutIndex(k), set, value);
+    put_cut(CutIndex(k), set, value, cuts);
     Charged::arc(arc.tail, arc.head, CutIndex(k + 1))
 }

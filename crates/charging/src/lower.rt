@@ -3,14 +3,16 @@
 ghost use mathlib.Core.Path.{_≡_};
 ghost use Prim.Native.Nat.{_≤_, _<_};
 ghost use lib.ListN.{length};
+ghost use Rattle.instance.specs.Limits.{max-vertices, cells};
 ghost use Rattle.contraction.specs.Cells.{at};
 ghost use Rattle.charging.specs.Lower.{Affords, Affords-into, Lowered-into, Lowered-cells};
 use instance::Vertex;
+use instance::limits::CELLS;
 use instance::limits::NO_ARC;
 
 // The arcs from outside the group into its vertex h.
-fn lower_into(w: &mut [u32; 1024], label: &[u8; 32], n: usize, g: Vertex, h: usize, value: u32)
-    requires { ⌜ (length (now w) ≡ 1024) × (n ≤ 32) × (g .0 < n) × (h < n) × (at (now label) h ≡ g .0) ⌝ }
+fn lower_into(w: &mut [u32; CELLS], label: &[u8; 32], n: usize, g: Vertex, h: usize, value: u32)
+    requires { ⌜ (length (now w) ≡ cells) × (n ≤ max-vertices) × (g .0 < n) × (h < n) × (at (now label) h ≡ g .0) ⌝ }
     requires { ⌜ Affords-into (now w) (now label) n (g .0) h value ⌝ }
     ensures { λ _. ⌜ Lowered-into (now (w .entry)) (now (w .exit)) (now (label .entry)) (g .0) value h n ⌝ }
 {
@@ -27,8 +29,8 @@ fn lower_into(w: &mut [u32; 1024], label: &[u8; 32], n: usize, g: Vertex, h: usi
     }
 }
 
-pub fn lower_arcs(w: &mut [u32; 1024], label: &[u8; 32], n: usize, g: Vertex, value: u32)
-    requires { ⌜ (length (now w) ≡ 1024) × (n ≤ 32) × (g .0 < n) × Affords (now w) (now label) n (g .0) value ⌝ }
+pub fn lower_arcs(w: &mut [u32; CELLS], label: &[u8; 32], n: usize, g: Vertex, value: u32)
+    requires { ⌜ (length (now w) ≡ cells) × (n ≤ max-vertices) × (g .0 < n) × Affords (now w) (now label) n (g .0) value ⌝ }
     ensures { λ _. ⌜ Lowered-cells (now (w .entry)) (now (w .exit)) (now (label .entry)) n (g .0) value n ⌝ }
 {
     let group = g.0;

@@ -16,3 +16,7 @@ cost ws t h = at ws (cell t h)
 -- each vertex is its own label
 abbrev pub Own-labels : List ℕ → Type 0
 Own-labels ls = (v : ℕ) → v < max-vertices → at ls v ≡ v
+
+-- each label is a vertex
+abbrev pub Labels-below : (n : ℕ) → List ℕ → Type 0
+Labels-below n ls = (v : ℕ) → v < n → at ls v < n

@@ -1,3 +1,2 @@
--- Laws of cycles that the functions' proofs cite. Assumes nothing.
-pub mod SearchLoop
-pub mod EntryLaws
+-- Laws that the functions' proofs cite. Assumes nothing.
+pub mod CycleLaws

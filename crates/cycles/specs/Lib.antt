@@ -1,2 +1,3 @@
--- What the functions on cycles give. Assumes nothing.
+-- What searching and contracting a cycle give. Assumes nothing.
 pub mod Cycle
+pub mod Contract

@@ -1,12 +1,14 @@
 // Contraction: "a closed ring of positions is drawn together".
 
 ghost use Prim.Native.Nat.{_≤_, _<_};
-ghost use Rattle.cycles.specs.Cycle.{Below, Contracted};
+ghost use Rattle.instance.specs.Limits.{max-vertices};
+ghost use Rattle.contraction.specs.Cells.{Labels-below};
+ghost use Rattle.cycles.specs.Contract.{Contracted};
 use instance::Vertex;
 
 // The labels after the cycle's groups have become one, with the label v.
 pub fn contracted_labels(label: &[u8; 32], stamp: &[u8; 32], n: usize, v: Vertex) -> [u8; 32]
-    requires { ⌜ (n ≤ 32) × (v .0 < n) × Below n (now label) ⌝ }
+    requires { ⌜ (n ≤ max-vertices) × (v .0 < n) × Labels-below n (now label) ⌝ }
     ensures { λ r. ⌜ Contracted (now (label .entry)) (now (stamp .entry)) n (v .0) r ⌝ }
 {
     let at = v.0 as usize;

@@ -1,4 +1,3 @@
-// Cycles of chosen arcs: the first one found, its groups contracted to one, and expanded again.
-pub mod cycle; // cycle.rt: the first cycle of chosen arcs
+// Cycles of chosen arcs: the first one that the search meets, and its groups contracted to one.
 pub mod contract; // contract.rt: a cycle's groups become one
-pub mod expand; // expand.rt: the cycle's arcs again, but one
+pub mod cycle; // cycle.rt: the first cycle of chosen arcs

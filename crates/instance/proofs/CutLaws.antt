@@ -8,7 +8,7 @@ use native.Mathlib.Omega.{arith}
 use native.Mathlib.Nat.{zero-add, suc-add, sub-zero}
 use lib.ListN.{length, set, length-set, getD, List·getD-append}
 use lib.Seq.{getD-set-same, getD-set-other}
-use Rattle.instance.specs.Cuts.{Cut, cuts-from, cuts-in}
+use Rattle.instance.specs.Cuts.{Cut, cuts-from, cuts-in, values}
 
 pub cuts-length : (a i : ℕ) (l : List ℕ) → length (cuts-from a i l) ≡ a
 unfolding cuts-from
@@ -69,3 +69,18 @@ pub cuts-begun : (m j : ℕ) (l l′ : List ℕ) → m ≤ j → ((i : ℕ) → 
     → cuts-from m 0 l ++ cuts-from (j - m) m l′ ≡ cuts-from j 0 l′
 cuts-begun m j l l′ b frame =
     ap (λ (x : ℕ). cuts-from x 0 l ++ cuts-from (j - m) m l′) (sym (sub-zero m)) ∙ cuts-joined 0 m j l l′ (omega arith) b frame ∙ ap (λ (x : ℕ). cuts-from x 0 l′) (sub-zero j)
+
+-- VALUES
+pub values-step : (a i : ℕ) (l : List ℕ) → values (cuts-from (suc a) i l) ≡ getD l (2 * i + 1) 0 + values (cuts-from a (suc i) l)
+unfolding cuts-from values
+values-step a i l = refl
+
+-- the later cuts have no more than all
+pub values-later : (a i : ℕ) (l : List ℕ) → values (cuts-from a i l) ≤ values (cuts-from (a + i) 0 l)
+values-later a zero l = let e : a + 0 ≡ a = omega arith in rw e (omega arith)
+values-later a (suc i) l =
+    let r = values-later (suc a) i l in
+    let s = values-step a i l in
+    let e : suc a + i ≡ a + suc i = omega arith in
+    let q : values (cuts-from (suc a + i) 0 l) ≡ values (cuts-from (a + suc i) 0 l) = ap (λ (k : ℕ). values (cuts-from k 0 l)) e in
+    omega arith

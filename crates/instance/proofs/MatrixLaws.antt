@@ -3,20 +3,23 @@ use mathlib.Core.Path.{_≡_, refl, ap, _∙_}
 use mathlib.Core.Bool.{true, false, _&&_, not, cond}
 use mathlib.Core.List.{List}
 use mathlib.Core.Logic.{_≢_, ⊎-elim}
-use Prim.Native.Nat.{ℕ, _/_, _%_, _≤_, _<_}
+use Prim.Native.Nat.{ℕ, _*_, _/_, _%_, _≤_, _<_}
 use native.Mathlib.Omega.{arith}
-use lib.Dec.{eqb}
-use lib.ListN.{length, getD}
-use borrow.Author.Tests.{lt-ltb, ne-eqb}
+use lib.Dec.{ltb, eqb}
+use lib.ListN.{length, getD, set, replicate, getD-replicate, List·getD-eq-default}
+use lib.Seq.{getD-set-same, getD-set-other}
+use borrow.Author.Tests.{lt-ltb, ltb-true, ltb-false, eqb-true, eqb-false, ne-eqb}
 use Rattle.base.specs.Lists.{tabulate}
 use Rattle.base.proofs.Tests.{test, and-left}
 use Rattle.base.proofs.BoundedLaws.{all-at}
 use Rattle.base.proofs.ListLaws.{default, length-tabulate, getD-tabulate}
+use Rattle.base.proofs.SumLaws.{sum-most}
+use Rattle.base.proofs.CondLaws.{cond-most}
 use Rattle.instance.specs.Limits.{no-arc, banned, cells}
 use Rattle.instance.specs.Instance.{Instance, instance-with, cell, weight-at, mark-at, weight, mark, can-be-arc, is-arc}
-use Rattle.instance.specs.Arborescence.{is-pinned, other-pinned, remaining}
+use Rattle.instance.specs.Arborescence.{is-pinned, other-pinned, remaining, parent, total}
 use Rattle.instance.specs.Valid.{cell-valid, valid-instance}
-use Rattle.instance.specs.Matrix.{matrix-where, matrix, unmarked, Matrix-ok}
+use Rattle.instance.specs.Matrix.{matrix-where, matrix, unmarked, Weights, Matrix-ok}
 use Rattle.instance.proofs.ArcLaws.{Ends, remaining-ends, unmarked-remaining}
 use Rattle.instance.proofs.ValidLaws.{weight-fits, valid-small, valid-root, valid-cells}
 
@@ -39,6 +42,33 @@ module _ (n r : ℕ) (m : List ℕ) (t h : ℕ) where
   unfolding unmarked is-arc can-be-arc weight
   matrix-arc tb hb d nr x =
       unmarked-remaining n r m t h ∙ rw (lt-ltb t n tb, lt-ltb h n hb, ne-eqb t h d, ne-eqb h r nr, ne-eqb (getD m (cell t h) no-arc) no-arc x)
+
+-- MATRICES THAT CAN BE PLANNED ON
+pub no-arcs-fit : Weights (replicate cells no-arc)
+no-arcs-fit i l = let e = getD-replicate {A = ℕ} cells i no-arc no-arc l in omega arith
+
+pub store-fits : (m : List ℕ) (i x : ℕ) → length m ≡ cells → x ≤ no-arc → Weights m → Weights (set m i x)
+store-fits m i x size le fits j l =
+    ⊎-elim (λ (e : eqb j i ≡ true). let q = eqb-true j i e in let y : getD (set m i x) j no-arc ≡ x = rw q (getD-set-same m i x no-arc (omega arith)) in omega arith)
+    (λ (e : eqb j i ≡ false). let y = getD-set-other m i j x no-arc (eqb-false j i e) in let f = fits j l in omega arith) (test (eqb j i))
+
+module _ (n r : ℕ) (m : List ℕ) (ok : Matrix-ok n r m) where
+  pub weight-most : (t h : ℕ) → weight (unmarked n r m) t h ≤ no-arc
+  unfolding weight unmarked
+  weight-most t h =
+      ⊎-elim (λ (e : ltb (cell t h) cells ≡ true). ok .bounded (cell t h) (ltb-true (cell t h) cells e))
+      (λ (e : ltb (cell t h) cells ≡ false).
+      let l = ltb-false (cell t h) cells e in
+      let size = ok .size in
+      let d = List·getD-eq-default m no-arc {n = cell t h} (omega arith) in
+      omega arith)
+      (test (ltb (cell t h) cells))
+
+  pub total-most : (ps : List ℕ) → total (unmarked n r m) ps ≤ n * no-arc
+  unfolding total unmarked
+  total-most ps =
+      sum-most n (λ v. cond (eqb v r) 0 (weight (unmarked n r m) (parent ps v) v)) no-arc
+      (λ v l. cond-most (eqb v r) 0 (weight (unmarked n r m) (parent ps v) v) no-arc (omega arith) (weight-most (parent ps v) v))
 
 -- THE MATRIX OF WHAT REMAINS
 -- what it holds at a cell

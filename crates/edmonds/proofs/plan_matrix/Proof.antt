@@ -5,8 +5,8 @@ use Prim.Native.Nat.{_-_, _≤_}
 use native.Mathlib.Omega.{arith}
 use borrow.Author.Needs.{needs}
 use borrow.Author.Tests.{not-true, not-false}
-use Rattle.edmonds.proofs.FirstCharges.{Begun, none-charged, pass-root, none-enters, one-charged, begun-ready, room}
-use Rattle.edmonds.proofs.FinishLaws.{planned-none, planned}
+use Rattle.edmonds.proofs.FirstChargeLaws.{Begun, none-charged, pass-root, none-enters, one-charged, begun-plannable, room}
+use Rattle.edmonds.proofs.PlannedLaws.{planned-none, addable, planned}
 use Rattle.edmonds.proofs.plan_matrix.Statement.{statement}
 use Rattle.edmonds.proofs.plan_matrix.Tie as tie
 
@@ -33,12 +33,12 @@ charge-group-requires c κs =
     let small = al .before .before .pre .0 .small in
     (b .size, b .cuts-size, small, omega arith, omega arith)
 
-none-requires : tie.Need-none-requires Inv-loop μ-loop
-none-requires c κs = search needs
+shut-requires : tie.Need-shut-requires Inv-loop μ-loop
+shut-requires c κs = search needs
 
 returns : tie.Need-returns Inv-loop μ-loop
 returns c =
-    let e = c .none .ensures in
+    let e = c .shut .ensures in
     let t2 = c .before in
     let cg = t2 .before .before in
     let th = cg .before .before .before .before in
@@ -47,7 +47,7 @@ returns c =
     let ol = al .before in
     let pre = ol .before .pre in
     let ch = cg .charge-group .ensures in
-    rw (e .0, e .1, e .2, e .3)
+    rw e
     (planned-none _ _ _ (pre .0) (ch .size) (ch .cuts-size)
     (none-enters (pre .0 .small) (ol .own-labels .ensures) (pre .0 .root-below) (al .loop .inv .1) (il .loop-test .taken) (th .if1 .taken) ch (not-true (cg .charge-group .result .found) (t2 .if2 .taken))))
 
@@ -105,20 +105,32 @@ plan-groups-requires c κs =
     let ol = al .before in
     let pre = ol .before .pre in
     let b = al .loop .inv .1 in (
-      begun-ready (pre .0 .small) (ol .own-labels .ensures) (pre .0 .root-below) b (lp .loop-test .left) (al .loop .inv .0) (gb .group-bound .ensures),
+      begun-plannable (pre .0 .small) (ol .own-labels .ensures) (pre .0 .root-below) b (lp .loop-test .left) (al .loop .inv .0) (gb .group-bound .ensures),
       b .cuts-size,
       room (pre .0 .small) (ol .own-labels .ensures) (pre .0 .root-below) b (lp .loop-test .left) (al .loop .inv .0) (gb .group-bound .ensures),
     )
 
-returns-2 : tie.Need-returns-2 Inv-loop μ-loop
-returns-2 c =
-    let gb = c .before .before .before .before .before .before in
+conclude-requires : tie.Need-conclude-requires Inv-loop μ-loop
+conclude-requires c κs =
+    let pg = c .before in
+    let gb = pg .before .before .before .before .before .before in
     let lp = gb .before in
     let al = lp .before in
     let ol = al .before in
     let pre = ol .before .pre in
-    planned _ _ _ (pre .0) (ol .own-labels .ensures) (pre .1) (al .loop .inv .1) (lp .loop-test .left) (al .loop .inv .0)
-    (gb .group-bound .ensures) (c .plan-groups .ensures)
+    λ e. addable _ _ _ (pre .0) (ol .own-labels .ensures) (pre .1) (al .loop .inv .1) (lp .loop-test .left) (al .loop .inv .0) (gb .group-bound .ensures) (pg .plan-groups .ensures) e
+
+returns-2 : tie.Need-returns-2 Inv-loop μ-loop
+returns-2 c =
+    let pg = c .before .before in
+    let gb = pg .before .before .before .before .before .before in
+    let lp = gb .before in
+    let al = lp .before in
+    let ol = al .before in
+    let pre = ol .before .pre in
+    rw (c .conclude .ensures)
+    (planned _ _ _ (pre .0) (ol .own-labels .ensures) (pre .1) (al .loop .inv .1) (lp .loop-test .left) (al .loop .inv .0) (gb .group-bound .ensures)
+    (pg .plan-groups .ensures))
 
 pub plan-matrix-spec : {M : Type 1} → statement M
 plan-matrix-spec =
@@ -130,7 +142,7 @@ plan-matrix-spec =
     loop-holds
     cast-g
     charge-group-requires
-    none-requires
+    shut-requires
     returns
     cast-tails
     array-write-tails
@@ -141,4 +153,5 @@ plan-matrix-spec =
     loop-again
     group-bound-requires
     plan-groups-requires
+    conclude-requires
     returns-2)

@@ -8,7 +8,7 @@ use Rattle.charging.proofs.entering.cheapest_arc.Statement.{statement}
 use Rattle.charging.proofs.entering.cheapest_arc.Tie as tie
 
 abbrev Inv-loop : tie.InvT-loop
-Inv-loop w label n group own best₀ h₀ best h = (h ≤ n) × Cheapest w label n group h (best .tail) (best .head) (best .weight)
+Inv-loop w label n group own best₀ h₀ best h = (h ≤ n) × Cheapest w label n group h (best .tail .0) (best .head .0) (best .weight)
 
 abbrev μ-loop : tie.MeasureT-loop
 μ-loop w label n group own best₀ h₀ best h = n - h

@@ -33,6 +33,12 @@ mul-x-2 c = omega arith
 element-copy-out-x : tie.Need-element-copy-out-x Inv-loop μ-loop
 element-copy-out-x c = omega arith
 
+cast-tail : tie.Need-cast-tail Inv-loop μ-loop
+cast-tail c = omega arith
+
+cast-head : tie.Need-cast-head Inv-loop μ-loop
+cast-head c = omega arith
+
 add-t : tie.Need-add-t Inv-loop μ-loop
 add-t c = omega arith
 
@@ -68,6 +74,8 @@ cheapest-into-spec =
     add-x
     mul-x-2
     element-copy-out-x
+    cast-tail
+    cast-head
     add-t
     loop-less
     loop-again

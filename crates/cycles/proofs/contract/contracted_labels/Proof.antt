@@ -6,13 +6,13 @@ use native.Mathlib.Omega.{arith}
 use borrow.Author.Tests.{le-leb, lt-leb}
 use Rattle.contraction.specs.Groups.{contracted}
 use Rattle.contraction.specs.Cells.{at as place}
-use Rattle.cycles.specs.Cycle.{on-cycle}
+use Rattle.contraction.specs.Search.{on-cycle}
 use Rattle.base.proofs.OverwriteLaws.{Overwritten, overwrite-none, overwrite-store}
 use Rattle.cycles.proofs.contract.contracted_labels.Statement.{statement}
 use Rattle.cycles.proofs.contract.contracted_labels.Tie as tie
 
 abbrev Inv-loop : tie.InvT-loop
-Inv-loop label stamp n at first out₀ u₀ out u = (u ≤ n) × Overwritten 32 out₀ out (contracted (place label) (on-cycle stamp at) at) u
+Inv-loop label stamp n at first out₀ u₀ out u = (u ≤ n) × Overwritten 32 out₀ out (contracted (place label) (on-cycle (place stamp) at) at) u
 
 abbrev μ-loop : tie.MeasureT-loop
 μ-loop label stamp n at first out₀ u₀ out u = n - u

@@ -3,7 +3,7 @@ use mathlib.Core.Logic.{inl, inr, ⊎-elim}
 use Prim.Native.Nat.{_-_, _≤_}
 use native.Mathlib.Omega.{arith}
 use borrow.Author.Tests.{ltb-true, ltb-false}
-use Rattle.cycles.proofs.SearchLoop.{zeros, Between, Walking, none-stamped, set-out, pass, no-cycle, met, below-32, tail-below, onwards, ends, falls}
+use Rattle.cycles.proofs.CycleLaws.{zeros, Between, Walking, none-stamped, set-out, pass, no-cycle, met, below-32, tail-below, onwards, ends, falls}
 use Rattle.cycles.proofs.cycle.find_cycle.Statement.{statement}
 use Rattle.cycles.proofs.cycle.find_cycle.Tie as tie
 

@@ -9,18 +9,18 @@ use native.Mathlib.Nat.{eq-or-lt-of-le}
 use lib.Dec.{eqb}
 use lib.ListN.{length, set, length-set}
 use lib.Seq.{getD-set-same, getD-set-other}
-use Rattle.instance.specs.Limits.{max-vertices, cells, cut-words}
+use Rattle.instance.specs.Limits.{max-vertices, cells, max-cuts, cut-words}
 use Rattle.instance.specs.Cuts.{Cut, cuts-from}
+use Rattle.contraction.specs.Cells.{at, cost, Own-labels}
 use Rattle.contraction.specs.Groups.{Group, Lowered}
 use Rattle.contraction.specs.Trees.{Each, none-left, Tree, Fine}
 use Rattle.base.proofs.CountingLaws.{count-le}
 use Rattle.contraction.proofs.EachLaws.{each-append}
 use Rattle.contraction.proofs.Lowering.{lowered-none, lowered-twice}
-use Rattle.contraction.specs.Cells.{at, cost, Own-labels}
-use Rattle.charging.specs.Charge.{Enters, Closed, Charged-group}
-use Rattle.edmonds.specs.Level.{Ready}
+use Rattle.charging.specs.Charge.{Chosen-arc, Unentered, Charged-group}
+use Rattle.edmonds.specs.Level.{Plannable}
 use Rattle.instance.proofs.CutLaws.{cuts-begun}
-use Rattle.charging.proofs.ChargeLaws.{closed-before}
+use Rattle.charging.proofs.ChargeLaws.{unentered-before}
 
 -- every vertex below v but the root is charged; ws₀ and cuts₀ are matrix and buffer at the start
 pub record Begun (ws₀ ws ls tails heads : List ℕ) (n root : ℕ) (cuts₀ cuts : List ℕ) (k v : ℕ) : Type 0 where
@@ -30,7 +30,7 @@ pub record Begun (ws₀ ws ls tails heads : List ℕ) (n root : ℕ) (cuts₀ cu
   pub heads-size : length heads ≡ max-vertices
   pub few : k ≤ v
   pub fewer : root < v → k + 1 ≤ v
-  pub arcs : (g : ℕ) → g < v → g ≢ root → Enters ws ls n g (at tails g) (at heads g)
+  pub arcs : (g : ℕ) → g < v → g ≢ root → Chosen-arc ws ls n g (at tails g) (at heads g)
   pub lowered : Lowered n (cost ws₀) (cost ws) (cuts-from k 0 cuts)
   pub lifts : (w : ℕ → ℕ → ℕ) (cs : List Cut) (parent : ℕ → ℕ) → Tree n root w (at ls) cs parent → Tree n root w (at ls) (cuts-from k 0 cuts ++ cs) parent
   pub fine : Each (Fine n root) (cuts-from k 0 cuts)
@@ -76,8 +76,8 @@ module _ {ws₀ ws ls tails heads : List ℕ} {n root : ℕ} {cuts₀ cuts : Lis
     root-off : at ls root ≢ v
     root-off e = vr (sym e ∙ own root (omega arith))
 
-    pub none-enters : found ≡ false → Closed n root ws₀ s
-    none-enters no-arc = closed-before (b .lowered) (ch .closed no-arc root rb root-off v vn (own v (omega arith)))
+    pub none-enters : found ≡ false → Unentered n root ws₀ s
+    none-enters no-arc = unentered-before (b .lowered) (ch .unentered no-arc root rb root-off v vn (own v (omega arith)))
 
     pub one-charged : found ≡ true → Begun ws₀ ws′ ls (set tails v t) (set heads v h) n root cuts₀ cuts′ next (v + 1)
     one-charged yes-arc =
@@ -104,7 +104,7 @@ module _ {ws₀ ws ls tails heads : List ℕ} {n root : ℕ} {cuts₀ cuts : Lis
           frame = λ i l. ch .frame i (inr l) ∙ b .frame i (omega arith);
         }
       where
-        arcs-now : (g : ℕ) → g ≢ root → (g ≡ v) ⊎ (g < v) → Enters ws′ ls n g (at (set tails v t) g) (at (set heads v h) g)
+        arcs-now : (g : ℕ) → g ≢ root → (g ≡ v) ⊎ (g < v) → Chosen-arc ws′ ls n g (at (set tails v t) g) (at (set heads v h) g)
         arcs-now g ne (inl d) =
             let zt = b .tails-size in
             let zh = b .heads-size in
@@ -121,11 +121,11 @@ module _ {ws₀ ws ls tails heads : List ℕ} {n root : ℕ} {cuts₀ cuts : Lis
     own-below : (q : ℕ) → q < n → at ls q ≡ q
     own-below q l = own q (omega arith)
 
-    group-arc : (g : ℕ) → Group n root (at ls) g → Enters ws ls n g (at tails g) (at heads g)
+    group-arc : (g : ℕ) → Group n root (at ls) g → Chosen-arc ws ls n g (at tails g) (at heads g)
     group-arc g gr = let a = gr .0 in b .arcs g (omega arith) (λ e. gr .2 (e ∙ sym (own-below root rb)))
 
-    pub begun-ready : Ready ws ls tails heads n root left
-    begun-ready =
+    pub begun-plannable : Plannable ws ls tails heads n root left
+    begun-plannable =
         let c = count-le n (λ q. eqb (at ls q) q) in
         record {
           size = b .size;
@@ -145,7 +145,7 @@ module _ {ws₀ ws ls tails heads : List ℕ} {n root : ℕ} {cuts₀ cuts : Lis
           two = omega arith;
         }
 
-    pub room : k + left ≤ 63
+    pub room : k + left ≤ max-cuts + 2
     room = let f = b .fewer (omega arith) in omega arith
 
     -- so many cuts at most, in all

@@ -1,12 +1,12 @@
--- `charging::charge::members` meets its contract. The loop has gathered the group's vertices below v. Assumes nothing.
+-- `charging::members::members` meets its contract. The loop has gathered the group's vertices below v. Assumes nothing.
 use mathlib.Core.Path.{_≡_}
 use mathlib.Core.Logic.{⊎-elim}
 use Prim.Native.Nat.{_-_, _≤_}
 use native.Mathlib.Omega.{arith}
-use Rattle.charging.specs.Charge.{Members}
+use Rattle.charging.specs.Members.{Members}
 use Rattle.charging.proofs.MembersLaws.{no-members, member-fits, one-member, no-member}
-use Rattle.charging.proofs.charge.members.Statement.{statement}
-use Rattle.charging.proofs.charge.members.Tie as tie
+use Rattle.charging.proofs.members.members.Statement.{statement}
+use Rattle.charging.proofs.members.members.Tie as tie
 
 abbrev Inv-loop : tie.InvT-loop
 Inv-loop label n group set₀ v₀ set v = (v ≤ n) × Members label group v set

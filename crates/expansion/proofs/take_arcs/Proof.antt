@@ -1,21 +1,21 @@
--- `cycles::expand::take_arcs` meets its contract. The loop has expanded the vertices below u. Assumes nothing.
+-- `expansion::take_arcs` meets its contract. The loop has expanded the vertices below u. Assumes nothing.
 use mathlib.Core.Logic.{⊎-elim}
 use Prim.Native.Nat.{_-_, _≤_}
 use native.Mathlib.Omega.{arith}
 use borrow.Author.Tests.{le-leb, lt-leb, eq-eqb, ne-eqb}
 use Rattle.contraction.specs.Groups.{expanded}
 use Rattle.contraction.specs.Cells.{at as place}
-use Rattle.cycles.specs.Cycle.{on-cycle}
+use Rattle.contraction.specs.Search.{on-cycle}
 use Rattle.base.proofs.OverwriteLaws.{Overwritten, overwrite-none, overwrite-store, overwrite-pass}
-use Rattle.cycles.proofs.expand.take_arcs.Statement.{statement}
-use Rattle.cycles.proofs.expand.take_arcs.Tie as tie
+use Rattle.expansion.proofs.take_arcs.Statement.{statement}
+use Rattle.expansion.proofs.take_arcs.Tie as tie
 
 abbrev Inv-loop : tie.InvT-loop
-Inv-loop parents₀ label stamp tails heads n at first e entered u₀ parents u =
-    (u ≤ n) × Overwritten 32 parents₀ parents (expanded (place label) (place tails) (place heads) (on-cycle stamp at) (place label e) (place parents₀)) u
+Inv-loop label stamp tails heads n parents₀ at first e entered u₀ parents u =
+    (u ≤ n) × Overwritten 32 parents₀ parents (expanded (place label) (place tails) (place heads) (on-cycle (place stamp) at) (place label e) (place parents₀)) u
 
 abbrev μ-loop : tie.MeasureT-loop
-μ-loop parents₀ label stamp tails heads n at first e entered u₀ parents u = n - u
+μ-loop label stamp tails heads n parents₀ at first e entered u₀ parents u = n - u
 
 cast-at : tie.Need-cast-at Inv-loop μ-loop
 cast-at c = omega arith

@@ -3,7 +3,9 @@
 ghost use mathlib.Core.Path.{_≡_};
 ghost use Prim.Native.Nat.{_≤_, _<_};
 ghost use lib.ListN.{length};
-ghost use Rattle.cycles.specs.Cycle.{Below, Own-arcs, Entry, Entered, Expanded, Expansion};
+ghost use Rattle.instance.specs.Limits.{max-vertices};
+ghost use Rattle.contraction.specs.Cells.{Labels-below};
+ghost use Rattle.expansion.specs.Expansion.{Own-arcs, Cycle-entry, Cycle-entered, Expanded, Expansion};
 use instance::Vertex;
 use instance::limits::NO_PARENT;
 
@@ -15,7 +17,7 @@ pub fn own_parents(
     n: usize,
     root: Vertex,
 ) -> [u8; 32]
-    requires { ⌜ (n ≤ 32) × (root .0 < n) × Below n (now label) ⌝ }
+    requires { ⌜ (n ≤ max-vertices) × (root .0 < n) × Labels-below n (now label) ⌝ }
     ensures { λ r. ⌜ Own-arcs (now (label .entry)) (now (tails .entry)) (now (heads .entry)) n (root .0) r ⌝ }
 {
     let r = root.0 as usize;
@@ -35,16 +37,16 @@ pub fn own_parents(
     out
 }
 
-// The vertex at which the arc chosen outside enters a cycle.
-pub fn entry_vertex(
-    parents: &[u8; 32],
+// The vertex at which the arc chosen outside enters the cycle at v.
+fn entry_vertex(
     label: &[u8; 32],
     stamp: &[u8; 32],
+    parents: &[u8; 32],
     n: usize,
     v: Vertex,
 ) -> Vertex
-    requires { ⌜ (n ≤ 32) × (v .0 < n) × Below n (now label) × Entered (now parents) (now label) (now stamp) n (v .0) ⌝ }
-    ensures { λ r. ⌜ Entry (now (parents .entry)) (now (label .entry)) (now (stamp .entry)) n (v .0) (r .0) ⌝ }
+    requires { ⌜ (n ≤ max-vertices) × (v .0 < n) × Labels-below n (now label) × Cycle-entered (now parents) (now label) (now stamp) n (v .0) ⌝ }
+    ensures { λ r. ⌜ Cycle-entry (now (parents .entry)) (now (label .entry)) (now (stamp .entry)) n (v .0) (r .0) ⌝ }
 {
     let at = v.0 as usize;
     let first = stamp[at];
@@ -63,17 +65,17 @@ pub fn entry_vertex(
 }
 
 // Each group of the cycle but the entry's takes its own arc again.
-pub fn take_arcs(
-    parents: &mut [u8; 32],
-    label: &[u8; 32],
-    stamp: &[u8; 32],
-    tails: &[u8; 32],
-    heads: &[u8; 32],
-    n: usize,
-    v: Vertex,
-    entry: Vertex,
+fn take_arcs(
+    label: &[u8; 32],       // the group of each vertex, before the cycle was contracted
+    stamp: &[u8; 32],       // when the search came by each group
+    tails: &[u8; 32],       // the tail of each group's own arc
+    heads: &[u8; 32],       // and its head
+    n: usize,               // the number of vertices
+    v: Vertex,              // a group on the cycle: the others are stamped no earlier
+    entry: Vertex,          // where the cycle is entered
+    parents: &mut [u8; 32], // the tree of the contracted groups, which becomes one of these groups
 )
-    requires { ⌜ (length (now parents) ≡ 32) × (n ≤ 32) × (v .0 < n) × (entry .0 < n) × Below n (now label) ⌝ }
+    requires { ⌜ (length (now parents) ≡ max-vertices) × (n ≤ max-vertices) × (v .0 < n) × (entry .0 < n) × Labels-below n (now label) ⌝ }
     ensures { λ _. ⌜ Expanded (now (parents .entry)) (now (label .entry)) (now (stamp .entry)) (now (tails .entry)) (now (heads .entry)) n (v .0) (entry .0) (now (parents .exit)) ⌝ }
 {
     let at = v.0 as usize;
@@ -95,24 +97,23 @@ pub fn take_arcs(
     }
 }
 
-// Expands the cycle at v: only the arc that the one chosen outside replaces is dropped.
+// Expands the cycle at v: only the arc that the one chosen outside replaces is dropped. The parameters are those of take_arcs.
 pub fn expand_cycle(
-    parents: &mut [u8; 32],
     label: &[u8; 32],
     stamp: &[u8; 32],
     tails: &[u8; 32],
     heads: &[u8; 32],
     n: usize,
     v: Vertex,
+    parents: &mut [u8; 32],
 )
-    requires { ⌜ (length (now parents) ≡ 32) × (n ≤ 32) × (v .0 < n) × Below n (now label) × Entered (now parents) (now label) (now stamp) n (v .0) ⌝ }
+    requires { ⌜ (length (now parents) ≡ max-vertices) × (n ≤ max-vertices) × (v .0 < n) × Labels-below n (now label) × Cycle-entered (now parents) (now label) (now stamp) n (v .0) ⌝ }
     ensures { λ _. ⌜ Expansion (now (parents .entry)) (now (label .entry)) (now (stamp .entry)) (now (tails .entry)) (now (heads .entry)) n (v .0) (now (parents .exit)) ⌝ }
 {
     let at = v.0;
-    let e = entry_vertex(parents, label, stamp, n, Vertex(at));
+    let e = entry_vertex(label, stamp, parents, n, Vertex(at));
     let entry = e.0;
     take_arcs(
-        parents,
         label,
         stamp,
         tails,
@@ -120,5 +121,6 @@ pub fn expand_cycle(
         n,
         Vertex(at),
         Vertex(entry),
+        parents,
     );
 }

@@ -1,20 +1,20 @@
--- `cycles::expand::entry_vertex` meets its contract. No vertex below u is an entry, and there is one. Assumes nothing.
+-- `expansion::entry_vertex` meets its contract. No vertex below u is an entry, and there is one. Assumes nothing.
 use mathlib.Core.Path.{_≡_, subst}
 use mathlib.Core.Logic.{⊎-elim}
 use Prim.Native.Nat.{ℕ, _-_, _≤_, _<_}
 use native.Mathlib.Omega.{arith}
 use native.Mathlib.Nat.{eq-or-lt-of-le}
 use borrow.Author.Tests.{le-leb}
-use Rattle.cycles.specs.Cycle.{Entry}
-use Rattle.cycles.proofs.EntryLaws.{no-parent-there, off-cycle}
-use Rattle.cycles.proofs.expand.entry_vertex.Statement.{statement}
-use Rattle.cycles.proofs.expand.entry_vertex.Tie as tie
+use Rattle.expansion.specs.Expansion.{Cycle-entry}
+use Rattle.expansion.proofs.ExpansionLaws.{no-parent-there, off-cycle}
+use Rattle.expansion.proofs.entry_vertex.Statement.{statement}
+use Rattle.expansion.proofs.entry_vertex.Tie as tie
 
 abbrev Inv-loop : tie.InvT-loop
-Inv-loop parents label stamp n at first bound u₀ u = (u ≤ n) × ((q : ℕ) → q < u → Entry parents label stamp n at q → ⊥)
+Inv-loop label stamp parents n at first bound u₀ u = (u ≤ n) × ((q : ℕ) → q < u → Cycle-entry parents label stamp n at q → ⊥)
 
 abbrev μ-loop : tie.MeasureT-loop
-μ-loop parents label stamp n at first bound u₀ u = n - u
+μ-loop label stamp parents n at first bound u₀ u = n - u
 
 cast-at : tie.Need-cast-at Inv-loop μ-loop
 cast-at c = omega arith
@@ -57,7 +57,7 @@ loop-again c =
     let al = c .before .before .before .before in (
       omega arith,
       λ q l e.
-          ⊎-elim (λ (s : q ≡ al .loop .u). let e′ = subst (Entry _ _ _ _ _) s e in
+          ⊎-elim (λ (s : q ≡ al .loop .u). let e′ = subst (Cycle-entry _ _ _ _ _) s e in
           ⊎-elim (λ w. no-parent-there e′ (w .2 .left)) (λ w. off-cycle e′ (w .left)) (c .if1 .came))
           (λ (s : q < al .loop .u). al .loop .inv .1 q s e) (eq-or-lt-of-le {n = q} {m = al .loop .u} (omega arith)),
     )

@@ -1,26 +1,27 @@
--- `edmonds::plan::plan_groups` meets its contract: one level by the laws of PlainLevel and CycleLevel, one law for each way to return. The measure is the
--- bound on the number of groups. Assumes nothing.
+-- `edmonds::level::plan_groups` meets its contract: one level by the laws of PlainLevelLaws and CycleLevelLaws, one law for each way to
+-- return. The measure is the bound on the number of groups. Assumes nothing.
 use Prim.Native.Nat.{ℕ, _<_}
 use native.Mathlib.Omega.{arith}
 use borrow.Author.Needs.{needs}
 use borrow.Author.Tests.{not-true, not-false}
 use borrow.Fn.Kinds.{In}
 use borrow.Fn.PlainCycle.{Measures, is, falls, and}
-use Rattle.edmonds.proofs.PlainLevel.{searchable, solved-plain}
-use Rattle.edmonds.proofs.CycleLevel.{three, stopped, ready, none-below, entered, expands}
-use Rattle.edmonds.proofs.plan.plan_groups.Reads as plan
-use Rattle.edmonds.proofs.plan.plan_groups.Kinds as kinds
-use Rattle.edmonds.proofs.plan.+plan_groups.Lts-plan_groups as lts
+use Rattle.instance.specs.Limits.{max-vertices}
+use Rattle.edmonds.proofs.PlainLevelLaws.{searchable, solved-plain}
+use Rattle.edmonds.proofs.CycleLevelLaws.{three, stopped, contracted-plannable, none-below, entered, expands}
+use Rattle.edmonds.proofs.level.plan_groups.Reads as plan
+use Rattle.edmonds.proofs.level.plan_groups.Kinds as kinds
+use Rattle.edmonds.proofs.level.+plan_groups.Lts-plan_groups as lts
 use Rattle.charging.proofs.charge.charge_group.Reads as charge-group
 use Rattle.cycles.proofs.contract.contracted_labels.Reads as contracted-labels
 use Rattle.cycles.proofs.cycle.find_cycle.Reads as find-cycle
-use Rattle.cycles.proofs.expand.expand_cycle.Reads as expand-cycle
-use Rattle.cycles.proofs.expand.own_parents.Reads as own-parents
-use Rattle.edmonds.proofs.Planned.tree.Reads as tree
-use Rattle.edmonds.proofs.Planned.none.Reads as none
-use Rattle.edmonds.proofs.plan.replaced.Reads as replaced
-use Rattle.edmonds.proofs.plan.+plan_groups.{statement}
-use Rattle.edmonds.proofs.plan.+plan_groups.Tie.{close}
+use Rattle.expansion.proofs.expand_cycle.Reads as expand-cycle
+use Rattle.expansion.proofs.own_parents.Reads as own-parents
+use Rattle.edmonds.proofs.level.GroupTree.tree.Reads as tree
+use Rattle.edmonds.proofs.level.GroupTree.none.Reads as none
+use Rattle.edmonds.proofs.level.replaced.Reads as replaced
+use Rattle.edmonds.proofs.level.+plan_groups.{statement}
+use Rattle.edmonds.proofs.level.+plan_groups.Tie.{close}
 
 abbrev μ : Measures 5 kinds.ps ℕ
 μ κs a = a .1 .1 .1 .1 .1 .1 .0
@@ -76,8 +77,8 @@ returns t c =
     let fc = t1 .before .before in
     let st = fc .before in
     let r = st .pre .1 .0 in
-    rw (e .0, e .1, e .2, e .3)
-    (solved-plain r (st .pre .1 .1) (fc .find-cycle .ensures .none (not-true (fc .find-cycle .result .found) (t1 .if1 .taken))) (c .before .own-parents .ensures))
+    rw (e .0, e .1, e .2)
+    (solved-plain r (st .pre .1 .1) (fc .find-cycle .ensures .none (not-true (fc .find-cycle .result .found) (t1 .if1 .taken))) (c .before .own-parents .ensures) _)
 
 contracted-labels-requires : (t : ℕ) → lts.Need-contracted-labels-requires (callees t) (at-measure t) plan.Post
 contracted-labels-requires t c κs =
@@ -117,12 +118,13 @@ returns-2 t c =
     let mt = fc .find-cycle .ensures .cycle (not-false (fc .find-cycle .result .found) (e1 .if1 .left)) in
     let ct = cl .contracted-labels .ensures in
     let ch = cg .charge-group .ensures in
-    rw (e .0, e .1, e .2, e .3) (stopped r mt ct ch (not-true (cg .charge-group .result .found) (t2 .if2 .taken)))
+    rw (e .0, e .1) (stopped r mt ct ch (not-true (cg .charge-group .result .found) (t2 .if2 .taken)) _ _)
 
 -- what replaces the ends of an arc fits there
 stored : (t : ℕ) (c : lts.Else2 (callees t) (at-measure t) plan.Post)
-    → (c .before .before .before .before .before .before .before .before .before .before .before .find-cycle .result .at .0 < 32) × (c .before .before .charge-group .result .tail < 32)
-    × (c .before .before .charge-group .result .head < 32)
+    → (c .before .before .before .before .before .before .before .before .before .before .before .find-cycle .result .at .0 < max-vertices)
+    × (c .before .before .charge-group .result .tail .0 < max-vertices)
+    × (c .before .before .charge-group .result .head .0 < max-vertices)
 stored t c =
     let e2 = c in
     let cg = e2 .before .before in
@@ -178,7 +180,7 @@ plan-groups-requires t c κs =
     let h = three r mt ct in
     let most = ch .most in
     let room = st .pre .1 .2 in
-    (omega arith, (rw (tails .replaced .ensures, heads .replaced2 .ensures) (ready r mt ct ch yes-arc), ch .cuts-size, omega arith))
+    (omega arith, (rw (tails .replaced .ensures, heads .replaced2 .ensures) (contracted-plannable r mt ct ch yes-arc), ch .cuts-size, omega arith))
 
 returns-3 : (t : ℕ) → lts.Need-returns-3 (callees t) (at-measure t) plan.Post
 returns-3 t c =
@@ -214,7 +216,7 @@ expand-cycle-requires t c κs =
     let yes-arc = not-false (cg .charge-group .result .found) (e2 .if2 .left) in
     let so = pg .plan-groups .ensures in
     let yes-tree = not-false (pg .plan-groups .result .found) (e3 .if3 .left) in
-    (so .parents-size, r .small, mt .walk .v-below, r .labels .below, entered r mt ct ch yes-arc so yes-tree)
+    (so .solution yes-tree .parents-size, r .small, mt .walk .v-below, r .labels .below, entered r mt ct ch yes-arc so yes-tree)
 
 tree-requires-2 : (t : ℕ) → lts.Need-tree-requires-2 (callees t) (at-measure t) plan.Post
 tree-requires-2 t c κs = search needs
@@ -239,7 +241,7 @@ returns-4 t c =
     let so = pg .plan-groups .ensures in
     let yes-tree = not-false (pg .plan-groups .result .found) (e3 .if3 .left) in
     let ex = ec .expand-cycle .ensures in
-    rw (e .0, e .1, e .2, e .3) (expands r mt ct ch yes-arc so yes-tree (ex .entry) (ex .expanded))
+    rw (e .0, e .1, e .2) (expands r mt ct ch yes-arc so yes-tree (ex .entry) (ex .expanded) _)
 
 pub +plan-groups-spec : {M : Type 1} → statement M
 +plan-groups-spec =

@@ -1,4 +1,4 @@
--- A level of planning with a cycle: the contracted level is ready, and what solves it solves this level, once the cycle is expanded.
+-- A level of planning with a cycle: the contracted level can be planned, and what solves it solves this level, once the cycle is expanded.
 -- Assumes nothing.
 use mathlib.Core.Path.{_≡_, refl, sym, _∙_, subst}
 use mathlib.Core.Bool.{Bool, true, false}
@@ -7,34 +7,37 @@ use mathlib.Core.Logic.{_≢_, inl, inr, ⊎-elim}
 use Prim.Native.Nat.{ℕ, _+_, _*_, _-_, _≤_, _<_}
 use native.Mathlib.Omega.{arith}
 use lib.Dec.{eqb}
-use lib.ListN.{set, length-set, replicate}
+use lib.ListN.{set, length-set}
 use lib.Seq.{getD-set-same, getD-set-other}
 use borrow.Author.Tests.{eq-eqb, ne-eqb, eqb-true, eqb-false}
 use Rattle.base.proofs.Tests.{test, not-both}
-use Rattle.instance.specs.Limits.{max-vertices, no-parent}
+use Rattle.instance.specs.Limits.{max-vertices}
 use Rattle.instance.specs.Cuts.{Cut, cuts-from}
+use Rattle.contraction.specs.Cells.{at, cost}
 use Rattle.contraction.specs.Groups.{Labels, Group, Chosen, Cycle, Lowered, contracted, expanded, groups}
+use Rattle.contraction.specs.Search.{on-cycle}
 use Rattle.contraction.specs.Trees.{Each, Reached, here, step, Tree, Fine}
 use Rattle.base.proofs.CountingLaws.{count-more, count-one}
 use Rattle.contraction.proofs.EachLaws.{each-append, tree-same}
 use Rattle.contraction.proofs.Lowering.{lowered-twice, chosen-lowered}
 use Rattle.contraction.proofs.Expansion.{expand-tree}
 use Rattle.contraction.proofs.SearchLaws as search-laws
-use Rattle.contraction.specs.Cells.{at, cost}
-use Rattle.charging.specs.Charge.{Enters, Charged-group}
-use Rattle.cycles.specs.Cycle.{Met, on-cycle, Contracted, Entry, Entered, Expanded}
-use Rattle.edmonds.specs.Level.{Ready, Solution, Solved}
+use Rattle.charging.specs.Charge.{Chosen-arc, Charged-group}
+use Rattle.cycles.specs.Cycle.{Met}
+use Rattle.cycles.specs.Contract.{Contracted}
+use Rattle.expansion.specs.Expansion.{Cycle-entry, Cycle-entered, Expanded}
+use Rattle.edmonds.specs.Level.{Plannable, Solution, Solved}
 use Rattle.instance.proofs.CutLaws.{cuts-joined}
-use Rattle.charging.proofs.ChargeLaws.{closed-before}
+use Rattle.charging.proofs.ChargeLaws.{unentered-before}
 
-module _ {ws ls tails heads : List ℕ} {n root left : ℕ} (r : Ready ws ls tails heads n root left) where
+module _ {ws ls tails heads : List ℕ} {n root left : ℕ} (r : Plannable ws ls tails heads n root left) where
   root-below : root < n
   root-below = r .labels .root-below
 
   -- a cycle at v, contracted to the labels lc
   module _ {stamp : List ℕ} {v : ℕ} (mt : Met ls tails stamp n root v) {lc : List ℕ} (ct : Contracted ls stamp n v lc) where
     abbrev on : ℕ → Bool
-    on = on-cycle stamp v
+    on = on-cycle (at stamp) v
 
     cycle-at : {w : ℕ → ℕ → ℕ} → Chosen n root w (at ls) (at tails) (at heads) → Cycle n root w (at ls) (at tails) (at heads) on v
     cycle-at {w} ch = search-laws.cycle n root (at ls) (at tails) (at stamp) (mt .first) (mt .last) v (mt .walk) w (at heads) ch (mt .met)
@@ -125,20 +128,17 @@ module _ {ws ls tails heads : List ℕ} {n root left : ℕ} (r : Ready ws ls tai
 
     -- THE CONTRACTED GROUP, charged
     module _ {ws′ cuts cuts′ : List ℕ} {k : ℕ} {found : Bool} {t h k′ s : ℕ} (ch : Charged-group ws ws′ lc n v cuts cuts′ k found t h k′ s) where
-      pub stopped : found ≡ false → Solved ws ws′ ls n root left cuts cuts′ k false (replicate max-vertices no-parent) 0 s
-      stopped no-found =
+      pub stopped : found ≡ false → (ps : List ℕ) (next : ℕ) → Solved ws ws′ ls n root left cuts cuts′ k false ps next s
+      stopped no-found ps next =
           record {
             size = ch .size;
             cuts-size = ch .cuts-size;
-            parents-size = refl;
             solution = λ x. absurd (not-both false x refl);
-            no-set = λ x. absurd (not-both false x refl);
-            closed = λ _. ch .closed no-found root root-below root-not-v v v-below label-v;
-            none = λ _. (refl, refl);
+            unentered = λ _. ch .unentered no-found root root-below root-not-v v v-below label-v;
           }
 
       module _ (is-found : found ≡ true) where
-        v-32 : v < 32
+        v-32 : v < max-vertices
         v-32 = omega (arith, v-below, r .small)
 
         -- the arcs chosen now: v's is the one that was charged, the others are as they were
@@ -152,16 +152,16 @@ module _ {ws ls tails heads : List ℕ} {n root left : ℕ} (r : Ready ws ls tai
               free = λ g gr. arc g gr .free;
             }
           where
-            at-v : Enters ws′ lc n v (at (set tails v t) v) (at (set heads v h) v)
+            at-v : Chosen-arc ws′ lc n v (at (set tails v t) v) (at (set heads v h) v)
             at-v =
                 let zt = r .tails-size in
                 let zh = r .heads-size in
                 let b = v-32 in
                 rw (getD-set-same tails v t 0 (omega arith), getD-set-same heads v h 0 (omega arith)) (ch .arc is-found)
 
-            arc : (g : ℕ) → Group n root (at lc) g → Enters ws′ lc n g (at (set tails v t) g) (at (set heads v h) g)
+            arc : (g : ℕ) → Group n root (at lc) g → Chosen-arc ws′ lc n g (at (set tails v t) g) (at (set heads v h) g)
             arc g gr =
-                ⊎-elim (λ (e : eqb g v ≡ true). subst (λ (x : ℕ). Enters ws′ lc n x (at (set tails v t) x) (at (set heads v h) x)) (sym (eqb-true g v e)) at-v)
+                ⊎-elim (λ (e : eqb g v ≡ true). subst (λ (x : ℕ). Chosen-arc ws′ lc n x (at (set tails v t) x) (at (set heads v h) x)) (sym (eqb-true g v e)) at-v)
                 (λ (e : eqb g v ≡ false).
                 let ne = eqb-false g v e in
                 let o = off g gr ne in
@@ -182,8 +182,8 @@ module _ {ws ls tails heads : List ℕ} {n root left : ℕ} (r : Ready ws ls tai
                 }))
                 (test (eqb g v))
 
-        pub ready : Ready ws′ lc (set tails v t) (set heads v h) n root (left - 1)
-        ready =
+        pub contracted-plannable : Plannable ws′ lc (set tails v t) (set heads v h) n root (left - 1)
+        contracted-plannable =
             let f = fewer in
             let two = two-left in
             let en = r .enough in
@@ -207,19 +207,16 @@ module _ {ws ls tails heads : List ℕ} {n root left : ℕ} (r : Ready ws ls tai
               record {
                 size = so .size;
                 cuts-size = so .cuts-size;
-                parents-size = so .parents-size;
                 solution = λ x. absurd (not-both found′ x e);
-                no-set = λ x. absurd (not-both found′ x e);
-                closed = λ x. closed-before (ch .lowered) (so .closed x);
-                none = so .none;
+                unentered = λ x. unentered-before (ch .lowered) (so .unentered x);
               }
 
           module _ (th : found′ ≡ true) where
-            entered-at : {g : ℕ} → Reached n root (at lc) (at ps) g → g ≡ v → Entered ps ls stamp n v
+            entered-at : {g : ℕ} → Reached n root (at lc) (at ps) g → g ≡ v → Cycle-entered ps ls stamp n v
             entered-at (here e) x = absurd (root-not-v (sym e ∙ x))
             entered-at (step u l e p rest) x = (u, record { below = l; on = back-on u l (e ∙ x); has = p })
 
-            pub entered : Entered ps ls stamp n v
+            pub entered : Cycle-entered ps ls stamp n v
             entered = entered-at (so .solution th .tree .reached v v-below) label-v
 
             abbrev cs : List Cut
@@ -237,7 +234,7 @@ module _ {ws ls tails heads : List ℕ} {n root left : ℕ} (r : Ready ws ls tai
                 (subst (λ (x : List Cut). Tree n root (cost ws″) (at lc) x (at ps)) joined
                 (ch .lifts is-found root root-not-v (cost ws″) (cuts-from (m - k′) k′ cuts″) (at ps) (so .solution th .tree)))
 
-            module _ {e : ℕ} (en : Entry ps ls stamp n v e) {ps′ : List ℕ} (ex : Expanded ps ls stamp tails heads n v e ps′) where
+            module _ {e : ℕ} (en : Cycle-entry ps ls stamp n v e) {ps′ : List ℕ} (ex : Expanded ps ls stamp tails heads n v e ps′) where
               fine-tree : Tree n root (cost ws″) (at ls) cs (at ps′)
               fine-tree =
                   tree-same n root (cost ws″) (at ls) (at ls) (expanded (at ls) (at tails) (at heads) on (at ls e) (at ps)) (at ps′) root-below (λ u l. refl) (ex .is) cs
@@ -251,6 +248,7 @@ module _ {ws ls tails heads : List ℕ} {n root left : ℕ} (r : Ready ws ls tai
                   let mm = so .solution th .most in
                   let lp = three in
                   record {
+                    parents-size = ex .size;
                     tree = fine-tree;
                     lowered = lowered;
                     fine =
@@ -265,14 +263,11 @@ module _ {ws ls tails heads : List ℕ} {n root left : ℕ} (r : Ready ws ls tai
                     root-none = ex .is root root-below ∙ rw (cycle .root-off) (so .solution th .root-none);
                   }
 
-              pub expands : Solved ws ws″ ls n root left cuts cuts″ k true ps′ m 0
-              expands =
+              pub expands : (set : ℕ) → Solved ws ws″ ls n root left cuts cuts″ k true ps′ m set
+              expands set =
                   record {
                     size = so .size;
                     cuts-size = so .cuts-size;
-                    parents-size = ex .size;
                     solution = λ _. solution;
-                    no-set = λ _. refl;
-                    closed = λ x. absurd (not-both true refl x);
-                    none = λ x. absurd (not-both true refl x);
+                    unentered = λ x. absurd (not-both true refl x);
                   }

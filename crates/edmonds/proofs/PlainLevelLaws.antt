@@ -8,17 +8,18 @@ use lib.ListN.{length}
 use borrow.Author.Tests.{eq-eqb}
 use Rattle.base.proofs.Tests.{not-both}
 use Rattle.instance.specs.Limits.{cut-words}
+use Rattle.contraction.specs.Cells.{at, cost}
 use Rattle.contraction.specs.Groups.{own-arcs}
 use Rattle.contraction.specs.Trees.{none-left}
 use Rattle.contraction.proofs.EachLaws.{tree-same}
 use Rattle.contraction.proofs.Lowering.{lowered-none}
 use Rattle.contraction.proofs.NoCycle.{own-tree}
-use Rattle.contraction.specs.Cells.{at, cost}
-use Rattle.cycles.specs.Cycle.{Searchable, No-cycle, Own-arcs}
-use Rattle.edmonds.specs.Level.{Ready, Solved}
+use Rattle.cycles.specs.Cycle.{Searchable, No-cycle}
+use Rattle.expansion.specs.Expansion.{Own-arcs}
+use Rattle.edmonds.specs.Level.{Plannable, Solved}
 use Rattle.instance.proofs.CutLaws.{no-cuts}
 
-module _ {ws ls tails heads : List ℕ} {n root left : ℕ} (r : Ready ws ls tails heads n root left) where
+module _ {ws ls tails heads : List ℕ} {n root left : ℕ} (r : Plannable ws ls tails heads n root left) where
   pub searchable : Searchable ls tails n root
   searchable = record { small = r .small; labels = r .labels; arc = λ g gr. r .chosen .tail-below g gr }
 
@@ -26,18 +27,18 @@ module _ {ws ls tails heads : List ℕ} {n root left : ℕ} (r : Ready ws ls tai
   root-below = r .labels .root-below
 
   pub solved-plain : {cuts ps : List ℕ} {k : ℕ} → length cuts ≡ cut-words → No-cycle ls tails n root → Own-arcs ls tails heads n root ps
-      → Solved ws ws ls n root left cuts cuts k true ps k 0
-  solved-plain {cuts} {ps} {k} size nc own =
+      → (set : ℕ) → Solved ws ws ls n root left cuts cuts k true ps k set
+  solved-plain {cuts} {ps} {k} size nc own set =
       let e = no-cuts k cuts in
       let sm = r .small in
       let t = own-tree n root (cost ws) (at ls) (at tails) (at heads) (r .labels) (r .chosen) (omega arith) nc in
       record {
         size = r .size;
         cuts-size = size;
-        parents-size = own .size;
         solution =
             λ _.
             record {
+              parents-size = own .size;
               tree = rw e (tree-same n root (cost ws) (at ls) (at ls) (own-arcs root (at ls) (at tails) (at heads)) (at ps) root-below (λ v l. refl) (own .is) [] t);
               lowered = rw e (lowered-none n (cost ws));
               fine = rw e none-left;
@@ -46,7 +47,5 @@ module _ {ws ls tails heads : List ℕ} {n root left : ℕ} (r : Ready ws ls tai
               frame = λ i why. refl;
               root-none = own .is root root-below ∙ rw (eq-eqb (at ls root) (at ls root) refl);
             };
-        no-set = λ _. refl;
-        closed = λ x. absurd (not-both true refl x);
-        none = λ x. absurd (not-both true refl x);
+        unentered = λ x. absurd (not-both true refl x);
       }

@@ -1,4 +1,4 @@
--- `cycles::expand::own_parents` meets its contract. The loop has filled the parents below v. Assumes nothing.
+-- `expansion::own_parents` meets its contract. The loop has filled the parents below v. Assumes nothing.
 use mathlib.Core.Path.{refl}
 use mathlib.Core.Logic.{⊎-elim}
 use Prim.Native.Nat.{ℕ, _-_, _≤_}
@@ -8,8 +8,8 @@ use borrow.Author.Tests.{eq-eqb, ne-eqb}
 use Rattle.contraction.specs.Groups.{own-arcs}
 use Rattle.contraction.specs.Cells.{at}
 use Rattle.base.proofs.OverwriteLaws.{Overwritten, overwrite-none, overwrite-store, overwrite-pass}
-use Rattle.cycles.proofs.expand.own_parents.Statement.{statement}
-use Rattle.cycles.proofs.expand.own_parents.Tie as tie
+use Rattle.expansion.proofs.own_parents.Statement.{statement}
+use Rattle.expansion.proofs.own_parents.Tie as tie
 
 abbrev Inv-loop : tie.InvT-loop
 Inv-loop label tails heads n r top out₀ v₀ out v = (v ≤ n) × Overwritten 32 out₀ out (own-arcs r (at label) (at tails) (at heads)) v
