@@ -3,15 +3,16 @@ use mathlib.Core.Path.{_≡_, refl}
 use Prim.Native.Nat.{_-_, _≤_}
 use native.Mathlib.Omega.{arith}
 use lib.ListN.{length, length-set}
+use Rattle.instance.specs.Limits.{max-vertices}
 use Rattle.instance.specs.Instance.{instance-with}
-use Rattle.states.specs.Pins.{Pin-table}
-use Rattle.states.proofs.PinLaws.{table-none, table-more}
-use Rattle.states.proofs.matrix.pin_table.Statement.{statement}
-use Rattle.states.proofs.matrix.pin_table.Tie as tie
+use Rattle.remaining.specs.Pins.{Pin-table}
+use Rattle.remaining.proofs.PinLaws.{table-none, table-more}
+use Rattle.remaining.proofs.pins.pin_table.Statement.{statement}
+use Rattle.remaining.proofs.pins.pin_table.Tie as tie
 
 abbrev Inv-loop : tie.InvT-loop
 Inv-loop weights marks n root table₀ head₀ table head =
-    (head ≤ n) × (length table ≡ 32) × Pin-table (instance-with n root 0 weights marks) head table
+    (head ≤ n) × (length table ≡ max-vertices) × Pin-table (instance-with n root 0 weights marks) head table
 
 abbrev μ-loop : tie.MeasureT-loop
 μ-loop weights marks n root table₀ head₀ table head = n - head

@@ -1,4 +1,5 @@
--- Laws of pins: one tail more, and what they make of the weight of a cell in the matrix. Assumes nothing.
+-- Laws of pins: a pinned arc as a program reads it, one tail more, and what pins make of the weight of a cell in the matrix. Assumes
+-- nothing.
 use mathlib.Core.Path.{_≡_, refl, sym, _∙_}
 use mathlib.Core.Bool.{Bool, true, false, _&&_, _||_, not, cond}
 use mathlib.Core.List.{List}
@@ -11,31 +12,43 @@ use lib.ListN.{length, set}
 use borrow.Author.Tests.{ne-eqb, eqb-true}
 use Rattle.base.specs.Bounded.{any-below}
 use Rattle.base.proofs.Tests.{and-false-right}
-use Rattle.instance.specs.Limits.{no-arc, banned}
+use Rattle.base.proofs.FillingLaws.{filled-none, filled-more}
+use Rattle.instance.specs.Limits.{max-vertices, no-arc, pinned, banned}
 use Rattle.instance.specs.Instance.{Instance, can-be-arc, is-arc, weight, mark}
 use Rattle.instance.specs.Arborescence.{is-pinned, other-pinned, remaining}
-use Rattle.states.specs.Pins.{Pins, Pin-table, allows}
-use Rattle.base.proofs.FillingLaws.{filled-none, filled-more}
+use Rattle.instance.specs.Matrix.{unmarked}
+use Rattle.remaining.specs.Pins.{no-pin, several-pins, Pins, Pin-table, allows}
 
-allows-none : (t : ℕ) → allows 32 t ≡ true
+-- A PINNED ARC, as a program reads it
+module _ (s : Instance) (t h : ℕ) where
+  pub not-arc-unpinned : is-arc (unmarked (s .n) (s .root) (s .weights)) t h ≡ false → false ≡ is-pinned s t h
+  unfolding is-pinned is-arc weight unmarked
+  not-arc-unpinned e = rw e
+
+  pub arc-pinned : is-arc (unmarked (s .n) (s .root) (s .weights)) t h ≡ true → eqb (mark s t h) pinned ≡ is-pinned s t h
+  unfolding is-pinned is-arc weight unmarked
+  arc-pinned e = rw e
+
+-- WHAT A PIN ALLOWS
+allows-none : (t : ℕ) → allows no-pin t ≡ true
 unfolding allows
 allows-none t = refl
 
 -- a pin allows the arcs of another tail out, and so do several
-allows-none-of : (p t : ℕ) → (p ≡ 32 → ⊥) → (p ≡ t → ⊥) → allows p t ≡ false
+allows-none-of : (p t : ℕ) → (p ≡ no-pin → ⊥) → (p ≡ t → ⊥) → allows p t ≡ false
 unfolding allows
-allows-none-of p t a b = rw (ne-eqb p 32 a, ne-eqb p t b)
+allows-none-of p t a b = rw (ne-eqb p no-pin a, ne-eqb p t b)
 
-allows-tail : (p t : ℕ) → (p ≡ 32 → ⊥) → allows p t ≡ eqb p t
+allows-tail : (p t : ℕ) → (p ≡ no-pin → ⊥) → allows p t ≡ eqb p t
 unfolding allows
-allows-tail p t a = rw (ne-eqb p 32 a)
+allows-tail p t a = rw (ne-eqb p no-pin a)
 
 -- ONE TAIL MORE
 module _ (s : Instance) (h : ℕ) where
   abbrev rival : (t g : ℕ) → Bool
   rival t g = not (eqb g t) && is-pinned s g h
 
-  pub pins-none : Pins s h 0 32
+  pub pins-none : Pins s h 0 no-pin
   unfolding any-below
   pins-none = record { range = inr (omega arith); others = λ t l. rw (allows-none t) refl }
 
@@ -44,11 +57,11 @@ module _ (s : Instance) (h : ℕ) where
   pins-pass g p e k =
       rw add-one
       (record {
-        range = ⊎-elim (λ (l : p < g). inl (omega arith)) (λ (l : 32 ≤ p). inr l) (k .range);
+        range = ⊎-elim (λ (l : p < g). inl (omega arith)) (λ (l : max-vertices ≤ p). inr l) (k .range);
         others = λ t l. rw (e, and-false-right (not (eqb g t)) false refl) (k .others t l);
       })
 
-  pub pins-first : (g p : ℕ) → is-pinned s g h ≡ true → g < 32 → p ≡ 32 → Pins s h g p → Pins s h (g + 1) g
+  pub pins-first : (g p : ℕ) → is-pinned s g h ≡ true → g < max-vertices → p ≡ no-pin → Pins s h g p → Pins s h (g + 1) g
   unfolding any-below
   pins-first g p e b q k = rw add-one (record { range = inl (omega arith); others = λ t l. at t (k .others t l) })
     where
@@ -59,19 +72,19 @@ module _ (s : Instance) (h : ℕ) where
       at : (t : ℕ) → any-below g (rival t) ≡ not (allows p t) → rival t g || any-below g (rival t) ≡ not (allows g t)
       at t r = rw (e, r, q, allows-none t, allows-tail g t (λ z. omega arith)) (only (eqb g t))
 
-  pub pins-again : (g p : ℕ) → is-pinned s g h ≡ true → g < 32 → (p ≡ 32 → ⊥) → Pins s h g p → Pins s h (g + 1) 33
+  pub pins-again : (g p : ℕ) → is-pinned s g h ≡ true → g < max-vertices → (p ≡ no-pin → ⊥) → Pins s h g p → Pins s h (g + 1) several-pins
   unfolding any-below
   pins-again g p e b q k = rw add-one (record { range = inr (omega arith); others = λ t l. at t l (k .others t l) })
     where
       apart : p ≡ g → ⊥
-      apart z = ⊎-elim (λ (l : p < g). omega arith) (λ (l : 32 ≤ p). omega arith) (k .range)
+      apart z = ⊎-elim (λ (l : p < g). omega arith) (λ (l : max-vertices ≤ p). omega arith) (k .range)
 
       cases : (t : ℕ) (x : Bool) → eqb g t ≡ x → any-below g (rival t) ≡ not (allows p t) → (not x && true) || any-below g (rival t) ≡ true
       cases t true z r = r ∙ rw (← eqb-true g t z, allows-none-of p g q apart)
       cases t false z r = refl
 
-      at : (t : ℕ) → t < 32 → any-below g (rival t) ≡ not (allows p t) → rival t g || any-below g (rival t) ≡ not (allows 33 t)
-      at t l r = rw (e, allows-none-of 33 t (λ z. omega arith) (λ z. omega arith)) (cases t (eqb g t) refl r)
+      at : (t : ℕ) → t < max-vertices → any-below g (rival t) ≡ not (allows p t) → rival t g || any-below g (rival t) ≡ not (allows several-pins t)
+      at t l r = rw (e, allows-none-of several-pins t (λ z. omega arith) (λ z. omega arith)) (cases t (eqb g t) refl r)
 
 -- THE WEIGHT OF A CELL
 -- a cell without an arc holds "no arc" whatever is said of it
@@ -87,7 +100,7 @@ judged true x y w = at (eqb w no-arc) refl x y
     at false q true false = refl
     at false q false y = refl
 
-pub pins-weight : (s : Instance) (t h p : ℕ) → t < 32 → Pins s h (s .n) p
+pub pins-weight : (s : Instance) (t h p : ℕ) → t < max-vertices → Pins s h (s .n) p
     → cond (remaining s t h && true) (weight s t h) no-arc
     ≡ cond (can-be-arc (s .n) (s .root) t h && (not (eqb (mark s t h) banned) && allows p t)) (weight s t h) no-arc
 unfolding remaining is-arc other-pinned

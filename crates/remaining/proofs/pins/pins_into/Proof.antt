@@ -3,11 +3,12 @@ use mathlib.Core.Path.{_≡_, sym, _∙_}
 use mathlib.Core.Logic.{⊎-elim}
 use Prim.Native.Nat.{_<_, _-_, _≤_}
 use native.Mathlib.Omega.{arith}
+use Rattle.instance.specs.Limits.{max-vertices}
 use Rattle.instance.specs.Instance.{instance-with}
-use Rattle.states.specs.Pins.{Pins}
-use Rattle.states.proofs.PinLaws.{pins-none, pins-pass, pins-first, pins-again}
-use Rattle.states.proofs.matrix.pins_into.Statement.{statement}
-use Rattle.states.proofs.matrix.pins_into.Tie as tie
+use Rattle.remaining.specs.Pins.{Pins}
+use Rattle.remaining.proofs.PinLaws.{pins-none, pins-pass, pins-first, pins-again}
+use Rattle.remaining.proofs.pins.pins_into.Statement.{statement}
+use Rattle.remaining.proofs.pins.pins_into.Tie as tie
 
 abbrev Inv-loop : tie.InvT-loop
 Inv-loop weights marks n root head pin₀ g₀ pin g = (g ≤ n) × Pins (instance-with n root 0 weights marks) head g pin
@@ -31,7 +32,7 @@ loop-again : tie.Need-loop-again Inv-loop μ-loop
 loop-again c =
     let l = c .before .before .before in
     let g = l .loop .g in
-    let small : g < 32 = omega arith in
+    let small : g < max-vertices = omega arith in
     let found = sym (c .before .is-pinned .ensures) in (
       omega arith,
       ⊎-elim (λ w. rw (w .2) (pins-first _ _ g _ (found ∙ w .0 .taken) small (w .1 .taken) (l .loop .inv .1)))
