@@ -13,6 +13,7 @@ use Rattle.base.specs.Bounded.{all-below, sum-below}
 use Rattle.base.proofs.Tests.{test, and-both, and-false-right}
 use Rattle.base.proofs.BoundedLaws.{all-intro, sum-add, sum-zero, sum-eq}
 use Rattle.base.proofs.CountingLaws.{sum-one}
+use Rattle.base.proofs.CondLaws.{cond-zero, cond-add}
 use Rattle.instance.specs.Limits.{max-vertices, no-arc, no-parent, cut-limit}
 use Rattle.instance.specs.Instance.{Instance, weight}
 use Rattle.instance.specs.Arborescence.{remaining, parent, reaches, parent-ok, is-arborescence, total}
@@ -127,14 +128,6 @@ module _ (s : Instance) (w w′ : ℕ → ℕ → ℕ) (ps : List ℕ) (cs : Lis
       (λ (i : enters (c .set) (parent ps v) v ≡ false). rw (r, i)) (test (enters (c .set) (parent ps v) v)))
       (test (eqb v (s .root))))
       ∙ rw (ne, o .into)
-
-  cond-add : (b : Bool) (x y : ℕ) → cond b 0 (x + y) ≡ cond b 0 x + cond b 0 y
-  cond-add true x y = refl
-  cond-add false x y = refl
-
-  cond-zero : (b : Bool) → _≡_ {A = ℕ} (cond b 0 0) 0
-  cond-zero true = refl
-  cond-zero false = refl
 
   paid-values : (ds : List Cut) → Each (Once (s .n) (parent ps)) ds → sum-below (s .n) (paid ds) ≡ values ds
   unfolding charged values

@@ -10,3 +10,4 @@ pub mod SameArcs
 pub mod Restriction
 pub mod Forced
 pub mod SameOutcomes
+pub mod MatrixInstances
