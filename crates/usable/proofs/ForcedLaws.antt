@@ -1,7 +1,7 @@
 -- The matrix with one arc forced has the arborescences that use the arc, at the same totals; so planning on it finds the least total
 -- with the arc. Assumes nothing.
 use mathlib.Core.Path.{_≡_, refl, sym, ap, _∙_}
-use mathlib.Core.Bool.{Bool, true, false, _&&_, _||_, not, cond, and-true, true≢false}
+use mathlib.Core.Bool.{Bool, true, false, _&&_, _||_, not, cond, and-true}
 use mathlib.Core.List.{List}
 use mathlib.Core.Logic.{_↔_, _≢_, ⊎-elim}
 use Prim.Native.Nat.{ℕ, _+_, _/_, _%_, _≤_, _<_}
@@ -13,21 +13,22 @@ use lib.Seq.{getD-set-same, getD-set-other}
 use borrow.Author.Tests.{lt-ltb, le-ltb, eq-eqb, ne-eqb}
 use Rattle.base.proofs.Tests.{test, is-false, and-left, and-right, and-false-right}
 use Rattle.base.proofs.ListLaws.{default}
-use Rattle.instance.specs.Limits.{no-arc, cells}
+use Rattle.base.proofs.FillingLaws.{ltb-more}
+use Rattle.base.proofs.CondLaws.{cond-most}
+use Rattle.instance.specs.Limits.{max-vertices, no-arc, cells}
 use Rattle.instance.specs.Instance.{Instance, cell, can-be-arc, is-arc, weight}
 use Rattle.instance.specs.Arborescence.{remaining, is-arborescence, total, uses}
-use Rattle.instance.specs.Cuts.{Cut, cuts-in, values, Feasible, No-entry}
-use Rattle.instance.specs.Matrix.{unmarked}
-use Rattle.theory.specs.Usable.{restricted, forced}
+use Rattle.instance.specs.Cuts.{cuts-in}
+use Rattle.instance.specs.Matrix.{unmarked, Matrix-ok}
 use Rattle.instance.proofs.ArcLaws.{ends, remaining-ends, unmarked-remaining}
+use Rattle.theory.specs.Usable.{restricted, forced}
 use Rattle.theory.proofs.Duality.{weak-duality, no-entry}
 use Rattle.theory.proofs.SameArcs.{Same-arcs, same-back, same-arborescence, same-total}
 use Rattle.theory.proofs.Restriction.{restricted-remaining, restricted-same-weight, restricted-total}
 use Rattle.theory.proofs.Forced.{forced-arborescence}
+use Rattle.edmonds.specs.declared.Planned.{Planned}
 use Rattle.edmonds.specs.Planned.{Planned-matrix}
-use Rattle.states.specs.Tree.{Matrix-ok}
-use Rattle.states.specs.Judge.{taken-out, Forced-matrix, Forced-plan}
-use Rattle.base.proofs.FillingLaws.{ltb-more}
+use Rattle.usable.specs.Forced.{taken-out, Forced-matrix, Forced-plan}
 
 stays-in : (a b : Bool) → not a || b ≡ true → a && not b ≡ false
 stays-in true true e = refl
@@ -55,7 +56,7 @@ module _ (t₀ h₀ : ℕ) (m : List ℕ) where
   pub forced-pass : (g : ℕ) (w : List ℕ) → g ≡ t₀ → Forced-matrix g t₀ h₀ m w → Forced-matrix (g + 1) t₀ h₀ m w
   forced-pass g w e k = record { size = k .size; at = λ i l. rw (more-forced g (i / 32) (i % 32) e) (k .at i l) }
 
-  pub forced-more : (g : ℕ) (w : List ℕ) → g ≢ t₀ → g < 32 → h₀ < 32 → Forced-matrix g t₀ h₀ m w → Forced-matrix (g + 1) t₀ h₀ m (set w (cell g h₀) no-arc)
+  pub forced-more : (g : ℕ) (w : List ℕ) → g ≢ t₀ → g < max-vertices → h₀ < max-vertices → Forced-matrix g t₀ h₀ m w → Forced-matrix (g + 1) t₀ h₀ m (set w (cell g h₀) no-arc)
   forced-more g w e l b k = record { size = simp length-set (k .size); at = λ i c. cases i c (ℕ-discrete i (cell g h₀)) }
     where
       own : (i : ℕ) → i ≡ cell g h₀ → taken-out (g + 1) t₀ h₀ (i / 32) (i % 32) ≡ true
@@ -90,12 +91,13 @@ module _ (n root : ℕ) (m w : List ℕ) (t₀ h₀ : ℕ) (ok : Matrix-ok n roo
         small = ok .small;
         root-below = ok .root-below;
         size = f .size;
-        bounded = λ i l. let a = f .size in let b = ok .size in rw (default w i no-arc 0 (omega arith), f .at i l, default m i 0 no-arc (omega arith)) (at (taken-out n t₀ h₀ (i / 32) (i % 32)) (ok .bounded i l));
+        bounded =
+            λ i l.
+            let a = f .size in
+            let b = ok .size in
+            rw (default w i no-arc 0 (omega arith), f .at i l, default m i 0 no-arc (omega arith))
+            (cond-most (taken-out n t₀ h₀ (i / 32) (i % 32)) no-arc (getD m i no-arc) no-arc (omega arith) (ok .bounded i l));
       }
-    where
-      at : {v : ℕ} (b : Bool) → v ≤ no-arc → cond b no-arc v ≤ no-arc
-      at true l = omega arith
-      at false l = l
 
   -- a cell where an arc can be
   weight-forced : (t h : ℕ) → t < n → h < n → weight left t h ≡ cond (eqb h h₀ && not (eqb t t₀)) no-arc (weight whole t h)
@@ -134,7 +136,7 @@ module _ (n root : ℕ) (m w : List ℕ) (t₀ h₀ : ℕ) (ok : Matrix-ok n roo
       none : can-be-arc n root t h ≡ false → false ≡ remaining (restricted whole (forced t₀ h₀)) t h
       none c = sym (other ∙ rw c)
 
-  pub forced-same : Same-arcs left (restricted whole (forced t₀ h₀))
+  forced-same : Same-arcs left (restricted whole (forced t₀ h₀))
   unfolding unmarked forced
   forced-same =
       record {
@@ -156,7 +158,7 @@ module _ (n root : ℕ) (m w : List ℕ) (t₀ h₀ : ℕ) (ok : Matrix-ok n roo
   -- PLANNING ON IT
   module _ (r : remaining (unmarked n root m) t₀ h₀ ≡ true) where
     -- its arborescences are those that use the arc
-    pub forced-uses : (qs : List ℕ) → (is-arborescence left qs ≡ true) ↔ ((is-arborescence whole qs ≡ true) × (uses qs t₀ h₀ ≡ true))
+    forced-uses : (qs : List ℕ) → (is-arborescence left qs ≡ true) ↔ ((is-arborescence whole qs ≡ true) × (uses qs t₀ h₀ ≡ true))
     unfolding unmarked
     forced-uses qs =
         let on = restricted whole (forced t₀ h₀) in (
@@ -170,35 +172,21 @@ module _ (n root : ℕ) (m w : List ℕ) (t₀ h₀ : ℕ) (ok : Matrix-ok n roo
         let on = restricted whole (forced t₀ h₀) in
         same-total left on forced-same qs a ∙ restricted-total whole (forced t₀ h₀) (ok .small) qs (same-arborescence left on forced-same qs a)
 
-    pub forced-found : (ps : List ℕ) (cs : List Cut) → length ps ≡ 32 → is-arborescence left (take n ps) ≡ true → Feasible left cs
-        → values cs ≡ total left (take n ps) → Forced-plan n root m t₀ h₀ true ps
-    forced-found ps cs places a fe e =
-        let x = forced-uses (take n ps) .0 a in
+    pub planned-forced : (w′ cuts cuts′ : List ℕ) (p : Planned) → Planned-matrix n root w w′ cuts cuts′ p → Forced-plan n root m t₀ h₀ p
+    planned-forced w′ cuts cuts′ p k =
+        let ps = take n (p .parents) in
         record {
-          tree = λ _. record { matrix-ok = ok; places = places; found = x .0 };
-          used = λ _. x .1;
+          tree = λ e. record { matrix-ok = ok; places = k .parents-size; found = forced-uses ps .0 (k .minimum e .arborescence) .0 };
+          used = λ e. forced-uses ps .0 (k .minimum e .arborescence) .1;
+          is-total = λ e. k .is-total e ∙ forced-total ps (k .minimum e .arborescence);
           least =
-              λ _ qs b u.
+              λ e qs b u.
               let c = forced-uses qs .1 (b, u) in
-              let w = weak-duality left qs c cs fe in
-              let p = forced-total qs c in
-              let q = forced-total (take n ps) a in
+              let proved = k .minimum e .proved in
+              let least = weak-duality left qs c (cuts-in (p .count) cuts′) (proved .feasible) in
+              let adds = proved .adds in
+              let is = k .is-total e in
+              let same = forced-total qs c in
               omega arith;
-          shut = λ z. absurd (true≢false z);
+          shut = λ e qs b. is-false (uses qs t₀ h₀) (λ u. no-entry left qs (forced-uses qs .1 (b, u)) (record { set = p .set; value = 0 }) (k .no-entry e));
         }
-
-    pub forced-shut : (ps : List ℕ) (c : Cut) → No-entry left c → Forced-plan n root m t₀ h₀ false ps
-    forced-shut ps c e =
-        record {
-          tree = λ z. absurd (true≢false (sym z));
-          used = λ z. absurd (true≢false (sym z));
-          least = λ z. absurd (true≢false (sym z));
-          shut = λ _ qs b. is-false (uses qs t₀ h₀) (λ u. no-entry left qs (forced-uses qs .1 (b, u)) c e);
-        }
-
-    pub planned-forced : (w′ cuts cuts′ ps : List ℕ) (found : Bool) (count set : ℕ) → Planned-matrix n root w w′ cuts cuts′ found ps count set
-        → Forced-plan n root m t₀ h₀ found ps
-    planned-forced w′ cuts cuts′ ps true count set p =
-        let least = p .minimum refl in
-        forced-found ps (cuts-in count cuts′) (p .parents-size) (least .arborescence) (least .proved .feasible) (least .proved .adds)
-    planned-forced w′ cuts cuts′ ps false count set p = forced-shut ps (record { set = set; value = 0 }) (p .no-entry refl)

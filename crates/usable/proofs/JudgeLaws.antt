@@ -11,12 +11,12 @@ use lib.ListN.{getD, set, replicate, length-set, length-replicate, getD-replicat
 use lib.Seq.{getD-set-same, getD-set-other}
 use borrow.Author.Tests.{ne-eqb, lt-ltb}
 use Rattle.base.proofs.Tests.{test, not-both, same-test, and-right}
-use Rattle.instance.specs.Limits.{cells}
+use Rattle.instance.specs.Limits.{max-vertices, cells}
 use Rattle.instance.specs.Instance.{Instance, cell}
 use Rattle.instance.specs.Arborescence.{uses}
 use Rattle.theory.specs.Usable.{usable}
-use Rattle.states.specs.Table.{is-used, in-tree, Entered, Usable-table}
-use Rattle.states.specs.Judge.{Sound, Judged, Judged-head, Judged-all}
+use Rattle.usable.specs.Table.{is-used, Usable-table, in-tree, Tree-added}
+use Rattle.usable.specs.Judge.{Sound, Judged, Judged-head, Judged-all}
 
 module _ (s : Instance) where
   pub sound-none : Sound s (replicate cells 0)
@@ -35,7 +35,7 @@ module _ (s : Instance) where
     judged-unusable e = record { sound = k; grown = λ u v l m x. x; done = λ x. absurd (not-both (usable s t h) x e) }
 
     -- ONE ARC STORED
-    pub judged-usable : t < 32 → h < 32 → usable s t h ≡ true → Judged s t h used (set used (cell t h) 1)
+    pub judged-usable : t < max-vertices → h < max-vertices → usable s t h ≡ true → Judged s t h used (set used (cell t h) 1)
     judged-usable l m e =
         record {
           sound = record { size = simp length-set (k .size); right = λ u v a b x. right u v a b x (ℕ-discrete (cell u v) (cell t h)) };
@@ -46,7 +46,7 @@ module _ (s : Instance) where
         here : is-used (set used (cell t h) 1) t h ≡ true
         here = let size = k .size in rw (getD-set-same used (cell t h) 1 0 (omega arith))
 
-        right : (u v : ℕ) → u < 32 → v < 32 → is-used (set used (cell t h) 1) u v ≡ true → Dec (cell u v ≡ cell t h) → usable s u v ≡ true
+        right : (u v : ℕ) → u < max-vertices → v < max-vertices → is-used (set used (cell t h) 1) u v ≡ true → Dec (cell u v ≡ cell t h) → usable s u v ≡ true
         right u v a b x (yes z) =
             let p : u ≡ t = omega arith in
             let q : v ≡ h = omega arith in
@@ -57,10 +57,10 @@ module _ (s : Instance) where
         keep u v x (yes z) = rw z here
         keep u v x (no z) = rw (getD-set-other used (cell t h) (cell u v) 1 0 z) x
 
-  -- A TREE ENTERED, all of whose arcs are usable
-  module _ (n root : ℕ) (ps before after : List ℕ) (e : Entered n root ps before after) (k : Sound s before) where
-    cell-entered : (t h : ℕ) → t < 32 → h < 32 → getD after (cell t h) 0 ≡ cond (in-tree n root ps t h) 1 (getD before (cell t h) 0)
-    cell-entered t h l m =
+  -- A TREE ADDED, all of whose arcs are usable
+  module _ (n root : ℕ) (ps before after : List ℕ) (e : Tree-added n root ps before after) (k : Sound s before) where
+    cell-added : (t h : ℕ) → t < max-vertices → h < max-vertices → getD after (cell t h) 0 ≡ cond (in-tree n root ps t h) 1 (getD before (cell t h) 0)
+    cell-added t h l m =
         let d : cell t h / 32 ≡ t = omega arith in
         let g : cell t h % 32 ≡ h = omega arith in
         rw (d, g) at (e .at (cell t h) (omega arith))
@@ -73,23 +73,23 @@ module _ (s : Instance) where
     unfolding in-tree
     tree-in t h l z u = rw (lt-ltb h n l, ne-eqb h root z, u)
 
-    keep : (u v : ℕ) → u < 32 → v < 32 → is-used before u v ≡ true → is-used after u v ≡ true
+    keep : (u v : ℕ) → u < max-vertices → v < max-vertices → is-used before u v ≡ true → is-used after u v ≡ true
     keep u v l m x =
-        rw (cell-entered u v l m)
+        rw (cell-added u v l m)
         (⊎-elim (λ (y : in-tree n root ps u v ≡ true). rw y) (λ (y : in-tree n root ps u v ≡ false). rw y x) (test (in-tree n root ps u v)))
 
     module _ (fit : (t h : ℕ) → uses ps t h ≡ true → usable s t h ≡ true) where
-      right : (t h : ℕ) → t < 32 → h < 32 → is-used after t h ≡ true → usable s t h ≡ true
+      right : (t h : ℕ) → t < max-vertices → h < max-vertices → is-used after t h ≡ true → usable s t h ≡ true
       right t h l m x =
           ⊎-elim (λ (y : in-tree n root ps t h ≡ true). fit t h (in-tree-uses t h y))
-          (λ (y : in-tree n root ps t h ≡ false). k .right t h l m (rw (cell-entered t h l m, y) at x)) (test (in-tree n root ps t h))
+          (λ (y : in-tree n root ps t h ≡ false). k .right t h l m (rw (cell-added t h l m, y) at x)) (test (in-tree n root ps t h))
 
-      pub sound-entered : Sound s after
-      sound-entered = record { size = e .size ∙ k .size; right = right }
+      pub sound-added : Sound s after
+      sound-added = record { size = e .size ∙ k .size; right = right }
 
-      pub judged-entered : (t h : ℕ) → t < 32 → h < 32 → h < n → h ≢ root → uses ps t h ≡ true → Judged s t h before after
-      judged-entered t h l m a z u =
-          record { sound = sound-entered; grown = keep; done = λ _. rw (cell-entered t h l m, tree-in t h a z u) }
+      pub judged-added : (t h : ℕ) → t < max-vertices → h < max-vertices → h < n → h ≢ root → uses ps t h ≡ true → Judged s t h before after
+      judged-added t h l m a z u =
+          record { sound = sound-added; grown = keep; done = λ _. rw (cell-added t h l m, tree-in t h a z u) }
 
   -- ONE AFTER THE OTHER
   module _ (h : ℕ) where
@@ -99,7 +99,7 @@ module _ (s : Instance) where
     pub head-unusable : (bound : ℕ) (used : List ℕ) → Sound s used → ((t : ℕ) → t < bound → usable s t h ≡ false) → Judged-head s bound h used used
     head-unusable bound used k e = record { sound = k; grown = λ u v l m x. x; done = λ t l x. absurd (not-both (usable s t h) x (e t l)) }
 
-    pub head-more : (t : ℕ) (before mid after : List ℕ) → t < 32 → h < 32 → s .n ≤ 32 → t < s .n → Judged-head s t h before mid → Judged s t h mid after
+    pub head-more : (t : ℕ) (before mid after : List ℕ) → t < max-vertices → h < max-vertices → s .n ≤ max-vertices → t < s .n → Judged-head s t h before mid → Judged s t h mid after
         → Judged-head s (t + 1) h before after
     head-more t before mid after l m small b j k =
         record { sound = k .sound; grown = λ u v a c x. k .grown u v a c (j .grown u v a c x); done = λ g c x. at g c x (ℕ-discrete g t) }
@@ -111,7 +111,7 @@ module _ (s : Instance) where
   pub all-none : (used : List ℕ) → Sound s used → Judged-all s 0 used
   all-none used k = record { sound = k; done = λ t h l m. absurd (omega arith) }
 
-  pub all-more : (h : ℕ) (before after : List ℕ) → h < 32 → s .n ≤ 32 → Judged-all s h before → Judged-head s (s .n) h before after → Judged-all s (h + 1) after
+  pub all-more : (h : ℕ) (before after : List ℕ) → h < max-vertices → s .n ≤ max-vertices → Judged-all s h before → Judged-head s (s .n) h before after → Judged-all s (h + 1) after
   all-more h before after m small j k = record { sound = k .sound; done = λ t g l c x. at t g l c x (ℕ-discrete g h) }
     where
       at : (t g : ℕ) → t < s .n → g < h + 1 → usable s t g ≡ true → Dec (g ≡ h) → is-used after t g ≡ true
@@ -119,7 +119,7 @@ module _ (s : Instance) where
       at t g l c x (no z) = k .grown t g (omega arith) (omega arith) (j .done t g l (omega arith) x)
 
   -- ALL JUDGED
-  pub all-judged : (used : List ℕ) → s .n ≤ 32 → Judged-all s (s .n) used → Usable-table s used
+  pub all-judged : (used : List ℕ) → s .n ≤ max-vertices → Judged-all s (s .n) used → Usable-table s used
   all-judged used small k =
       record {
         exact =

@@ -1,28 +1,31 @@
--- Laws of tables of arcs: entering an arborescence, and counting the used arcs into a head. Assumes nothing.
-use mathlib.Core.Path.{_≡_, refl, sym, ap, _∙_}
-use mathlib.Core.Bool.{Bool, true, false, _&&_, not, cond}
+-- Laws of tables of arcs: adding an arborescence; and a table with nothing in it, which is right where no arborescence fits. Assumes
+-- nothing.
+use mathlib.Core.Path.{_≡_, refl, sym, _∙_}
+use mathlib.Core.Bool.{true, false, _&&_, not, cond}
 use mathlib.Core.List.{List}
-use mathlib.Core.Logic.{⊎-elim, _≢_}
+use mathlib.Core.Logic.{_≢_}
 use Prim.Native.Nat.{ℕ, _+_, _/_, _%_, _≤_, _<_}
 use native.Mathlib.Omega.{arith}
 use native.Mathlib.Decide.{ℕ-discrete}
-use native.Mathlib.Numerals.{add-one}
 use lib.Dec.{ltb, eqb}
-use lib.ListN.{length, getD, set, length-set}
+use lib.ListN.{length, getD, set, length-set, replicate, getD-replicate}
 use lib.Seq.{getD-set-same, getD-set-other}
-use borrow.Author.Tests.{lt-ltb, le-ltb, eqb-true, eq-eqb, ne-eqb, not-true}
-use Rattle.base.specs.Bounded.{any-below, sum-below, count-below}
-use Rattle.base.proofs.Tests.{test, not-both, and-left, and-right, and-both, and-false-right}
-use Rattle.base.proofs.BoundedLaws.{any-found, any-intro}
-use Rattle.instance.specs.Limits.{no-arc, cells}
-use Rattle.instance.specs.Instance.{cell, can-be-arc}
+use borrow.Author.Tests.{lt-ltb, le-ltb, eq-eqb, ne-eqb}
+use Rattle.base.proofs.Tests.{and-false-right}
+use Rattle.base.proofs.FillingLaws.{ltb-more}
+use Rattle.instance.specs.Limits.{max-vertices, cells}
+use Rattle.instance.specs.Instance.{Instance, cell}
 use Rattle.instance.specs.Arborescence.{parent, uses}
-use Rattle.instance.proofs.ArcLaws.{ends}
-use Rattle.base.proofs.CountingLaws.{count-more, count-one, sum-one}
-use Rattle.states.specs.Table.{is-used, in-tree, Entered, Counts, state-by}
-use Rattle.base.proofs.FillingLaws.{ltb-more, filled-none, filled-more}
+use Rattle.instance.specs.Cuts.{Cut, values, Feasible, No-entry}
+use Rattle.instance.specs.Matrix.{matrix-instance, unmarked}
+use Rattle.instance.specs.States.{fits}
+use Rattle.theory.proofs.StateLaws.{fits-arborescence, fits-total}
+use Rattle.theory.proofs.Duality.{weak-duality, no-entry}
+use Rattle.theory.proofs.Usable.{usable-none}
+use Rattle.theory.proofs.MatrixInstances.{matrix-instance-arborescence, matrix-instance-total}
+use Rattle.usable.specs.Table.{is-used, Usable-table, in-tree, Tree-added}
 
--- ENTERING AN ARBORESCENCE
+-- ADDING AN ARBORESCENCE
 module _ (root : ℕ) (ps : List ℕ) where
   -- one head more changes its own cells alone, and the root's not even
   more-other : (v t h : ℕ) → h ≢ v → in-tree (v + 1) root ps t h ≡ in-tree v root ps t h
@@ -46,16 +49,16 @@ module _ (root : ℕ) (ps : List ℕ) where
   before-own v t = rw (le-ltb v v (omega arith))
 
 module _ (root : ℕ) (ps before : List ℕ) where
-  pub enter-none : Entered 0 root ps before before
+  pub add-none : Tree-added 0 root ps before before
   unfolding in-tree
-  enter-none = record { size = refl; at = λ i l. rw (le-ltb (i % 32) 0 (omega arith)) }
+  add-none = record { size = refl; at = λ i l. rw (le-ltb (i % 32) 0 (omega arith)) }
 
-  pub enter-root : (v : ℕ) (after : List ℕ) → v ≡ root → Entered v root ps before after → Entered (v + 1) root ps before after
-  enter-root v after e k = record { size = k .size; at = λ i l. rw (more-root root ps v (i / 32) (i % 32) e) (k .at i l) }
+  pub add-root : (v : ℕ) (after : List ℕ) → v ≡ root → Tree-added v root ps before after → Tree-added (v + 1) root ps before after
+  add-root v after e k = record { size = k .size; at = λ i l. rw (more-root root ps v (i / 32) (i % 32) e) (k .at i l) }
 
-  pub enter-more : (v p : ℕ) (after : List ℕ) → v ≢ root → p ≡ parent ps v → p < 32 → v < 32 → length before ≡ cells → Entered v root ps before after
-      → Entered (v + 1) root ps before (set after (cell p v) 1)
-  enter-more v p after e q l m size k = record { size = simp length-set (k .size); at = λ i b. cases i b (ℕ-discrete i (cell p v)) }
+  pub add-more : (v p : ℕ) (after : List ℕ) → v ≢ root → p ≡ parent ps v → p < max-vertices → v < max-vertices → length before ≡ cells → Tree-added v root ps before after
+      → Tree-added (v + 1) root ps before (set after (cell p v) 1)
+  add-more v p after e q l m size k = record { size = simp length-set (k .size); at = λ i b. cases i b (ℕ-discrete i (cell p v)) }
     where
       there : length after ≡ cells
       there = k .size ∙ size
@@ -74,66 +77,32 @@ module _ (root : ℕ) (ps before : List ℕ) where
           rw (z, getD-set-same after (cell p v) 1 0 (omega arith), d, g, more-own root ps v p e, eq-eqb (parent ps v) p (sym q))
       cases i b (no z) = rw (getD-set-other after (cell p v) i 1 0 z) (other i b z (ℕ-discrete (i % 32) v))
 
--- COUNTING
-pub count-step : (k : ℕ) (P : ℕ → Bool) → count-below (k + 1) P ≡ cond (P k) 1 0 + count-below k P
-unfolding count-below sum-below
-count-step k P = rw add-one
+-- NOTHING FITS
+empty-table : (s : Instance) → s .n ≤ max-vertices → ((ps : List ℕ) → fits s ps ≡ true → ⊥) → Usable-table s (replicate cells 0)
+empty-table s small u =
+    record {
+      exact =
+          λ t h l m.
+          let z : is-used (replicate cells 0) t h ≡ false = rw (getD-replicate {A = ℕ} cells (cell t h) 0 0 (omega arith)) in
+          z ∙ sym (usable-none s t h .1 (λ ps f. absurd (u ps f)));
+    }
 
--- a used arc is the only one where the count is 1
-pub others-count : (n t : ℕ) (P : ℕ → Bool) → t < n → P t ≡ true → any-below n (λ g. not (eqb g t) && P g) ≡ not (eqb (count-below n P) 1)
-unfolding count-below
-others-count n t P l p = at (any-below n (λ g. not (eqb g t) && P g)) refl
-  where
-    several : any-below n (λ g. not (eqb g t) && P g) ≡ true → 2 ≤ count-below n P
-    several e =
-        let f = any-found n (λ g. not (eqb g t) && P g) e in
-        let one = count-one n (λ g. eqb g t) t l (eq-eqb t t refl) in
-        let two =
-        count-more n (λ g. eqb g t) P (λ g b z. rw (eqb-true g t z) p) (f .0) (f .1)
-        (not-true (eqb (f .0) t) (and-left (not (eqb (f .0) t)) (P (f .0)) (f .2))) (and-right (not (eqb (f .0) t)) (P (f .0)) (f .2)) in
-        omega arith
+module _ (n root b : ℕ) (m : List ℕ) (small : n ≤ max-vertices) where
+  abbrev s : Instance
+  s = matrix-instance n root b m
 
-    alone : any-below n (λ g. not (eqb g t) && P g) ≡ false → (g : ℕ) → g < n → g ≢ t → P g ≡ false
-    alone e g b z =
-        ⊎-elim
-        (λ (y : P g ≡ true).
-        absurd
-        (not-both (any-below n (λ k. not (eqb k t) && P k))
-        (any-intro n (λ k. not (eqb k t) && P k) g b (and-both (not (eqb g t)) (P g) (ap not (ne-eqb g t z)) y)) e))
-        (λ (y : P g ≡ false). y) (test (P g))
+  -- the cuts add to more than the budget
+  pub over-table : (cs : List Cut) → Feasible (unmarked n root m) cs → b < values cs → Usable-table s (replicate cells 0)
+  over-table cs f past =
+      empty-table s small
+      (λ ps x.
+      let a = matrix-instance-arborescence n root b m ps .0 (fits-arborescence s ps x) in
+      let least = weak-duality (unmarked n root m) ps a cs f in
+      let same = matrix-instance-total n root b m ps a in
+      let most = fits-total s ps x in
+      omega arith)
 
-    one : any-below n (λ g. not (eqb g t) && P g) ≡ false → count-below n P ≡ 1
-    one e = sum-one n (λ g. cond (P g) 1 0) t l (λ g b z. rw (alone e g b z)) ∙ rw p
-
-    at : (b : Bool) → any-below n (λ g. not (eqb g t) && P g) ≡ b → b ≡ not (eqb (count-below n P) 1)
-    at true e = let k = several e in sym (ap not (ne-eqb (count-below n P) 1 (λ z. omega arith)))
-    at false e = sym (ap not (eq-eqb (count-below n P) 1 (one e)))
-
-module _ (n : ℕ) (used : List ℕ) where
-  pub counts-none : (counts : List ℕ) → Counts n used 0 counts
-  counts-none counts = record { at = filled-none (λ h v. v ≡ count-below n (λ g. is-used used g h)) counts }
-
-  pub counts-more : (counts : List ℕ) (h v : ℕ) → h < length counts → Counts n used h counts → v ≡ count-below n (λ g. is-used used g h)
-      → Counts n used (h + 1) (set counts h v)
-  counts-more counts h v l k e = record { at = filled-more (λ h v. v ≡ count-below n (λ g. is-used used g h)) counts h v l (k .at) e }
-
--- the state by a count is the state by the table
-pub state-counted : (n root : ℕ) (used weights : List ℕ) (t h : ℕ)
-    → cond (can-be-arc n root t h && not (eqb (getD weights (cell t h) 0) no-arc))
-    (cond (is-used used t h) (cond (eqb (count-below n (λ g. is-used used g h)) 1) 3 2) 1) 0
-    ≡ state-by n root used weights t h
-unfolding state-by
-state-counted n root used weights t h = at (can-be-arc n root t h) refl (is-used used t h) refl
-  where
-    swap : (b : Bool) → _≡_ {A = ℕ} (cond b 3 2) (cond (not b) 2 3)
-    swap true = refl
-    swap false = refl
-
-    at : (a : Bool) → can-be-arc n root t h ≡ a → (u : Bool) → is-used used t h ≡ u
-        → _≡_ {A = ℕ}
-        (cond (a && not (eqb (getD weights (cell t h) 0) no-arc)) (cond u (cond (eqb (count-below n (λ g. is-used used g h)) 1) 3 2) 1) 0)
-        (cond (a && not (eqb (getD weights (cell t h) 0) no-arc)) (cond u (cond (any-below n (λ g. not (eqb g t) && is-used used g h)) 2 3) 1) 0)
-    at false e u f = refl
-    at true e false f = refl
-    at true e true f =
-        rw (others-count n t (λ g. is-used used g h) (ends n root t h e .tail-below) f, ← swap (eqb (count-below n (λ g. is-used used g h)) 1))
+  -- no arc enters some set
+  pub shut-table : (c : Cut) → No-entry (unmarked n root m) c → Usable-table s (replicate cells 0)
+  shut-table c e =
+      empty-table s small (λ ps x. no-entry (unmarked n root m) ps (matrix-instance-arborescence n root b m ps .0 (fits-arborescence s ps x)) c e)

@@ -1,32 +1,33 @@
 -- Why an arc of a matrix is usable or not. Assumes nothing.
 use mathlib.Core.Path.{_≡_, _∙_}
-use mathlib.Core.Bool.{Bool, true, false}
-use mathlib.Core.List.{List, []}
+use mathlib.Core.Bool.{true, false}
+use mathlib.Core.List.{List}
 use mathlib.Core.Logic.{_≢_}
 use Prim.Native.Nat.{ℕ, _+_, _≤_, _<_}
 use native.Mathlib.Omega.{arith}
 use lib.Dec.{eqb}
-use lib.ListN.{getD, take}
+use lib.ListN.{getD}
 use borrow.Author.Tests.{eq-eqb, ne-eqb}
 use Rattle.base.proofs.Tests.{not-both, is-false}
-use Rattle.instance.specs.Limits.{no-arc}
-use Rattle.instance.specs.Instance.{Instance, cell, is-arc, weight, instance-with}
+use Rattle.instance.specs.Limits.{max-vertices, no-arc}
+use Rattle.instance.specs.Instance.{Instance, cell, is-arc, weight}
 use Rattle.instance.specs.Arborescence.{remaining, parent, is-arborescence, total, uses}
 use Rattle.instance.specs.Cuts.{reduced-cost}
-use Rattle.instance.specs.Matrix.{unmarked}
+use Rattle.instance.specs.Matrix.{matrix-instance, unmarked, Matrix-ok}
 use Rattle.instance.specs.States.{fits}
-use Rattle.theory.specs.Usable.{usable}
 use Rattle.instance.proofs.ArcLaws.{arc-ends, arc-weight, unmarked-remaining}
+use Rattle.instance.proofs.MatrixLaws.{weight-read, matrix-arc}
+use Rattle.theory.specs.Usable.{usable}
 use Rattle.theory.proofs.ArborescenceLaws.{root-parent}
 use Rattle.theory.proofs.StateLaws.{fits-arborescence, fits-total, make-fits}
 use Rattle.theory.proofs.SameArcs.{same-back, same-feasible}
 use Rattle.theory.proofs.Usable.{usable-some, usable-none, lost-unusable, reduced-unusable}
-use Rattle.contraction.proofs.Unmarked.{arc-remaining}
-use Rattle.states.specs.Tree.{Matrix-ok}
-use Rattle.states.specs.Exchange.{Detour}
-use Rattle.states.specs.Judge.{Forced-plan, Reduced, Upper-bound}
-use Rattle.states.proofs.CellLaws.{weight-read}
-use Rattle.states.proofs.LevelLaws.{level-same, level-remaining, level-arborescence, level-total}
+use Rattle.theory.proofs.MatrixInstances.{matrix-instance-same, matrix-instance-remaining, matrix-instance-arborescence, matrix-instance-total}
+use Rattle.detours.specs.Detours.{Detour}
+use Rattle.edmonds.specs.declared.Planned.{Planned}
+use Rattle.usable.specs.Forced.{Forced-plan}
+use Rattle.usable.specs.Fitting.{Reduced}
+use Rattle.usable.specs.Judge.{Upper-bound}
 
 -- WHAT IS READ AT A CELL of the matrix
 module _ (n root : ℕ) (m : List ℕ) (ok : Matrix-ok n root m) (t h : ℕ) (l : t < n) (k : h < n) where
@@ -34,15 +35,11 @@ module _ (n root : ℕ) (m : List ℕ) (ok : Matrix-ok n root m) (t h : ℕ) (l 
   unfolding unmarked
   weight-on = let small = ok .small in weight-read (unmarked n root m) t h (ok .size) (omega arith)
 
-  pub weight-most : weight (unmarked n root m) t h ≤ no-arc
-  unfolding unmarked weight
-  weight-most = let small = ok .small in ok .bounded (cell t h) (omega arith)
-
   pub present : t ≢ h → h ≢ root → getD m (cell t h) 0 ≢ no-arc → remaining (unmarked n root m) t h ≡ true
   unfolding unmarked weight
   present e z w =
       let same = weight-on in
-      arc-remaining n root m t h (record { tail-below = l; head-below = k; distinct = e; no-root = z; there = λ x. w (same ∙ x) })
+      matrix-arc n root m t h l k e z (λ x. w (same ∙ x))
 
 pub reduced-most : (n root v : ℕ) (m reduced : List ℕ) (t h : ℕ) → Reduced n root m reduced v → remaining (unmarked n root m) t h ≡ true
     → getD reduced (cell t h) 0 ≤ weight (unmarked n root m) t h
@@ -56,15 +53,15 @@ detour-bound s ps t h rest d k e =
 
 module _ (n root b : ℕ) (m : List ℕ) where
   abbrev s : Instance
-  s = instance-with n root b m []
+  s = matrix-instance n root b m
 
   abbrev on : Instance
   on = unmarked n root m
 
   pub fits-tree : (ps : List ℕ) → is-arborescence on ps ≡ true → total on ps ≤ b → fits s ps ≡ true
   fits-tree ps a l =
-      let e = level-total n root b m ps a in
-      make-fits s ps (level-arborescence n root b m ps .1 a) (omega arith)
+      let e = matrix-instance-total n root b m ps a in
+      make-fits s ps (matrix-instance-arborescence n root b m ps .1 a) (omega arith)
 
   module _ (t h : ℕ) where
     pub usable-tree : (ps : List ℕ) → is-arborescence on ps ≡ true → total on ps ≤ b → uses ps t h ≡ true → usable s t h ≡ true
@@ -78,7 +75,7 @@ module _ (n root b : ℕ) (m : List ℕ) where
         usable-tree (x .0) (x .1) (omega arith) (x .2)
 
     pub unusable-lost : h < n → h ≢ root → remaining on t h ≡ false → usable s t h ≡ false
-    unusable-lost l e r = lost-unusable s t h l (ne-eqb h root e) (level-remaining n root b m t h ∙ r)
+    unusable-lost l e r = lost-unusable s t h l (ne-eqb h root e) (matrix-instance-remaining n root b m t h ∙ r)
 
     -- a loop, a cell without an arc, an arc into the root
     pub unusable-loop : h < n → h ≢ root → t ≡ h → usable s t h ≡ false
@@ -90,7 +87,7 @@ module _ (n root b : ℕ) (m : List ℕ) where
     pub unusable-absent : h < n → h ≢ root → weight on t h ≡ no-arc → usable s t h ≡ false
     unusable-absent l e z = unusable-lost l e (unmarked-remaining n root m t h ∙ is-false (is-arc on t h) (λ x. not-both (eqb (weight on t h) no-arc) (eq-eqb (weight on t h) no-arc z) (arc-weight on t h x)))
 
-    pub unusable-root : root < n → n ≤ 32 → t < n → h ≡ root → usable s t h ≡ false
+    pub unusable-root : root < n → n ≤ max-vertices → t < n → h ≡ root → usable s t h ≡ false
     unfolding uses
     unusable-root l small k z =
         usable-none s t h .1
@@ -104,20 +101,20 @@ module _ (n root b : ℕ) (m : List ℕ) where
     unusable-reduced reduced v k r past =
         let e = k .costs t h r in
         let a = k .adds in
-        reduced-unusable s t h (k .cuts) (same-feasible on s (same-back s on (level-same n root b m)) (k .cuts) (k .feasible)) (level-remaining n root b m t h ∙ r) (omega arith)
+        reduced-unusable s t h (k .cuts) (same-feasible on s (same-back s on (matrix-instance-same n root b m)) (k .cuts) (k .feasible)) (matrix-instance-remaining n root b m t h ∙ r) (omega arith)
 
     -- by planning
-    pub unusable-shut : (ps : List ℕ) (found : Bool) → Forced-plan n root m t h found ps → found ≡ false → usable s t h ≡ false
-    unusable-shut ps found k e = usable-none s t h .1 (λ qs f. k .shut e qs (level-arborescence n root b m qs .0 (fits-arborescence s qs f)))
+    pub unusable-shut : (p : Planned) → Forced-plan n root m t h p → p .found ≡ false → usable s t h ≡ false
+    unusable-shut p k e = usable-none s t h .1 (λ qs f. k .shut e qs (matrix-instance-arborescence n root b m qs .0 (fits-arborescence s qs f)))
 
-    pub unusable-dear : (ps : List ℕ) (found : Bool) → Forced-plan n root m t h found ps → found ≡ true → b < total on (take n ps) → usable s t h ≡ false
-    unusable-dear ps found k z past =
+    pub unusable-dear : (p : Planned) → Forced-plan n root m t h p → p .found ≡ true → b < p .total → usable s t h ≡ false
+    unusable-dear p k z past =
         usable-none s t h .1
         (λ qs f.
         is-false (uses qs t h)
         (λ u.
-        let a = level-arborescence n root b m qs .0 (fits-arborescence s qs f) in
+        let a = matrix-instance-arborescence n root b m qs .0 (fits-arborescence s qs f) in
         let l = k .least z qs a u in
-        let e = level-total n root b m qs a in
+        let e = matrix-instance-total n root b m qs a in
         let g = fits-total s qs f in
         omega arith))

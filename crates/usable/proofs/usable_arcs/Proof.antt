@@ -1,26 +1,26 @@
--- The tree is entered, and the arcs into the heads that were passed are judged. Assumes nothing.
+-- The tree is added, and the arcs into the heads that were passed are judged. Assumes nothing.
 use mathlib.Core.Path.{_≡_, refl}
-use mathlib.Core.List.{[]}
 use Prim.Native.Nat.{_-_, _≤_}
 use native.Mathlib.Omega.{arith}
 use lib.ListN.{replicate, take}
-use Rattle.instance.specs.Instance.{instance-with}
-use Rattle.states.specs.Judge.{Judged-all}
-use Rattle.states.proofs.TreeLaws.{tree-rooted}
-use Rattle.states.proofs.JudgeLaws.{usable-tree}
-use Rattle.states.proofs.SoundLaws.{sound-none, sound-entered, all-none, all-more, all-judged}
-use Rattle.states.proofs.usable.usable_arcs.Statement.{statement}
-use Rattle.states.proofs.usable.usable_arcs.Tie as tie
+use Rattle.instance.specs.Limits.{cells}
+use Rattle.instance.specs.Matrix.{matrix-instance}
+use Rattle.usable.specs.Judge.{Judged-all}
+use Rattle.paths.proofs.TreeLaws.{tree-rooted}
+use Rattle.usable.proofs.UsableLaws.{usable-tree}
+use Rattle.usable.proofs.JudgeLaws.{sound-none, sound-added, all-none, all-more, all-judged}
+use Rattle.usable.proofs.usable_arcs.Statement.{statement}
+use Rattle.usable.proofs.usable_arcs.Tie as tie
 
 abbrev Inv-loop : tie.InvT-loop
-Inv-loop m reduced parents n root total budget used₀ head₀ used head =
-    (head ≤ n) × Judged-all (instance-with n root budget m []) head used
+Inv-loop m reduced parents n root total limit used₀ head₀ used head =
+    (head ≤ n) × Judged-all (matrix-instance n root limit m) head used
 
 abbrev μ-loop : tie.MeasureT-loop
-μ-loop m reduced parents n root total budget used₀ head₀ used head = n - head
+μ-loop m reduced parents n root total limit used₀ head₀ used head = n - head
 
-enter-tree-requires : tie.Need-enter-tree-requires Inv-loop μ-loop
-enter-tree-requires c κs =
+add-tree-requires : tie.Need-add-tree-requires Inv-loop μ-loop
+add-tree-requires c κs =
     let k = c .before .pre .tree in
     (k .matrix-ok .small, k .places, tree-rooted _ _ _ _ k, refl)
 
@@ -34,8 +34,8 @@ loop-holds c =
     let ps = take (a .n) (a .parents .now) in (
       omega arith,
       all-none _ _
-          (sound-entered _ (a .n) (a .root) ps (replicate 1024 0) _ (c .enter-tree .ensures) (sound-none _)
-          (λ t h u. usable-tree (a .n) (a .root) (a .budget) (a .m .now) t h ps (k .found) (omega arith) u)),
+          (sound-added _ (a .n) (a .root) ps (replicate cells 0) _ (c .add-tree .ensures) (sound-none _)
+          (λ t h u. usable-tree (a .n) (a .root) (a .limit) (a .m .now) t h ps (k .found) (omega arith) u)),
     )
 
 judge-head-requires : tie.Need-judge-head-requires Inv-loop μ-loop
@@ -66,7 +66,7 @@ usable-arcs-spec =
     (tie.spec
     Inv-loop
     μ-loop
-    enter-tree-requires
+    add-tree-requires
     loop-holds
     judge-head-requires
     add-head

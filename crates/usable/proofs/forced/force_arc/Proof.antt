@@ -3,10 +3,10 @@ use mathlib.Core.Path.{_≡_}
 use mathlib.Core.Logic.{⊎-elim}
 use Prim.Native.Nat.{_-_, _≤_}
 use native.Mathlib.Omega.{arith}
-use Rattle.states.specs.Judge.{Forced-matrix}
-use Rattle.states.proofs.ForcedLaws.{forced-none, forced-pass, forced-more}
-use Rattle.states.proofs.forced.force_arc.Statement.{statement}
-use Rattle.states.proofs.forced.force_arc.Tie as tie
+use Rattle.usable.specs.Forced.{Forced-matrix}
+use Rattle.usable.proofs.ForcedLaws.{forced-none, forced-pass, forced-more}
+use Rattle.usable.proofs.forced.force_arc.Statement.{statement}
+use Rattle.usable.proofs.forced.force_arc.Tie as tie
 
 abbrev Inv-loop : tie.InvT-loop
 Inv-loop w₀ n tail head g₀ w g = (g ≤ n) × Forced-matrix g tail head w₀ w

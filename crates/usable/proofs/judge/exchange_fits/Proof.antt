@@ -2,8 +2,8 @@
 use mathlib.Core.Path.{sym}
 use mathlib.Core.Bool.{true≢false}
 use borrow.Author.Needs.{needs}
-use Rattle.states.proofs.usable.exchange_fits.Statement.{statement}
-use Rattle.states.proofs.usable.exchange_fits.Tie as tie
+use Rattle.usable.proofs.judge.exchange_fits.Statement.{statement}
+use Rattle.usable.proofs.judge.exchange_fits.Tie as tie
 
 returns : tie.Need-returns
 returns c = λ e. absurd (true≢false (sym e))

@@ -7,13 +7,15 @@ use native.Mathlib.Omega.{arith}
 use lib.ListN.{getD}
 use borrow.Author.Tests.{eq-eqb}
 use borrow.Author.Needs.{needs}
+use Rattle.instance.specs.Limits.{max-vertices, no-arc}
 use Rattle.instance.specs.Instance.{cell, weight}
 use Rattle.instance.specs.Arborescence.{remaining}
 use Rattle.instance.specs.Matrix.{unmarked}
-use Rattle.states.proofs.JudgeLaws.{weight-on, weight-most, present, reduced-most, usable-bound, unusable-loop, unusable-absent, unusable-reduced}
-use Rattle.states.proofs.SoundLaws.{judged-already, judged-unusable, judged-usable}
-use Rattle.states.proofs.usable.judge_arc.Statement.{statement}
-use Rattle.states.proofs.usable.judge_arc.Tie as tie
+use Rattle.instance.proofs.MatrixLaws.{weight-most}
+use Rattle.usable.proofs.UsableLaws.{weight-on, present, reduced-most, usable-bound, unusable-loop, unusable-absent, unusable-reduced}
+use Rattle.usable.proofs.JudgeLaws.{judged-already, judged-unusable, judged-usable}
+use Rattle.usable.proofs.judge.judge_arc.Statement.{statement}
+use Rattle.usable.proofs.judge.judge_arc.Tie as tie
 
 mul-i : tie.Need-mul-i
 mul-i c = search needs
@@ -38,7 +40,7 @@ returns-2 c =
     let b = c .before .before .before in
     let a = b .args in
     judged-unusable _ (a .used .now) (b .pre .1) (a .tail) (a .head)
-    (unusable-loop (a .n) (a .root) (a .budget) (a .m .now) (a .tail) (a .head) (b .pre .0 .head-below) (b .pre .0 .not-root) (c .if2 .taken))
+    (unusable-loop (a .n) (a .root) (a .limit) (a .m .now) (a .tail) (a .head) (b .pre .0 .head-below) (b .pre .0 .not-root) (c .if2 .taken))
 
 mul-weight : tie.Need-mul-weight
 mul-weight c = search needs
@@ -52,7 +54,7 @@ returns-3 c =
     let a = b .args in
     let p = b .pre .0 in
     judged-unusable _ (a .used .now) (b .pre .1) (a .tail) (a .head)
-    (unusable-absent (a .n) (a .root) (a .budget) (a .m .now) (a .tail) (a .head) (p .head-below) (p .not-root) (sym (weight-on (a .n) (a .root) (a .m .now) (p .matrix-ok) (a .tail) (a .head) (p .tail-below) (p .head-below)) ∙ c .if3 .taken))
+    (unusable-absent (a .n) (a .root) (a .limit) (a .m .now) (a .tail) (a .head) (p .head-below) (p .not-root) (sym (weight-on (a .n) (a .root) (a .m .now) (p .matrix-ok) (a .tail) (a .head) (p .tail-below) (p .head-below)) ∙ c .if3 .taken))
 
 mul-least : tie.Need-mul-least
 mul-least c = search needs
@@ -62,11 +64,11 @@ element-copy-out-least c = search needs
 
 -- once it is past the first three tests, the cell holds an arc
 record Known (n root : ℕ) (m reduced : List ℕ) (t h : ℕ) : Type 0 where
-  small : n ≤ 32
+  small : n ≤ max-vertices
   arc : remaining (unmarked n root m) t h ≡ true
   same : getD m (cell t h) 0 ≡ weight (unmarked n root m) t h
-  most : weight (unmarked n root m) t h ≤ 1048575
-  lower : getD reduced (cell t h) 0 ≤ 1048575
+  most : weight (unmarked n root m) t h ≤ no-arc
+  lower : getD reduced (cell t h) 0 ≤ no-arc
 
 known : (c : tie.Else3)
     → Known (c .before .before .before .before .before .args .n) (c .before .before .before .before .before .args .root)
@@ -78,7 +80,7 @@ known c =
     let a = b .args in
     let p = b .pre .0 in
     let arc = present (a .n) (a .root) (a .m .now) (p .matrix-ok) (a .tail) (a .head) (p .tail-below) (p .head-below) (c .before .before .if2 .left) (p .not-root) (c .if3 .left) in
-    let most = weight-most (a .n) (a .root) (a .m .now) (p .matrix-ok) (a .tail) (a .head) (p .tail-below) (p .head-below) in
+    let most = weight-most (a .n) (a .root) (a .m .now) (p .matrix-ok) (a .tail) (a .head) in
     let lower = reduced-most (a .n) (a .root) (a .total) (a .m .now) (a .reduced .now) (a .tail) (a .head) (p .costs) arc in
     record {
       small = p .matrix-ok .small;
@@ -100,7 +102,7 @@ returns-4 c =
     let b = c .before .before .before .before .before .before .before in
     let a = b .args in
     judged-unusable _ (a .used .now) (b .pre .1) (a .tail) (a .head)
-    (unusable-reduced (a .n) (a .root) (a .budget) (a .m .now) (a .tail) (a .head) (a .reduced .now) (a .total) (b .pre .0 .costs) (known (c .before .before) .arc) (c .if4 .taken))
+    (unusable-reduced (a .n) (a .root) (a .limit) (a .m .now) (a .tail) (a .head) (a .reduced .now) (a .total) (b .pre .0 .costs) (known (c .before .before) .arc) (c .if4 .taken))
 
 exchange-fits-requires : tie.Need-exchange-fits-requires
 exchange-fits-requires c κs =
@@ -129,7 +131,7 @@ returns-5 c =
     let fits = c .before .exchange-fits .ensures (c .if5 .taken) in
     let within = fits .1 in
     judged-usable _ (a .used .now) (b .pre .1) (a .tail) (a .head) (omega arith) (omega arith)
-    (usable-bound (a .n) (a .root) (a .budget) (a .m .now) (a .tail) (a .head) (a .rest) (a .detour) (p .bound) (k .arc) (fits .0) (omega arith))
+    (usable-bound (a .n) (a .root) (a .limit) (a .m .now) (a .tail) (a .head) (a .rest) (a .detour) (p .bound) (k .arc) (fits .0) (omega arith))
 
 judge-by-planning-requires : tie.Need-judge-by-planning-requires
 judge-by-planning-requires c κs =

@@ -1,23 +1,23 @@
 -- The arcs from the tails that were passed are judged. Assumes nothing.
 use mathlib.Core.Path.{_≡_}
-use mathlib.Core.List.{[]}
 use Prim.Native.Nat.{_-_, _≤_, _<_}
 use native.Mathlib.Omega.{arith}
 use lib.ListN.{getD}
-use Rattle.instance.specs.Instance.{cell, instance-with}
-use Rattle.states.specs.Judge.{Judged-head}
-use Rattle.states.proofs.TreeLaws.{tail-below, own-weight, own-most}
-use Rattle.states.proofs.JudgeLaws.{unusable-root, detour-bound}
-use Rattle.states.proofs.SoundLaws.{head-none, head-unusable, head-more}
-use Rattle.states.proofs.usable.judge_head.Statement.{statement}
-use Rattle.states.proofs.usable.judge_head.Tie as tie
+use Rattle.instance.specs.Instance.{cell}
+use Rattle.instance.specs.Matrix.{matrix-instance}
+use Rattle.usable.specs.Judge.{Judged-head}
+use Rattle.paths.proofs.TreeLaws.{tail-below, own-weight, own-most}
+use Rattle.usable.proofs.UsableLaws.{unusable-root, detour-bound}
+use Rattle.usable.proofs.JudgeLaws.{head-none, head-unusable, head-more}
+use Rattle.usable.proofs.judge.judge_head.Statement.{statement}
+use Rattle.usable.proofs.judge.judge_head.Tie as tie
 
 abbrev Inv-loop : tie.InvT-loop
-Inv-loop m reduced parents n root total budget head used₀ detour tail rest t₀ used t =
-    (t ≤ n) × Judged-head (instance-with n root budget m []) t head used₀ used
+Inv-loop m reduced parents n root total limit head used₀ detour tail rest t₀ used t =
+    (t ≤ n) × Judged-head (matrix-instance n root limit m) t head used₀ used
 
 abbrev μ-loop : tie.MeasureT-loop
-μ-loop m reduced parents n root total budget head used₀ detour tail rest t₀ used t = n - t
+μ-loop m reduced parents n root total limit head used₀ detour tail rest t₀ used t = n - t
 
 returns : tie.Need-returns Inv-loop μ-loop
 returns c =
@@ -25,10 +25,10 @@ returns c =
     let a = b .args in
     let ok = b .pre .0 .tree .matrix-ok in
     head-unusable _ (a .head) (a .n) (a .used .now) (b .pre .2)
-    (λ t l. unusable-root (a .n) (a .root) (a .budget) (a .m .now) t (a .head) (ok .root-below) (ok .small) l (c .if1 .taken))
+    (λ t l. unusable-root (a .n) (a .root) (a .limit) (a .m .now) t (a .head) (ok .root-below) (ok .small) l (c .if1 .taken))
 
-detours-requires : tie.Need-detours-requires Inv-loop μ-loop
-detours-requires c κs = (c .before .pre .0 .tree, c .before .pre .1, c .if1 .left)
+detour-costs-requires : tie.Need-detour-costs-requires Inv-loop μ-loop
+detour-costs-requires c κs = (c .before .pre .0 .tree, c .before .pre .1, c .if1 .left)
 
 element-copy-out-tail : tie.Need-element-copy-out-tail Inv-loop μ-loop
 element-copy-out-tail c = let small = c .before .before .pre .0 .tree .matrix-ok .small in omega arith
@@ -105,7 +105,7 @@ judge-arc-requires c κs =
         tail-below = omega arith;
         head-below = b .pre .1;
         not-root = d .before .if1 .left;
-        bound = detour-bound _ _ (l .t) (a .head) _ _ (d .detours .ensures .at (l .t) (omega arith)) (omega arith);
+        bound = detour-bound _ _ (l .t) (a .head) _ _ (d .detour-costs .ensures .at (l .t) (omega arith)) (omega arith);
       },
       l .inv .1 .sound,
     )
@@ -138,7 +138,7 @@ judge-head-spec =
     Inv-loop
     μ-loop
     returns
-    detours-requires
+    detour-costs-requires
     element-copy-out-tail
     cast-tail
     mul-rest

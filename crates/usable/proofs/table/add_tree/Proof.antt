@@ -1,23 +1,23 @@
--- The arcs into the vertices that were passed are entered. Assumes nothing.
+-- The arcs into the vertices that were passed are added. Assumes nothing.
 use mathlib.Core.Path.{_≡_}
 use mathlib.Core.Logic.{⊎-elim}
 use Prim.Native.Nat.{_-_, _≤_, _<_}
 use native.Mathlib.Omega.{arith}
 use lib.ListN.{getD, take}
-use Rattle.states.specs.Table.{Entered}
-use Rattle.states.proofs.TreeLaws.{parent-read, rooted-tail}
-use Rattle.states.proofs.TableLaws.{enter-none, enter-root, enter-more}
-use Rattle.states.proofs.tree.enter_tree.Statement.{statement}
-use Rattle.states.proofs.tree.enter_tree.Tie as tie
+use Rattle.usable.specs.Table.{Tree-added}
+use Rattle.paths.proofs.TreeLaws.{parent-read, rooted-tail}
+use Rattle.usable.proofs.TableLaws.{add-none, add-root, add-more}
+use Rattle.usable.proofs.table.add_tree.Statement.{statement}
+use Rattle.usable.proofs.table.add_tree.Tie as tie
 
 abbrev Inv-loop : tie.InvT-loop
-Inv-loop parents n root used₀ v₀ used v = (v ≤ n) × Entered v root (take n parents) used₀ used
+Inv-loop parents n root used₀ v₀ used v = (v ≤ n) × Tree-added v root (take n parents) used₀ used
 
 abbrev μ-loop : tie.MeasureT-loop
 μ-loop parents n root used₀ v₀ used v = n - v
 
 loop-holds : tie.Need-loop-holds Inv-loop μ-loop
-loop-holds c = (omega arith, enter-none _ _ _)
+loop-holds c = (omega arith, add-none _ _ _)
 
 cast-tail : tie.Need-cast-tail Inv-loop μ-loop
 cast-tail c = omega arith
@@ -61,18 +61,18 @@ loop-again c =
       ⊎-elim
           (λ w.
           rw (w .2)
-          (enter-more (a .root) (take (a .n) (a .parents .now)) (a .used .now) (l .v) (getD (a .parents .now) (l .v) 0) (l .used) (w .0 .taken)
+          (add-more (a .root) (take (a .n) (a .parents .now)) (a .used .now) (l .v) (getD (a .parents .now) (l .v) 0) (l .used) (w .0 .taken)
           (parent-read (a .n) (l .v) (a .parents .now) (b .pre .0) (b .pre .1) (omega arith))
           (omega (arith, rooted-tail (a .n) (a .root) (l .v) (a .parents .now) (b .pre .0) (b .pre .1) (b .pre .2) (omega arith) (w .0 .taken)))
           (omega arith) (b .pre .3) (l .inv .1)))
-          (λ w. rw (w .1) (enter-root _ _ _ (l .v) _ (w .0 .left) (l .inv .1))) (c .if1 .came),
+          (λ w. rw (w .1) (add-root _ _ _ (l .v) _ (w .0 .left) (l .inv .1))) (c .if1 .came),
     )
 
 returns : tie.Need-returns Inv-loop μ-loop
 returns c = let e : c .before .loop .v ≡ c .before .before .args .n = omega arith in rw e at (c .before .loop .inv .1)
 
-pub enter-tree-spec : {M : Type 1} → statement M
-enter-tree-spec =
+pub add-tree-spec : {M : Type 1} → statement M
+add-tree-spec =
     tie.close
     (tie.spec
     Inv-loop
