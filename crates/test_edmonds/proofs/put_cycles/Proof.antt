@@ -1,14 +1,15 @@
--- `edmonds_run::put_cycles` meets its contract. Assumes nothing.
+-- `test_edmonds::put_cycles` meets its contract. Assumes nothing.
 use mathlib.Core.Path.{_≡_}
 use Prim.Native.Nat.{_-_, _≤_}
 use native.Mathlib.Omega.{arith}
 use lib.ListN.{length}
-use Rattle.edmonds.specs.Planned.{Weights}
-use Rattle.edmonds_run.proofs.put_cycles.Statement.{statement}
-use Rattle.edmonds_run.proofs.put_cycles.Tie as tie
+use Rattle.instance.specs.Limits.{cells}
+use Rattle.instance.specs.Matrix.{Weights}
+use Rattle.test_edmonds.proofs.put_cycles.Statement.{statement}
+use Rattle.test_edmonds.proofs.put_cycles.Tie as tie
 
 abbrev Inv-loop : tie.InvT-loop
-Inv-loop w₀ v₀ w v = (3 ≤ v) × (v ≤ 32) × (length w ≡ 1024) × Weights w
+Inv-loop w₀ v₀ w v = (3 ≤ v) × (v ≤ 32) × (length w ≡ cells) × Weights w
 
 abbrev μ-loop : tie.MeasureT-loop
 μ-loop w₀ v₀ w v = 32 - v

@@ -1,10 +1,10 @@
--- `edmonds_run::put_arc` meets its contract. Assumes nothing.
+-- `test_edmonds::put_arc` meets its contract. Assumes nothing.
 use Prim.Native.Nat.{_+_, _*_}
 use lib.ListN.{length-set}
 use borrow.Author.Needs.{needs}
-use Rattle.edmonds.proofs.MatrixLaws.{store-fits}
-use Rattle.edmonds_run.proofs.put_arc.Statement.{statement}
-use Rattle.edmonds_run.proofs.put_arc.Tie as tie
+use Rattle.instance.proofs.MatrixLaws.{store-fits}
+use Rattle.test_edmonds.proofs.put_arc.Statement.{statement}
+use Rattle.test_edmonds.proofs.put_arc.Tie as tie
 
 mul-w : tie.Need-mul-w
 mul-w c = search needs

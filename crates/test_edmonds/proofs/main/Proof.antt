@@ -1,9 +1,9 @@
--- `edmonds_run::main` meets its contract: every matrix that it plans begins with no arc. Assumes nothing.
+-- `test_edmonds::main` meets its contract: every matrix that it plans begins with no arc. Assumes nothing.
 use mathlib.Core.Path.{refl}
 use borrow.Author.Needs.{needs}
-use Rattle.edmonds.proofs.MatrixLaws.{no-arcs-fit}
-use Rattle.edmonds_run.proofs.main.Statement.{statement}
-use Rattle.edmonds_run.proofs.main.Tie as tie
+use Rattle.instance.proofs.MatrixLaws.{no-arcs-fit}
+use Rattle.test_edmonds.proofs.main.Statement.{statement}
+use Rattle.test_edmonds.proofs.main.Tie as tie
 
 put-q-requires : tie.Need-put-q-requires
 put-q-requires c κs = (refl, no-arcs-fit)
