@@ -1,4 +1,4 @@
--- Laws of tests, bounded tests and sums, and lists. Assumes nothing.
+-- Laws of tests, bounded tests and sums, and lists, and of the loops that fill them. Assumes nothing.
 pub mod Tests
 pub mod BoundedLaws
 pub mod ListLaws
@@ -9,3 +9,6 @@ pub mod FrontLaws
 pub mod SumLaws
 pub mod PartLaws
 pub mod StoreLaws
+pub mod OverwriteLaws
+pub mod CondLaws
+pub mod GridLaws

@@ -5,8 +5,8 @@ use mathlib.Core.List.{List, [], _∷_}
 use Prim.Native.Nat.{ℕ, zero, suc, _+_, _-_, _≤_}
 use native.Mathlib.Omega.{arith}
 use lib.Dec.{eqb}
-use lib.ListN.{length, take, drop, replicate, length-drop}
-use lib.Seq.{drop-drop, length-take-le}
+use lib.ListN.{length, getD, take, drop, replicate, length-drop}
+use lib.Seq.{drop-drop, length-take-le, getD-drop, ext-getD}
 use borrow.Author.Tests.{eqb-true}
 use Rattle.base.specs.Lists.{all-of}
 use Rattle.base.proofs.Tests.{and-both}
@@ -34,3 +34,9 @@ pub zeros-are : (xs : List ℕ) → all-of (λ x. eqb x 0) xs ≡ true → xs �
 zeros-are [] e = refl
 zeros-are (x ∷ xs) e =
     rw (eqb-true x 0 (all-of-first (λ y. eqb y 0) x xs e)) (ap (λ (l : List ℕ). 0 ∷ l) (zeros-are xs (all-of-rest (λ y. eqb y 0) x xs e)))
+
+-- lists that agree at every place from one on
+pub drop-same : (d : ℕ) (l m : List ℕ) → length l ≡ length m → ((i : ℕ) → d ≤ i → getD l i 0 ≡ getD m i 0) → drop d l ≡ drop d m
+drop-same d l m e h =
+    ext-getD 0 (drop d l) (drop d m) (simp length-drop (ap (λ (x : ℕ). x - d) e))
+    (λ i lt. getD-drop d l i 0 ∙ h (d + i) (omega arith) ∙ sym (getD-drop d m i 0))

@@ -12,22 +12,16 @@ use borrow.Author.Tests.{eqb-true, eqb-false, eq-eqb, ne-eqb, lt-ltb, le-leb, lt
 use Rattle.base.specs.Bounded.{all-below, sum-below}
 use Rattle.base.proofs.Tests.{test, and-both, and-false-right}
 use Rattle.base.proofs.BoundedLaws.{all-intro, sum-add, sum-zero, sum-eq}
+use Rattle.base.proofs.CountingLaws.{sum-one}
+use Rattle.base.proofs.CondLaws.{cond-zero, cond-add}
 use Rattle.instance.specs.Limits.{max-vertices, no-arc, no-parent, cut-limit}
 use Rattle.instance.specs.Instance.{Instance, weight}
 use Rattle.instance.specs.Arborescence.{remaining, parent, reaches, parent-ok, is-arborescence, total}
 use Rattle.instance.specs.Cuts.{Cut, inside, enters, charged, values, set-ok, sets-ok, all-positive, Proves}
+use Rattle.instance.proofs.ReachLaws.{enough}
 use Rattle.contraction.specs.Groups.{Lowered}
 use Rattle.contraction.specs.Trees.{Each, none-left, more, Reached, here, step, Once, Tree, Proper, Fine}
-use Rattle.base.proofs.CountingLaws.{sum-one}
-use Rattle.contraction.proofs.Steps.{enough}
-
--- the weights that the algorithm starts from are those of the remaining arcs
-pub record Shows (s : Instance) (w : ℕ → ℕ → ℕ) : Type 0 where
-  pub tail-below : (t h : ℕ) → remaining s t h ≡ true → t < s .n
-  pub head-below : (t h : ℕ) → remaining s t h ≡ true → h < s .n
-  pub there : (t h : ℕ) → remaining s t h ≡ true → w t h < no-arc
-  pub is : (t h : ℕ) → remaining s t h ≡ true → w t h ≡ weight s t h
-  pub only : (t h : ℕ) → t < s .n → h < s .n → t ≢ h → h ≢ s .root → w t h < no-arc → remaining s t h ≡ true
+use Rattle.contraction.proofs.ArcWeights.{Arc-weights}
 
 -- SETS
 pub set-fine : (s : Instance) (c : ℕ) → Proper (s .n) (s .root) c → set-ok s c ≡ true
@@ -60,7 +54,7 @@ unfolding charged enters
 charged-root [] t none-left = refl
 charged-root (c ∷ cs) t (more f fs) = rw (f .proper .no-root, and-false-right (not (inside (c .set) t)) false refl, charged-root cs t fs)
 
-module _ (s : Instance) (w w′ : ℕ → ℕ → ℕ) (ps : List ℕ) (cs : List Cut) (sh : Shows s w) (lo : Lowered (s .n) w w′ cs) (small : s .n ≤ max-vertices)
+module _ (s : Instance) (w w′ : ℕ → ℕ → ℕ) (ps : List ℕ) (cs : List Cut) (sh : Arc-weights s w) (lo : Lowered (s .n) w w′ cs) (small : s .n ≤ max-vertices)
     (root-below : s .root < s .n) (sized : length ps ≡ s .n) (at-root : parent ps (s .root) ≡ no-parent) (t : Tree (s .n) (s .root) w′ (λ v. v) cs (parent ps)) where
   has : (v : ℕ) → eqb v (s .root) ≡ false → Reached (s .n) (s .root) (λ u. u) (parent ps) v → parent ps v < s .n
   has v ne (here e) = absurd (eqb-false v (s .root) ne e)
@@ -134,14 +128,6 @@ module _ (s : Instance) (w w′ : ℕ → ℕ → ℕ) (ps : List ℕ) (cs : Lis
       (λ (i : enters (c .set) (parent ps v) v ≡ false). rw (r, i)) (test (enters (c .set) (parent ps v) v)))
       (test (eqb v (s .root))))
       ∙ rw (ne, o .into)
-
-  cond-add : (b : Bool) (x y : ℕ) → cond b 0 (x + y) ≡ cond b 0 x + cond b 0 y
-  cond-add true x y = refl
-  cond-add false x y = refl
-
-  cond-zero : (b : Bool) → _≡_ {A = ℕ} (cond b 0 0) 0
-  cond-zero true = refl
-  cond-zero false = refl
 
   paid-values : (ds : List Cut) → Each (Once (s .n) (parent ps)) ds → sum-below (s .n) (paid ds) ≡ values ds
   unfolding charged values

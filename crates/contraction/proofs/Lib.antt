@@ -5,7 +5,5 @@ pub mod Charging
 pub mod Expansion
 pub mod NoCycle
 pub mod SearchLaws
-pub mod SetBits
-pub mod Steps
+pub mod ArcWeights
 pub mod Finish
-pub mod Unmarked

@@ -9,7 +9,7 @@ use lib.Dec.{leb, eqb}
 use borrow.Author.Tests.{eqb-true, eqb-false, leb-true, le-leb, leb-false}
 use Rattle.base.proofs.Tests.{test}
 use Rattle.contraction.specs.Groups.{Labels, Group, Chosen, Along, stop, go, Cycle}
-use Rattle.contraction.specs.Search.{Walk}
+use Rattle.contraction.specs.Search.{Walk, on-cycle}
 
 along-trans : {next : ℕ → ℕ} {a b g : ℕ} → Along next a g → Along next b a → Along next b g
 along-trans {next} {a} {b} (stop e) k = subst (λ (x : ℕ). Along next b x) (sym e) k
@@ -36,17 +36,16 @@ module _ (n root : ℕ) (label tail stamp : ℕ → ℕ) (first now v : ℕ) (k 
       ⊎-elim (λ (h : suc (stamp x) ≡ stamp (follow x)). go (from-x d (follow x) g (omega arith) (omega arith)))
       (λ (h : (follow x ≡ v) × (suc (stamp x) ≡ now)). absurd (omega (arith, k .last g, h .1))) (k .new x l)
 
-  -- its groups are stamped no earlier than v
-  abbrev pub on-cycle : ℕ → Bool
-  on-cycle g = leb (stamp v) (stamp g)
+  abbrev on : ℕ → Bool
+  on = on-cycle stamp v
 
   -- the walk meets itself
-  pub cycle : (w : ℕ → ℕ → ℕ) (head : ℕ → ℕ) → Chosen n root w label tail head → first ≤ stamp v → Cycle n root w label tail head on-cycle v
+  pub cycle : (w : ℕ → ℕ → ℕ) (head : ℕ → ℕ) → Chosen n root w label tail head → first ≤ stamp v → Cycle n root w label tail head (on-cycle stamp v) v
   cycle w head ch met =
-      let later : (g : ℕ) → on-cycle g ≡ true → stamp v ≤ stamp g = λ g i. leb-true (stamp v) (stamp g) i in
-      let gr : (g : ℕ) → on-cycle g ≡ true → Group n root label g = λ g i. k .stamped g (omega (arith, later g i, k .first-pos)) in
+      let later : (g : ℕ) → on g ≡ true → stamp v ≤ stamp g = λ g i. leb-true (stamp v) (stamp g) i in
+      let gr : (g : ℕ) → on g ≡ true → Group n root label g = λ g i. k .stamped g (omega (arith, later g i, k .first-pos)) in
       record {
-        root-off = ⊎-elim (λ (i : on-cycle (label root) ≡ true). absurd (gr (label root) i .2 refl)) (λ (i : on-cycle (label root) ≡ false). i) (test (on-cycle (label root)));
+        root-off = ⊎-elim (λ (i : on (label root) ≡ true). absurd (gr (label root) i .2 refl)) (λ (i : on (label root) ≡ false). i) (test (on (label root)));
         c-on = le-leb (stamp v) (stamp v) (omega arith);
         head-below = λ g i. ch .head-below g (gr g i);
         head-in = λ g i. ch .head-in g (gr g i);

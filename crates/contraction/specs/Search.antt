@@ -2,8 +2,10 @@
 -- so on; 0 is no stamp. Stamps grow, so a walk that comes to a stamp of its own has closed a cycle: the groups stamped no earlier.
 -- Assumes nothing: these are definitions.
 use mathlib.Core.Path.{_≡_}
+use mathlib.Core.Bool.{Bool}
 use mathlib.Core.Logic.{_⊎_}
 use Prim.Native.Nat.{ℕ, suc, _≤_, _<_}
+use lib.Dec.{leb}
 use Rattle.contraction.specs.Groups.{Group, Along}
 
 -- the walk began with the stamp first, the next stamp is now, and it has come to v
@@ -19,3 +21,7 @@ pub record Walk (n root : ℕ) (label tail stamp : ℕ → ℕ) (first now v : �
   pub last : (g : ℕ) → stamp g < now
   pub distinct : (g h : ℕ) → 1 ≤ stamp g → stamp g ≡ stamp h → g ≡ h
   pub stamped : (g : ℕ) → 1 ≤ stamp g → Group n root label g
+
+-- the groups of the cycle that a walk closed at v: they are stamped no earlier
+abbrev pub on-cycle : (stamp : ℕ → ℕ) → (v g : ℕ) → Bool
+on-cycle stamp v g = leb (stamp v) (stamp g)

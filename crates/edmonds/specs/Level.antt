@@ -1,18 +1,19 @@
--- One level of planning: what it needs, and what it gives. Assumes nothing: these are definitions.
+-- One level of contraction: what planning it needs, and what it gives. Assumes nothing: these are definitions.
 use mathlib.Core.Path.{_≡_}
 use mathlib.Core.Bool.{Bool, true, false}
 use mathlib.Core.List.{List}
 use mathlib.Core.Logic.{_⊎_}
 use Prim.Native.Nat.{ℕ, _+_, _*_, _-_, _≤_, _<_}
-use lib.ListN.{length, replicate}
+use lib.ListN.{length}
 use Rattle.instance.specs.Limits.{max-vertices, no-parent, cells, cut-words}
 use Rattle.instance.specs.Cuts.{cuts-from}
+use Rattle.contraction.specs.Cells.{at, cost}
 use Rattle.contraction.specs.Groups.{Labels, Chosen, Lowered, groups}
 use Rattle.contraction.specs.Trees.{Each, Tree, Fine}
-use Rattle.edmonds.specs.Cells.{at, cost}
-use Rattle.edmonds.specs.Charge.{Closed}
+use Rattle.charging.specs.Charge.{Unentered}
 
-pub record Ready (ws ls tails heads : List ℕ) (n root left : ℕ) : Type 0 where
+-- groups of which each but the root's has chosen an arc of weight 0: at most so many are left
+pub record Plannable (ws ls tails heads : List ℕ) (n root left : ℕ) : Type 0 where
   pub size : length ws ≡ cells
   pub tails-size : length tails ≡ max-vertices
   pub heads-size : length heads ≡ max-vertices
@@ -22,22 +23,21 @@ pub record Ready (ws ls tails heads : List ℕ) (n root left : ℕ) : Type 0 whe
   pub enough : groups n (at ls) ≤ left
   pub two : 2 ≤ left
 
--- A tree of the groups. The cuts of this level and of those below it are at the places from k up to count, and the matrix holds the
+-- A tree of the groups. The cuts of this level and of those below it are at the places from k up to next, and the matrix holds the
 -- reduced costs that they leave.
-pub record Solution (ws ws′ ls : List ℕ) (n root left : ℕ) (cuts cuts′ : List ℕ) (k : ℕ) (ps : List ℕ) (count : ℕ) : Type 0 where
-  pub tree : Tree n root (cost ws′) (at ls) (cuts-from (count - k) k cuts′) (at ps)
-  pub lowered : Lowered n (cost ws) (cost ws′) (cuts-from (count - k) k cuts′)
-  pub fine : Each (Fine n root) (cuts-from (count - k) k cuts′)
-  pub least : k ≤ count
-  pub most : count + 2 ≤ k + left
-  pub frame : (i : ℕ) → (i < 2 * k) ⊎ (2 * count ≤ i) → at cuts′ i ≡ at cuts i
+pub record Solution (ws ws′ ls : List ℕ) (n root left : ℕ) (cuts cuts′ : List ℕ) (k : ℕ) (ps : List ℕ) (next : ℕ) : Type 0 where
+  pub parents-size : length ps ≡ max-vertices
+  pub tree : Tree n root (cost ws′) (at ls) (cuts-from (next - k) k cuts′) (at ps)
+  pub lowered : Lowered n (cost ws) (cost ws′) (cuts-from (next - k) k cuts′)
+  pub fine : Each (Fine n root) (cuts-from (next - k) k cuts′)
+  pub least : k ≤ next
+  pub most : next + 2 ≤ k + left
+  pub frame : (i : ℕ) → (i < 2 * k) ⊎ (2 * next ≤ i) → at cuts′ i ≡ at cuts i
   pub root-none : at ps root ≡ no-parent
 
-pub record Solved (ws ws′ ls : List ℕ) (n root left : ℕ) (cuts cuts′ : List ℕ) (k : ℕ) (found : Bool) (ps : List ℕ) (count set : ℕ) : Type 0 where
+-- a tree of the groups, or a set that no arc enters
+pub record Solved (ws ws′ ls : List ℕ) (n root left : ℕ) (cuts cuts′ : List ℕ) (k : ℕ) (found : Bool) (ps : List ℕ) (next set : ℕ) : Type 0 where
   pub size : length ws′ ≡ cells
   pub cuts-size : length cuts′ ≡ cut-words
-  pub parents-size : length ps ≡ max-vertices
-  pub solution : found ≡ true → Solution ws ws′ ls n root left cuts cuts′ k ps count
-  pub no-set : found ≡ true → set ≡ 0
-  pub closed : found ≡ false → Closed n root ws set
-  pub none : found ≡ false → (ps ≡ replicate max-vertices no-parent) × (count ≡ 0)
+  pub solution : found ≡ true → Solution ws ws′ ls n root left cuts cuts′ k ps next
+  pub unentered : found ≡ false → Unentered n root ws set

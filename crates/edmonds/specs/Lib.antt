@@ -1,8 +1,3 @@
--- What the functions of Edmonds' algorithm give. Assumes nothing.
-pub mod Cells
-pub mod Charge
-pub mod Cycle
-pub mod Entering
-pub mod Lower
+-- What planning gives. Assumes nothing.
 pub mod Level
 pub mod Planned

@@ -3,22 +3,27 @@
 use mathlib.Core.Path.{_≡_}
 use mathlib.Core.Bool.{Bool, true, false, cond}
 use mathlib.Core.List.{List}
-use Prim.Native.Nat.{ℕ, _*_, _/_, _%_, _≤_, _<_}
-use lib.ListN.{length, getD, take, drop, replicate}
+use Prim.Native.Nat.{ℕ, _*_, _/_, _%_, _≤_}
+use lib.ListN.{length, take, drop, replicate}
 use Rattle.base.specs.Lists.{tabulate}
-use Rattle.instance.specs.Limits.{max-vertices, no-arc, no-parent, cells, cut-limit, cut-words}
+use Rattle.instance.specs.Limits.{max-vertices, no-parent, cells, cut-limit, cut-words}
 use Rattle.instance.specs.Instance.{Instance, weight-at}
 use Rattle.instance.specs.Arborescence.{remaining, is-arborescence, total}
-use Rattle.instance.specs.Cuts.{Cut, cuts-in, Proves, reduced-cost, No-entry}
+use Rattle.instance.specs.Cuts.{Cut, cuts-in, values, Proves, reduced-cost, No-entry}
 use Rattle.instance.specs.Matrix.{unmarked}
-
--- every cell holds a weight, or no arc
-abbrev pub Weights : (matrix : List ℕ) → Type 0
-Weights ws = (i : ℕ) → i < cells → getD ws i no-arc ≤ no-arc
+use Rattle.edmonds.specs.declared.Planned.{Planned}
 
 -- the matrix with the reduced cost of each remaining arc, and the other cells as they are
 unfoldable pub reduced-matrix : Instance → List Cut → List ℕ
 reduced-matrix s cs = tabulate cells (λ i. cond (remaining s (i / 32) (i % 32)) (reduced-cost s cs (i / 32) (i % 32)) (weight-at s i))
+
+-- THE ANSWER: that there is no arborescence, with a set that no arc enters; or the tree with its total, which the cuts' values add to
+abbrev pub no-arborescence : (set : ℕ) → Planned
+no-arborescence c = record { found = false; parents = replicate max-vertices no-parent; total = 0; count = 0; set = c }
+
+abbrev pub concluded : (found : Bool) → (parents : List ℕ) → (count set : ℕ) → (cuts : List ℕ) → Planned
+concluded true ps k c cuts = record { found = true; parents = ps; total = values (cuts-in k cuts); count = k; set = 0 }
+concluded false ps k c cuts = no-arborescence c
 
 -- An arborescence, with cuts that prove its total: no arborescence has a smaller one.
 pub record Minimum (s : Instance) (parents : List ℕ) (cs : List Cut) : Type 0 where
@@ -26,17 +31,19 @@ pub record Minimum (s : Instance) (parents : List ℕ) (cs : List Cut) : Type 0 
   pub proved : Proves s cs (total s parents)
 
 -- ws and cuts are the matrix and the buffer of cuts as they come, ws′ and cuts′ as they are left
-pub record Planned-matrix (n root : ℕ) (ws ws′ cuts cuts′ : List ℕ) (found : Bool) (ps : List ℕ) (count set : ℕ) : Type 0 where
+pub record Planned-matrix (n root : ℕ) (ws ws′ cuts cuts′ : List ℕ) (r : Planned) : Type 0 where
   pub matrix-size : length ws′ ≡ cells
   pub cuts-size : length cuts′ ≡ cut-words
-  pub parents-size : length ps ≡ max-vertices
-  pub few : count ≤ cut-limit n
+  pub parents-size : length (r .parents) ≡ max-vertices
+  pub few : r .count ≤ cut-limit n
   -- an arborescence is found
-  pub minimum : found ≡ true → Minimum (unmarked n root ws) (take n ps) (cuts-in count cuts′)
-  pub reduced : found ≡ true → ws′ ≡ reduced-matrix (unmarked n root ws) (cuts-in count cuts′)
-  pub rest : found ≡ true → drop (2 * count) cuts′ ≡ drop (2 * count) cuts
-  pub no-set : found ≡ true → set ≡ 0
+  pub minimum : r .found ≡ true → Minimum (unmarked n root ws) (take n (r .parents)) (cuts-in (r .count) cuts′)
+  pub is-total : r .found ≡ true → r .total ≡ total (unmarked n root ws) (take n (r .parents))
+  pub reduced : r .found ≡ true → ws′ ≡ reduced-matrix (unmarked n root ws) (cuts-in (r .count) cuts′)
+  pub rest : r .found ≡ true → drop (2 * r .count) cuts′ ≡ drop (2 * r .count) cuts
+  pub no-set : r .found ≡ true → r .set ≡ 0
   -- there is none; the matrix and the cuts are then free but for their lengths
-  pub no-entry : found ≡ false → No-entry (unmarked n root ws) (record { set = set; value = 0 })
-  pub no-parents : found ≡ false → ps ≡ replicate max-vertices no-parent
-  pub no-cuts : found ≡ false → count ≡ 0
+  pub no-entry : r .found ≡ false → No-entry (unmarked n root ws) (record { set = r .set; value = 0 })
+  pub no-parents : r .found ≡ false → r .parents ≡ replicate max-vertices no-parent
+  pub no-total : r .found ≡ false → r .total ≡ 0
+  pub no-cuts : r .found ≡ false → r .count ≡ 0

@@ -3,55 +3,45 @@
 // its group.
 
 ghost use mathlib.Core.Path.{_≡_};
-ghost use mathlib.Core.Bool.{true, false};
+ghost use mathlib.Core.Bool.{true};
 ghost use Prim.Native.Nat.{_+_, _-_, _≤_, _<_};
-ghost use lib.ListN.{length, replicate};
-ghost use Rattle.edmonds.specs.Cells.{Own-labels};
-ghost use Rattle.edmonds.specs.Planned.{Weights, Planned-matrix};
+ghost use lib.ListN.{length};
+ghost use Rattle.instance.specs.Limits.{max-vertices, cut-words, max-cuts};
+ghost use Rattle.instance.specs.Cuts.{cuts-in, values};
+ghost use Rattle.instance.specs.Matrix.{Matrix-ok};
+ghost use Rattle.contraction.specs.Cells.{Own-labels};
+ghost use Rattle.edmonds.specs.Planned.{no-arborescence, concluded, Planned-matrix};
 
-mod entering; // entering.rt: the cheapest arc into a group
-mod lower; // lower.rt: the arcs into a group, lowered
-mod charge; // charge.rt: a group charged for its cheapest arc, with the cut that proves it
-mod cycle; // cycle.rt: the first cycle of chosen arcs
-mod contract; // contract.rt: a cycle's groups become one
-mod expand; // expand.rt: the cycle's arcs again, but one
-mod plan; // plan.rt: planning that calls itself on the contracted instance
+mod level; // level.rt: a level of contraction, planned by a call on the next
 
-use charge::charge_group;
+use charging::charge::charge_group;
 use instance::CutIndex;
 use instance::Vertex;
+use instance::limits::CELLS;
+use instance::limits::CUT_WORDS;
 use instance::limits::NO_PARENT;
-use plan::plan_groups;
+use level::GroupTree;
+use level::plan_groups;
 
-// An arborescence by its parents, with the number of cuts; or, where there is none, a set that no arc enters.
+// An arborescence by its parents, with its total and the number of cuts; or, where there is none, a set that no arc enters.
 pub struct Planned {
     pub found: bool,
     pub parents: [u8; 32],
+    pub total: u32,
     pub count: u32,
     pub set: u32,
 }
 
-impl Planned {
-    fn tree(parents: [u8; 32], count: u32) -> Planned
-        ensures { λ r. ⌜ (r .found ≡ true) × (r .parents ≡ parents) × (r .count ≡ count) × (r .set ≡ 0) ⌝ }
-    {
-        Planned {
-            found: true,
-            parents,
-            count,
-            set: 0,
-        }
-    }
-
-    fn none(set: u32) -> Planned
-        ensures { λ r. ⌜ (r .found ≡ false) × (r .parents ≡ replicate 32 255) × (r .count ≡ 0) × (r .set ≡ set) ⌝ }
-    {
-        Planned {
-            found: false,
-            parents: [NO_PARENT; 32],
-            count: 0,
-            set,
-        }
+// There is no arborescence.
+fn shut(set: u32) -> Planned
+    ensures { λ r. ⌜ r ≡ no-arborescence set ⌝ }
+{
+    Planned {
+        found: false,
+        parents: [NO_PARENT; 32],
+        total: 0,
+        count: 0,
+        set,
     }
 }
 
@@ -70,17 +60,56 @@ fn own_labels() -> [u8; 32]
 
 // A bound on the number of groups, two at least.
 fn group_bound(n: usize) -> u32
-    requires { ⌜ n ≤ 32 ⌝ }
+    requires { ⌜ n ≤ max-vertices ⌝ }
     ensures { λ r. ⌜ r ≡ n + (2 - n) ⌝ }
 {
     if n < 2 { 2 } else { n as u32 }
 }
 
+// "All amounts add to the cheapest total."
+fn cut_total(cuts: &[u32; CUT_WORDS], count: u32) -> u32
+    requires { ⌜ (count ≤ max-cuts) × (values (cuts-in count (now cuts)) < 4294967296) ⌝ }
+    ensures { λ r. ⌜ r ≡ values (cuts-in count (now (cuts .entry))) ⌝ }
+{
+    let mut sum: u32 = 0;
+    let mut k = count as usize;
+    while 0 < k {
+        k -= 1;
+        sum += cuts[2 * k + 1];
+    }
+    sum
+}
+
+// What the tree of single vertices comes to.
+fn conclude(tree: GroupTree, cuts: &[u32; CUT_WORDS]) -> Planned
+    requires { ⌜ (tree .found ≡ true → (tree .next .0 ≤ max-cuts) × (values (cuts-in (tree .next .0) (now cuts)) < 4294967296)) ⌝ }
+    ensures { λ r. ⌜ r ≡ concluded (tree .found) (tree .parents) (tree .next .0) (tree .set) (now (cuts .entry)) ⌝ }
+{
+    if !tree.found {
+        return shut(tree.set);
+    }
+    let parents = tree.parents;
+    let count = tree.next.0;
+    let total = cut_total(cuts, count);
+    Planned {
+        found: true,
+        parents,
+        total,
+        count,
+        set: 0,
+    }
+}
+
 // Plans a weight matrix with a stride of 32. "Each position first takes its cheapest entering link": every vertex but the root is
 // charged by itself, and then the groups are planned.
-pub fn plan_matrix(w: &mut [u32; 1024], n: usize, root: Vertex, cuts: &mut [u32; 122]) -> Planned
-    requires { ⌜ (length (now w) ≡ 1024) × (length (now cuts) ≡ 122) × (n ≤ 32) × (root .0 < n) × Weights (now w) ⌝ }
-    ensures { λ r. ⌜ Planned-matrix n (root .0) (now (w .entry)) (now (w .exit)) (now (cuts .entry)) (now (cuts .exit)) (r .found) (r .parents) (r .count) (r .set) ⌝ }
+pub fn plan_matrix(
+    w: &mut [u32; CELLS],
+    n: usize,
+    root: Vertex,
+    cuts: &mut [u32; CUT_WORDS],
+) -> Planned
+    requires { ⌜ Matrix-ok n (root .0) (now w) × (length (now cuts) ≡ cut-words) ⌝ }
+    ensures { λ r. ⌜ Planned-matrix n (root .0) (now (w .entry)) (now (w .exit)) (now (cuts .entry)) (now (cuts .exit)) r ⌝ }
 {
     let r = root.0;
     let label = own_labels();
@@ -91,18 +120,18 @@ pub fn plan_matrix(w: &mut [u32; 1024], n: usize, root: Vertex, cuts: &mut [u32;
     while v < n {
         let g = v as u32;
         if g != r {
-            let next = charge_group(w, &label, n, Vertex(g), cuts, CutIndex(k));
-            if !next.found {
-                return Planned::none(next.set);
+            let chosen = charge_group(w, &label, n, Vertex(g), CutIndex(k), cuts);
+            if !chosen.found {
+                return shut(chosen.set);
             }
-            tails[v] = next.tail as u8;
-            heads[v] = next.head as u8;
-            k = next.next.0;
+            tails[v] = chosen.tail.0 as u8;
+            heads[v] = chosen.head.0 as u8;
+            k = chosen.next.0;
         }
         v += 1;
     }
     let left = group_bound(n);
-    plan_groups(
+    let tree = plan_groups(
         w,
         &label,
         &tails,
@@ -110,7 +139,8 @@ pub fn plan_matrix(w: &mut [u32; 1024], n: usize, root: Vertex, cuts: &mut [u32;
         n,
         Vertex(r),
         left,
-        cuts,
         CutIndex(k),
-    )
+        cuts,
+    );
+    conclude(tree, cuts)
 }

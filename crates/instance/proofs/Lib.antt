@@ -1,4 +1,5 @@
--- Document 01's worked cases, the definitions' edges and which instances are valid, computed; laws of valid and of same instances. Assumes nothing.
+-- Document 01's worked cases, the definitions' edges and which instances are valid, computed; laws of arcs, valid and same instances,
+-- paths, sets, cuts and matrices. Assumes nothing.
 pub mod WorkedCases
 pub mod Edges
 pub mod WorkedValidity
@@ -6,3 +7,7 @@ pub mod ArcLaws
 pub mod ValidLaws
 pub mod SameInstances
 pub mod LimitLaws
+pub mod ReachLaws
+pub mod SetBits
+pub mod CutLaws
+pub mod MatrixLaws

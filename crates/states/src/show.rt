@@ -2,19 +2,20 @@
 // head, so a used arc is mandatory where it is the only used one into its head.
 ghost use mathlib.Core.Path.{_≡_};
 ghost use mathlib.Core.Bool.{_&&_, not, cond};
-ghost use mathlib.Core.List.{_++_};
-ghost use Prim.Native.Nat.{_*_, _/_, _%_, _≤_, _<_};
+ghost use Prim.Native.Nat.{_*_, _≤_, _<_};
 ghost use lib.Dec.{eqb};
-ghost use lib.ListN.{length, drop};
-ghost use Rattle.base.specs.Lists.{tabulate};
-ghost use Rattle.instance.specs.Limits.{no-arc};
-ghost use Rattle.instance.specs.Instance.{can-be-arc};
+ghost use lib.ListN.{length};
 ghost use Rattle.base.specs.Bounded.{count-below};
-ghost use Rattle.states.specs.Table.{is-used, Counts, state-by};
+ghost use Rattle.base.specs.Lists.{in-front};
+ghost use Rattle.instance.specs.Limits.{max-vertices, no-arc};
+ghost use Rattle.usable.specs.Table.{is-used};
+ghost use Rattle.states.specs.Show.{Counts, states-by};
+use instance::arc::can_be_arc;
+use instance::limits::CELLS;
 use instance::limits::NO_ARC;
 
-fn used_into(used: &[u8; 1024], n: u32, head: u32) -> u32
-    requires { ⌜ (n ≤ 32) × (head < 32) ⌝ }
+fn used_into(used: &[u8; CELLS], n: u32, head: u32) -> u32
+    requires { ⌜ (n ≤ max-vertices) × (head < max-vertices) ⌝ }
     ensures { λ r. ⌜ r ≡ count-below n (λ g. is-used (now (used .entry)) g head) ⌝ }
 {
     let mut count: u32 = 0;
@@ -28,8 +29,8 @@ fn used_into(used: &[u8; 1024], n: u32, head: u32) -> u32
     count
 }
 
-fn counts_into(used: &[u8; 1024], n: u32) -> [u32; 32]
-    requires { ⌜ n ≤ 32 ⌝ }
+fn counts_into(used: &[u8; CELLS], n: u32) -> [u32; 32]
+    requires { ⌜ n ≤ max-vertices ⌝ }
     ensures { λ r. ⌜ Counts n (now (used .entry)) n r ⌝ }
 {
     let mut counts = [0u32; 32];
@@ -41,10 +42,11 @@ fn counts_into(used: &[u8; 1024], n: u32) -> [u32; 32]
     counts
 }
 
-fn state_of(used: u8, weight: u32, count: u32, n: u32, root: u32, tail: u32, head: u32) -> u8
-    ensures { λ r. ⌜ r ≡ cond (can-be-arc n root tail head && not (eqb weight no-arc)) (cond (eqb used 1) (cond (eqb count 1) 3 2) 1) 0 ⌝ }
+// The state of a cell where an arc can be or not, with its weight, whether it is used, and the number of used arcs into its head.
+fn state_of(possible: bool, weight: u32, used: u8, count: u32) -> u8
+    ensures { λ r. ⌜ r ≡ cond (possible && not (eqb weight no-arc)) (cond (eqb used 1) (cond (eqb count 1) 3 2) 1) 0 ⌝ }
 {
-    if !instance::arc::can_be_arc(n, root, tail, head) {
+    if !possible {
         return 0;
     }
     if weight == NO_ARC {
@@ -60,9 +62,9 @@ fn state_of(used: u8, weight: u32, count: u32, n: u32, root: u32, tail: u32, hea
 }
 
 // The n times n states, tail by tail, at the front of the caller's buffer.
-pub fn write_states(used: &[u8; 1024], weights: &[u32; 1024], n: u32, root: u32, out: &mut [u8])
-    requires { ⌜ (n ≤ 32) × (n * n ≤ length (now out)) ⌝ }
-    ensures { λ _. ⌜ now (out .exit) ≡ tabulate (n * n) (λ i. state-by n root (now (used .entry)) (now (weights .entry)) (i / n) (i % n)) ++ drop (n * n) (now (out .entry)) ⌝ }
+pub fn write_states(used: &[u8; CELLS], weights: &[u32; CELLS], n: u32, root: u32, out: &mut [u8])
+    requires { ⌜ (n ≤ max-vertices) × (n * n ≤ length (now out)) ⌝ }
+    ensures { λ _. ⌜ now (out .exit) ≡ in-front (states-by n root (now (used .entry)) (now (weights .entry))) (now (out .entry)) ⌝ }
 {
     let counts = counts_into(used, n);
     let total = n * n;
@@ -71,15 +73,8 @@ pub fn write_states(used: &[u8; 1024], weights: &[u32; 1024], n: u32, root: u32,
         let tail = k / n;
         let head = k % n;
         let i = (32 * tail + head) as usize;
-        out[k as usize] = state_of(
-            used[i],
-            weights[i],
-            counts[head as usize],
-            n,
-            root,
-            tail,
-            head,
-        );
+        let possible = can_be_arc(n, root, tail, head);
+        out[k as usize] = state_of(possible, weights[i], used[i], counts[head as usize]);
         k += 1;
     }
 }

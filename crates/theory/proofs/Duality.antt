@@ -17,6 +17,7 @@ use borrow.Author.Tests.{eqb-true, eqb-false, ne-eqb, not-true, ltb-true}
 use Rattle.base.specs.Bounded.{sum-below}
 use Rattle.base.proofs.Tests.{test, not-both, and-left, and-right}
 use Rattle.base.proofs.BoundedLaws.{sum-mono, sum-room, sum-add, sum-zero, sum-eq}
+use Rattle.base.proofs.CondLaws.{cond-add, cond-le}
 use Rattle.instance.specs.Instance.{Instance, weight}
 use Rattle.instance.specs.Arborescence.{remaining, parent, reaches, is-arborescence, total, uses}
 use Rattle.instance.specs.Cuts.{Cut, inside, enters, charged, values, set-ok, sets-ok, Feasible, reduced-cost, No-entry}
@@ -40,51 +41,43 @@ member (suc n) c l m =
     (r .0, omega (arith, r .1), r .2))
     (test (inside c n))
 
-pub cond-add : (b : Bool) (x y : ℕ) → cond b 0 (x + y) ≡ cond b 0 x + cond b 0 y
-cond-add true x y = refl
-cond-add false x y = refl
-
-pub cond-le : (b : Bool) (x y : ℕ) → (b ≡ false → x ≤ y) → cond b 0 x ≤ cond b 0 y
-cond-le true x y h = omega arith
-cond-le false x y h = h refl
-
 module _ (s : Instance) (ps : List ℕ) (a : is-arborescence s ps ≡ true) where
   -- the arc from the parent of v enters the set
-  pub record Entry (c : ℕ) : Type 0 where
+  pub record Entering-arc (c : ℕ) : Type 0 where
     pub v : ℕ
     pub below : v < s .n
     pub not-root : eqb v (s .root) ≡ false
     pub out : inside c (parent ps v) ≡ false
     pub into : inside c v ≡ true
 
-  entry-from : (c : ℕ) → inside c (s .root) ≡ false → (k v : ℕ) → v < s .n → inside c v ≡ true → reaches k (s .root) ps v ≡ true → Entry c
+  entering-from : (c : ℕ) → inside c (s .root) ≡ false → (k v : ℕ) → v < s .n → inside c v ≡ true → reaches k (s .root) ps v ≡ true → Entering-arc c
   unfolding reaches
-  entry-from c o zero v l i r = absurd (not-both (inside c v) i (rw (eqb-true v (s .root) r) o))
-  entry-from c o (suc k) v l i r =
+  entering-from c o zero v l i r = absurd (not-both (inside c v) i (rw (eqb-true v (s .root) r) o))
+  entering-from c o (suc k) v l i r =
       ⊎-elim (λ (e : eqb v (s .root) ≡ true). absurd (not-both (inside c v) i (rw (eqb-true v (s .root) e) o)))
       (λ (e : eqb v (s .root) ≡ false).
       ⊎-elim
       (λ (j : inside c (parent ps v) ≡ true).
-      entry-from c o k (parent ps v) (remaining-ends s (parent ps v) v (joined s ps a v l e .arc) .tail-below) j (rw e at r))
+      entering-from c o k (parent ps v) (remaining-ends s (parent ps v) v (joined s ps a v l e .arc) .tail-below) j (rw e at r))
       (λ (j : inside c (parent ps v) ≡ false). record { v = v; below = l; not-root = e; out = j; into = i }) (test (inside c (parent ps v))))
       (test (eqb v (s .root)))
 
   -- AN ARBORESCENCE ENTERS EVERY SET
-  pub entry : (c : ℕ) → set-ok s c ≡ true → Entry c
+  pub entering-arc : (c : ℕ) → set-ok s c ≡ true → Entering-arc c
   unfolding set-ok
-  entry c ok =
+  entering-arc c ok =
       let sizes = and-left (ltb 0 c && ltb c (2 ^ s .n)) (not (inside c (s .root))) ok in
       let o = not-true (inside c (s .root)) (and-right (ltb 0 c && ltb c (2 ^ s .n)) (not (inside c (s .root))) ok) in
       let m =
       member (s .n) c (ltb-true 0 c (and-left (ltb 0 c) (ltb c (2 ^ s .n)) sizes))
       (ltb-true c (2 ^ s .n) (and-right (ltb 0 c) (ltb c (2 ^ s .n)) sizes)) in
       let e : eqb (m .0) (s .root) ≡ false = ne-eqb (m .0) (s .root) (λ e. not-both (inside c (m .0)) (m .2) (rw e o)) in
-      entry-from c o (s .n) (m .0) (m .1) (m .2) (joined s ps a (m .0) (m .1) e .reach)
+      entering-from c o (s .n) (m .0) (m .1) (m .2) (joined s ps a (m .0) (m .1) e .reach)
 
   pub no-entry : (c : Cut) → No-entry s c → ⊥
   unfolding enters
   no-entry c e =
-      let x = entry (c .set) (e .set-good) in
+      let x = entering-arc (c .set) (e .set-good) in
       let at = parent ps (x .v) in
       not-both (enters (c .set) at (x .v)) (simp (x .out, x .into)) (e .shut at (x .v) (joined s ps a (x .v) (x .below) (x .not-root) .arc))
 
@@ -99,7 +92,7 @@ module _ (s : Instance) (ps : List ℕ) (a : is-arborescence s ps ≡ true) wher
   share c v = cond (eqb v (s .root)) 0 (cond (enters (c .set) (parent ps v) v) (c .value) 0)
 
   -- each cut is paid at least once
-  share-here : (c : Cut) (x : Entry (c .set)) → share c (x .v) ≡ c .value
+  share-here : (c : Cut) (x : Entering-arc (c .set)) → share c (x .v) ≡ c .value
   unfolding enters
   share-here c x = simp (x .not-root, x .out, x .into)
 
@@ -108,7 +101,7 @@ module _ (s : Instance) (ps : List ℕ) (a : is-arborescence s ps ≡ true) wher
   values-paid [] ok = omega arith
   values-paid (c ∷ cs) ok =
       let rest = values-paid cs (and-right (set-ok s (c .set)) (sets-ok s cs) ok) in
-      let x = entry (c .set) (and-left (set-ok s (c .set)) (sets-ok s cs) ok) in
+      let x = entering-arc (c .set) (and-left (set-ok s (c .set)) (sets-ok s cs) ok) in
       let here = share-here c x in
       let room = sum-room (s .n) (λ v. 0) (share c) (λ v l. omega arith) (x .v) (x .below) in
       let none = sum-zero (s .n) in

@@ -1,5 +1,6 @@
 -- What is proved about the problem. Assumes nothing.
 pub mod ArborescenceLaws
+pub mod MarkLaws
 pub mod CandidateLaws
 pub mod StateLaws
 pub mod OutcomeLaws
@@ -11,4 +12,4 @@ pub mod SameArcs
 pub mod Restriction
 pub mod Forced
 pub mod SameOutcomes
-pub mod MarkLaws
+pub mod MatrixInstances

@@ -2,18 +2,18 @@
 use mathlib.Core.Path.{refl}
 use Prim.Native.Nat.{_-_, _≤_}
 use native.Mathlib.Omega.{arith}
-use Rattle.edmonds.proofs.FillLaws.{Filled, fill-none, fill-store}
+use Rattle.base.proofs.OverwriteLaws.{Overwritten, overwrite-none, overwrite-store}
 use Rattle.edmonds.proofs.own_labels.Statement.{statement}
 use Rattle.edmonds.proofs.own_labels.Tie as tie
 
 abbrev Inv-loop : tie.InvT-loop
-Inv-loop label₀ i₀ label i = (i ≤ 32) × Filled label₀ label (λ v. v) i
+Inv-loop label₀ i₀ label i = (i ≤ 32) × Overwritten 32 label₀ label (λ v. v) i
 
 abbrev μ-loop : tie.MeasureT-loop
 μ-loop label₀ i₀ label i = 32 - i
 
 loop-holds : tie.Need-loop-holds Inv-loop μ-loop
-loop-holds c = (omega arith, fill-none _ _ refl)
+loop-holds c = (omega arith, overwrite-none _ _ refl)
 
 cast-label : tie.Need-cast-label Inv-loop μ-loop
 cast-label c = omega arith
@@ -28,7 +28,7 @@ loop-less : tie.Need-loop-less Inv-loop μ-loop
 loop-less c = omega arith
 
 loop-again : tie.Need-loop-again Inv-loop μ-loop
-loop-again c = (omega arith, fill-store _ _ (c .before .loop .label) (c .before .loop .i) _ (c .before .loop .inv .1) (omega arith) refl)
+loop-again c = (omega arith, overwrite-store _ _ (c .before .loop .label) (c .before .loop .i) _ (c .before .loop .inv .1) (omega arith) refl)
 
 returns : tie.Need-returns Inv-loop μ-loop
 returns c = λ v l. c .before .loop .inv .1 .done v (omega arith)

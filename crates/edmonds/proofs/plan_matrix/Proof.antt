@@ -5,8 +5,8 @@ use Prim.Native.Nat.{_-_, _≤_}
 use native.Mathlib.Omega.{arith}
 use borrow.Author.Needs.{needs}
 use borrow.Author.Tests.{not-true, not-false}
-use Rattle.edmonds.proofs.FirstCharges.{Begun, none-charged, pass-root, none-enters, one-charged, begun-ready, room}
-use Rattle.edmonds.proofs.FinishLaws.{planned-none, planned}
+use Rattle.edmonds.proofs.FirstChargeLaws.{Begun, none-charged, pass-root, none-enters, one-charged, begun-plannable, room}
+use Rattle.edmonds.proofs.PlannedLaws.{planned-none, addable, planned}
 use Rattle.edmonds.proofs.plan_matrix.Statement.{statement}
 use Rattle.edmonds.proofs.plan_matrix.Tie as tie
 
@@ -20,7 +20,7 @@ own-labels-requires : tie.Need-own-labels-requires Inv-loop μ-loop
 own-labels-requires c κs = search needs
 
 loop-holds : tie.Need-loop-holds Inv-loop μ-loop
-loop-holds c = (omega arith, none-charged (c .before .pre .0) (c .before .pre .1) refl refl)
+loop-holds c = (omega arith, none-charged (c .before .pre .0 .size) (c .before .pre .1) refl refl)
 
 cast-g : tie.Need-cast-g Inv-loop μ-loop
 cast-g c = omega arith
@@ -30,14 +30,15 @@ charge-group-requires c κs =
     let al = c .before .before .before .before .before in
     let b = al .loop .inv .1 in
     let few = b .few in
-    (b .size, b .cuts-size, al .before .before .pre .2, omega arith, omega arith)
+    let small = al .before .before .pre .0 .small in
+    (b .size, b .cuts-size, small, omega arith, omega arith)
 
-none-requires : tie.Need-none-requires Inv-loop μ-loop
-none-requires c κs = search needs
+shut-requires : tie.Need-shut-requires Inv-loop μ-loop
+shut-requires c κs = search needs
 
 returns : tie.Need-returns Inv-loop μ-loop
 returns c =
-    let e = c .none .ensures in
+    let e = c .shut .ensures in
     let t2 = c .before in
     let cg = t2 .before .before in
     let th = cg .before .before .before .before in
@@ -46,16 +47,16 @@ returns c =
     let ol = al .before in
     let pre = ol .before .pre in
     let ch = cg .charge-group .ensures in
-    rw (e .0, e .1, e .2, e .3)
-    (planned-none _ _ _ (pre .0) (pre .2) (pre .3) (pre .4) (ch .size) (ch .cuts-size)
-    (none-enters (pre .2) (ol .own-labels .ensures) (pre .3) (al .loop .inv .1) (il .loop-test .taken) (th .if1 .taken) ch (not-true (cg .charge-group .result .found) (t2 .if2 .taken))))
+    rw e
+    (planned-none _ _ _ (pre .0) (ch .size) (ch .cuts-size)
+    (none-enters (pre .0 .small) (ol .own-labels .ensures) (pre .0 .root-below) (al .loop .inv .1) (il .loop-test .taken) (th .if1 .taken) ch (not-true (cg .charge-group .result .found) (t2 .if2 .taken))))
 
 cast-tails : tie.Need-cast-tails Inv-loop μ-loop
 cast-tails c =
     let e2 = c .before in
     let cg = e2 .before .before in
     let b = cg .charge-group .ensures .arc (not-false (cg .charge-group .result .found) (e2 .if2 .left)) .tail-below in
-    let m = cg .before .before .before .before .before .before .before .before .pre .2 in
+    let m = cg .before .before .before .before .before .before .before .before .pre .0 .small in
     omega arith
 
 array-write-tails : tie.Need-array-write-tails Inv-loop μ-loop
@@ -66,7 +67,7 @@ cast-heads c =
     let e2 = c .before .before in
     let cg = e2 .before .before in
     let b = cg .charge-group .ensures .arc (not-false (cg .charge-group .result .found) (e2 .if2 .left)) .head-below in
-    let m = cg .before .before .before .before .before .before .before .before .pre .2 in
+    let m = cg .before .before .before .before .before .before .before .before .pre .0 .small in
     omega arith
 
 array-write-heads : tie.Need-array-write-heads Inv-loop μ-loop
@@ -88,8 +89,8 @@ loop-again c =
       omega arith,
       ⊎-elim
           (λ w. rw (w .9, w .10, w .11, w .12, w .13)
-          (one-charged (pre .2) (ol .own-labels .ensures) (pre .3) b (il .loop-test .taken) (w .0 .taken) (w .4 .ensures) (not-false (w .4 .result .found) (w .6 .left))))
-          (λ w. rw (w .1, w .2, w .3, w .4, w .5) (pass-root (pre .2) (ol .own-labels .ensures) (pre .3) b (w .0 .left)))
+          (one-charged (pre .0 .small) (ol .own-labels .ensures) (pre .0 .root-below) b (il .loop-test .taken) (w .0 .taken) (w .4 .ensures) (not-false (w .4 .result .found) (w .6 .left))))
+          (λ w. rw (w .1, w .2, w .3, w .4, w .5) (pass-root (pre .0 .small) (ol .own-labels .ensures) (pre .0 .root-below) b (w .0 .left)))
           (c .if1 .came),
     )
 
@@ -104,20 +105,32 @@ plan-groups-requires c κs =
     let ol = al .before in
     let pre = ol .before .pre in
     let b = al .loop .inv .1 in (
-      begun-ready (pre .2) (ol .own-labels .ensures) (pre .3) b (lp .loop-test .left) (al .loop .inv .0) (gb .group-bound .ensures),
+      begun-plannable (pre .0 .small) (ol .own-labels .ensures) (pre .0 .root-below) b (lp .loop-test .left) (al .loop .inv .0) (gb .group-bound .ensures),
       b .cuts-size,
-      room (pre .2) (ol .own-labels .ensures) (pre .3) b (lp .loop-test .left) (al .loop .inv .0) (gb .group-bound .ensures),
+      room (pre .0 .small) (ol .own-labels .ensures) (pre .0 .root-below) b (lp .loop-test .left) (al .loop .inv .0) (gb .group-bound .ensures),
     )
 
-returns-2 : tie.Need-returns-2 Inv-loop μ-loop
-returns-2 c =
-    let gb = c .before .before .before .before .before .before in
+conclude-requires : tie.Need-conclude-requires Inv-loop μ-loop
+conclude-requires c κs =
+    let pg = c .before in
+    let gb = pg .before .before .before .before .before .before in
     let lp = gb .before in
     let al = lp .before in
     let ol = al .before in
     let pre = ol .before .pre in
-    planned _ _ _ (pre .0) (pre .2) (pre .3) (pre .4) (ol .own-labels .ensures) (pre .1) (al .loop .inv .1) (lp .loop-test .left) (al .loop .inv .0)
-    (gb .group-bound .ensures) (c .plan-groups .ensures)
+    λ e. addable _ _ _ (pre .0) (ol .own-labels .ensures) (pre .1) (al .loop .inv .1) (lp .loop-test .left) (al .loop .inv .0) (gb .group-bound .ensures) (pg .plan-groups .ensures) e
+
+returns-2 : tie.Need-returns-2 Inv-loop μ-loop
+returns-2 c =
+    let pg = c .before .before in
+    let gb = pg .before .before .before .before .before .before in
+    let lp = gb .before in
+    let al = lp .before in
+    let ol = al .before in
+    let pre = ol .before .pre in
+    rw (c .conclude .ensures)
+    (planned _ _ _ (pre .0) (ol .own-labels .ensures) (pre .1) (al .loop .inv .1) (lp .loop-test .left) (al .loop .inv .0) (gb .group-bound .ensures)
+    (pg .plan-groups .ensures))
 
 pub plan-matrix-spec : {M : Type 1} → statement M
 plan-matrix-spec =
@@ -129,7 +142,7 @@ plan-matrix-spec =
     loop-holds
     cast-g
     charge-group-requires
-    none-requires
+    shut-requires
     returns
     cast-tails
     array-write-tails
@@ -140,4 +153,5 @@ plan-matrix-spec =
     loop-again
     group-bound-requires
     plan-groups-requires
+    conclude-requires
     returns-2)

@@ -3,13 +3,14 @@ use mathlib.Core.Path.{_≡_, refl}
 use Prim.Native.Nat.{_-_, _≤_}
 use native.Mathlib.Omega.{arith}
 use lib.ListN.{length, length-set}
-use Rattle.states.specs.Table.{Counts}
-use Rattle.states.proofs.TableLaws.{counts-none, counts-more}
+use Rattle.instance.specs.Limits.{max-vertices}
+use Rattle.states.specs.Show.{Counts}
+use Rattle.states.proofs.ShowLaws.{counts-none, counts-more}
 use Rattle.states.proofs.show.counts_into.Statement.{statement}
 use Rattle.states.proofs.show.counts_into.Tie as tie
 
 abbrev Inv-loop : tie.InvT-loop
-Inv-loop used n counts₀ head₀ counts head = (head ≤ n) × (length counts ≡ 32) × Counts n used head counts
+Inv-loop used n counts₀ head₀ counts head = (head ≤ n) × (length counts ≡ max-vertices) × Counts n used head counts
 
 abbrev μ-loop : tie.MeasureT-loop
 μ-loop used n counts₀ head₀ counts head = n - head

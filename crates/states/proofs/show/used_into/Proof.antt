@@ -6,8 +6,8 @@ use Prim.Native.Nat.{ℕ, _-_, _≤_}
 use native.Mathlib.Omega.{arith}
 use borrow.Author.Tests.{eq-eqb, ne-eqb}
 use Rattle.base.specs.Bounded.{sum-below, count-below}
-use Rattle.states.specs.Table.{is-used}
-use Rattle.states.proofs.TableLaws.{count-step}
+use Rattle.usable.specs.Table.{is-used}
+use Rattle.base.proofs.SumLaws.{count-step}
 use Rattle.states.proofs.show.used_into.Statement.{statement}
 use Rattle.states.proofs.show.used_into.Tie as tie
 

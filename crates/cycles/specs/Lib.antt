@@ -1,0 +1,3 @@
+-- What searching and contracting a cycle give. Assumes nothing.
+pub mod Cycle
+pub mod Contract

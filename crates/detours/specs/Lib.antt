@@ -1,0 +1,4 @@
+-- What the search for detours gives. Assumes nothing.
+pub mod Descendants
+pub mod Increases
+pub mod Detours

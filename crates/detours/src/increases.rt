@@ -1,0 +1,76 @@
+// What it costs to give each marked vertex a parent that is not marked.
+ghost use Prim.Native.Nat.{_≤_, _<_};
+ghost use lib.ListN.{take};
+ghost use Rattle.instance.specs.Limits.{max-vertices};
+ghost use Rattle.paths.specs.Tree.{Matrix-tree};
+ghost use Rattle.detours.specs.Increases.{Least-outside, Increase, Increases};
+use instance::limits::CELLS;
+use instance::limits::NO_ARC;
+
+// The least weight into the vertex from a tail that is not marked.
+fn least_outside(m: &[u32; CELLS], marked: &[u8; 32], n: u32, vertex: u32) -> u32
+    requires { ⌜ (n ≤ max-vertices) × (vertex < max-vertices) ⌝ }
+    ensures { λ r. ⌜ Least-outside n (now (m .entry)) (now (marked .entry)) vertex r ⌝ }
+{
+    let mut least = NO_ARC;
+    let mut x: u32 = 0;
+    while x < n {
+        let w = m[(32 * x + vertex) as usize];
+        if marked[x as usize] != 1 {
+            if w < least {
+                least = w;
+            }
+        }
+        x += 1;
+    }
+    least
+}
+
+// What such a tail adds to the weight of the vertex's own arc.
+fn increase(
+    m: &[u32; CELLS],
+    parents: &[u8; 32],
+    marked: &[u8; 32],
+    n: u32,
+    root: u32,
+    vertex: u32,
+) -> u32
+    requires { ⌜ Matrix-tree n root (now m) (now parents) × (vertex < n) ⌝ }
+    ensures { λ r. ⌜ Increase n (now (m .entry)) (take n (now (parents .entry))) (now (marked .entry)) vertex r ⌝ }
+{
+    if vertex == root {
+        return NO_ARC;
+    }
+    if marked[vertex as usize] != 1 {
+        return NO_ARC;
+    }
+    let least = least_outside(m, marked, n, vertex);
+    let tail = parents[vertex as usize] as u32;
+    let own = m[(32 * tail + vertex) as usize];
+    if least == NO_ARC {
+        return NO_ARC;
+    }
+    if least < own {
+        return 0;
+    }
+    least - own
+}
+
+pub fn increases(
+    m: &[u32; CELLS],
+    parents: &[u8; 32],
+    marked: &[u8; 32],
+    n: u32,
+    root: u32,
+) -> [u32; 32]
+    requires { ⌜ Matrix-tree n root (now m) (now parents) ⌝ }
+    ensures { λ r. ⌜ Increases n (now (m .entry)) (take n (now (parents .entry))) (now (marked .entry)) n r ⌝ }
+{
+    let mut table = [NO_ARC; 32];
+    let mut k: u32 = 0;
+    while k < n {
+        table[k as usize] = increase(m, parents, marked, n, root, k);
+        k += 1;
+    }
+    table
+}

@@ -1,0 +1,273 @@
+-- A level of planning with a cycle: the contracted level can be planned, and what solves it solves this level, once the cycle is expanded.
+-- Assumes nothing.
+use mathlib.Core.Path.{_≡_, refl, sym, _∙_, subst}
+use mathlib.Core.Bool.{Bool, true, false}
+use mathlib.Core.List.{List, _++_}
+use mathlib.Core.Logic.{_≢_, inl, inr, ⊎-elim}
+use Prim.Native.Nat.{ℕ, _+_, _*_, _-_, _≤_, _<_}
+use native.Mathlib.Omega.{arith}
+use lib.Dec.{eqb}
+use lib.ListN.{set, length-set}
+use lib.Seq.{getD-set-same, getD-set-other}
+use borrow.Author.Tests.{eq-eqb, ne-eqb, eqb-true, eqb-false}
+use Rattle.base.proofs.Tests.{test, not-both}
+use Rattle.instance.specs.Limits.{max-vertices}
+use Rattle.instance.specs.Cuts.{Cut, cuts-from}
+use Rattle.contraction.specs.Cells.{at, cost}
+use Rattle.contraction.specs.Groups.{Labels, Group, Chosen, Cycle, Lowered, contracted, expanded, groups}
+use Rattle.contraction.specs.Search.{on-cycle}
+use Rattle.contraction.specs.Trees.{Each, Reached, here, step, Tree, Fine}
+use Rattle.base.proofs.CountingLaws.{count-more, count-one}
+use Rattle.contraction.proofs.EachLaws.{each-append, tree-same}
+use Rattle.contraction.proofs.Lowering.{lowered-twice, chosen-lowered}
+use Rattle.contraction.proofs.Expansion.{expand-tree}
+use Rattle.contraction.proofs.SearchLaws as search-laws
+use Rattle.charging.specs.Charge.{Chosen-arc, Charged-group}
+use Rattle.cycles.specs.Cycle.{Met}
+use Rattle.cycles.specs.Contract.{Contracted}
+use Rattle.expansion.specs.Expansion.{Cycle-entry, Cycle-entered, Expanded}
+use Rattle.edmonds.specs.Level.{Plannable, Solution, Solved}
+use Rattle.instance.proofs.CutLaws.{cuts-joined}
+use Rattle.charging.proofs.ChargeLaws.{unentered-before}
+
+module _ {ws ls tails heads : List ℕ} {n root left : ℕ} (r : Plannable ws ls tails heads n root left) where
+  root-below : root < n
+  root-below = r .labels .root-below
+
+  -- a cycle at v, contracted to the labels lc
+  module _ {stamp : List ℕ} {v : ℕ} (mt : Met ls tails stamp n root v) {lc : List ℕ} (ct : Contracted ls stamp n v lc) where
+    abbrev on : ℕ → Bool
+    on = on-cycle (at stamp) v
+
+    cycle-at : {w : ℕ → ℕ → ℕ} → Chosen n root w (at ls) (at tails) (at heads) → Cycle n root w (at ls) (at tails) (at heads) on v
+    cycle-at {w} ch = search-laws.cycle n root (at ls) (at tails) (at stamp) (mt .first) (mt .last) v (mt .walk) w (at heads) ch (mt .met)
+
+    cycle : Cycle n root (cost ws) (at ls) (at tails) (at heads) on v
+    cycle = cycle-at (r .chosen)
+
+    v-below : v < n
+    v-below = mt .walk .v-below
+
+    v-label : at ls v ≡ v
+    v-label = mt .walk .v-label
+
+    label-on : (u : ℕ) → u < n → on (at ls u) ≡ true → at lc u ≡ v
+    label-on u l i = ct .is u l ∙ rw i
+
+    label-off : (u : ℕ) → u < n → on (at ls u) ≡ false → at lc u ≡ at ls u
+    label-off u l o = ct .is u l ∙ rw o
+
+    label-v : at lc v ≡ v
+    label-v = label-on v v-below (rw v-label (cycle .c-on))
+
+    label-root : at lc root ≡ at ls root
+    label-root = label-off root root-below (cycle .root-off)
+
+    root-not-v : at lc root ≢ v
+    root-not-v e = not-both (on v) (cycle .c-on) (subst (λ (x : ℕ). on x ≡ false) (sym label-root ∙ e) (cycle .root-off))
+
+    back-on : (u : ℕ) → u < n → at lc u ≡ v → on (at ls u) ≡ true
+    back-on u l e =
+        ⊎-elim (λ (i : on (at ls u) ≡ true). i)
+        (λ (o : on (at ls u) ≡ false). absurd (not-both (on v) (cycle .c-on) (subst (λ (x : ℕ). on x ≡ false) (sym (label-off u l o) ∙ e) o))) (test (on (at ls u)))
+
+    coarse-labels : Labels n root (at lc)
+    coarse-labels =
+        record {
+          below =
+              λ u l.
+              ⊎-elim (λ (i : on (at ls u) ≡ true). rw (label-on u l i) v-below)
+              (λ (o : on (at ls u) ≡ false). rw (label-off u l o) (r .labels .below u l)) (test (on (at ls u)));
+          self =
+              λ u l.
+              ⊎-elim (λ (i : on (at ls u) ≡ true). rw (label-on u l i) label-v)
+              (λ (o : on (at ls u) ≡ false).
+              let self = r .labels .self u l in
+              rw (label-off u l o) (label-off (at ls u) (r .labels .below u l) (rw self o) ∙ self)) (test (on (at ls u)));
+          root-below = root-below;
+        }
+
+    -- a contracted group other than v's is a group off the cycle
+    off : (g : ℕ) → Group n root (at lc) g → g ≢ v → Group n root (at ls) g × (on g ≡ false)
+    off g gr ne =
+        ⊎-elim (λ (i : on (at ls g) ≡ true). absurd (ne (sym (gr .1) ∙ label-on g (gr .0) i)))
+        (λ (o : on (at ls g) ≡ false).
+        let e : at ls g ≡ g = sym (label-off g (gr .0) o) ∙ gr .1 in
+        ((gr .0, e, λ x. gr .2 (x ∙ sym label-root)), rw e at o)) (test (on (at ls g)))
+
+    -- FEWER GROUPS, and two at least
+    still-own : (u : ℕ) → u < n → eqb (at lc u) u ≡ true → eqb (at ls u) u ≡ true
+    still-own u l e =
+        ⊎-elim
+        (λ (i : on (at ls u) ≡ true). let uv : u ≡ v = sym (eqb-true (at lc u) u e) ∙ label-on u l i in eq-eqb (at ls u) u (rw uv v-label))
+        (λ (o : on (at ls u) ≡ false). eq-eqb (at ls u) u (sym (label-off u l o) ∙ eqb-true (at lc u) u e)) (test (on (at ls u)))
+
+    -- the group of the tail of v's arc is another of the cycle
+    fewer : groups n (at lc) + 1 ≤ groups n (at ls)
+    fewer =
+        let tb = cycle .tail-below v (cycle .c-on) in
+        let u = at ls (at tails v) in
+        let ub : u < n = r .labels .below (at tails v) tb in
+        let us : at ls u ≡ u = r .labels .self (at tails v) tb in
+        let lu : at lc u ≡ v = label-on u ub (rw us (cycle .tail-on v (cycle .c-on))) in
+        count-more n (λ x. eqb (at lc x) x) (λ x. eqb (at ls x) x) still-own u ub
+        (ne-eqb (at lc u) u (λ e. cycle .tail-out v (cycle .c-on) (sym e ∙ lu))) (eq-eqb (at ls u) u us)
+
+    two-left : 2 ≤ groups n (at lc)
+    two-left =
+        let ρ = at lc root in
+        let ρs = coarse-labels .self root root-below in
+        let a = count-one n (λ x. eqb x ρ) ρ (coarse-labels .below root root-below) (eq-eqb ρ ρ refl) in
+        let b =
+        count-more n (λ x. eqb x ρ) (λ x. eqb (at lc x) x) (λ x l e. eq-eqb (at lc x) x (rw (eqb-true x ρ e) ρs)) v v-below
+        (ne-eqb v ρ (λ e. root-not-v (sym e))) (eq-eqb (at lc v) v label-v) in
+        omega arith
+
+    pub three : 3 ≤ left
+    three = let f = fewer in let t = two-left in let en = r .enough in omega arith
+
+    -- THE CONTRACTED GROUP, charged
+    module _ {ws′ cuts cuts′ : List ℕ} {k : ℕ} {found : Bool} {t h k′ s : ℕ} (ch : Charged-group ws ws′ lc n v cuts cuts′ k found t h k′ s) where
+      pub stopped : found ≡ false → (ps : List ℕ) (next : ℕ) → Solved ws ws′ ls n root left cuts cuts′ k false ps next s
+      stopped no-found ps next =
+          record {
+            size = ch .size;
+            cuts-size = ch .cuts-size;
+            solution = λ x. absurd (not-both false x refl);
+            unentered = λ _. ch .unentered no-found root root-below root-not-v v v-below label-v;
+          }
+
+      module _ (is-found : found ≡ true) where
+        v-32 : v < max-vertices
+        v-32 = omega (arith, v-below, r .small)
+
+        -- the arcs chosen now: v's is the one that was charged, the others are as they were
+        chosen : Chosen n root (cost ws′) (at lc) (at (set tails v t)) (at (set heads v h))
+        chosen =
+            record {
+              head-below = λ g gr. arc g gr .head-below;
+              head-in = λ g gr. arc g gr .head-in;
+              tail-below = λ g gr. arc g gr .tail-below;
+              tail-out = λ g gr. arc g gr .tail-out;
+              free = λ g gr. arc g gr .free;
+            }
+          where
+            at-v : Chosen-arc ws′ lc n v (at (set tails v t) v) (at (set heads v h) v)
+            at-v =
+                let zt = r .tails-size in
+                let zh = r .heads-size in
+                let b = v-32 in
+                rw (getD-set-same tails v t 0 (omega arith), getD-set-same heads v h 0 (omega arith)) (ch .arc is-found)
+
+            arc : (g : ℕ) → Group n root (at lc) g → Chosen-arc ws′ lc n g (at (set tails v t) g) (at (set heads v h) g)
+            arc g gr =
+                ⊎-elim (λ (e : eqb g v ≡ true). subst (λ (x : ℕ). Chosen-arc ws′ lc n x (at (set tails v t) x) (at (set heads v h) x)) (sym (eqb-true g v e)) at-v)
+                (λ (e : eqb g v ≡ false).
+                let ne = eqb-false g v e in
+                let o = off g gr ne in
+                let gf = o .0 in
+                let hb = r .chosen .head-below g gf in
+                let hi = r .chosen .head-in g gf in
+                let tb = r .chosen .tail-below g gf in
+                rw (getD-set-other tails v g t 0 ne, getD-set-other heads v g h 0 ne)
+                (record {
+                  tail-below = tb;
+                  head-below = hb;
+                  tail-out =
+                      λ x.
+                      ⊎-elim (λ (i : on (at ls (at tails g)) ≡ true). ne (sym x ∙ label-on (at tails g) tb i))
+                      (λ (i : on (at ls (at tails g)) ≡ false). r .chosen .tail-out g gf (sym (label-off (at tails g) tb i) ∙ x)) (test (on (at ls (at tails g))));
+                  head-in = label-off (at heads g) hb (rw hi (o .1)) ∙ hi;
+                  free = chosen-lowered (ch .lowered) (r .chosen) .free g gf;
+                }))
+                (test (eqb g v))
+
+        pub contracted-plannable : Plannable ws′ lc (set tails v t) (set heads v h) n root (left - 1)
+        contracted-plannable =
+            let f = fewer in
+            let two = two-left in
+            let en = r .enough in
+            let zt = r .tails-size in
+            let zh = r .heads-size in
+            record {
+              size = ch .size;
+              tails-size = simp length-set zt;
+              heads-size = simp length-set zh;
+              small = r .small;
+              labels = coarse-labels;
+              chosen = chosen;
+              enough = omega arith;
+              two = omega arith;
+            }
+
+        -- THE CONTRACTED LEVEL, solved
+        module _ {ws″ cuts″ ps : List ℕ} {found′ : Bool} {m s′ : ℕ} (so : Solved ws′ ws″ lc n root (left - 1) cuts′ cuts″ k′ found′ ps m s′) where
+          pub none-below : found′ ≡ false → Solved ws ws″ ls n root left cuts cuts″ k found′ ps m s′
+          none-below e =
+              record {
+                size = so .size;
+                cuts-size = so .cuts-size;
+                solution = λ x. absurd (not-both found′ x e);
+                unentered = λ x. unentered-before (ch .lowered) (so .unentered x);
+              }
+
+          module _ (th : found′ ≡ true) where
+            entered-at : {g : ℕ} → Reached n root (at lc) (at ps) g → g ≡ v → Cycle-entered ps ls stamp n v
+            entered-at (here e) x = absurd (root-not-v (sym e ∙ x))
+            entered-at (step u l e p rest) x = (u, record { below = l; on = back-on u l (e ∙ x); has = p })
+
+            pub entered : Cycle-entered ps ls stamp n v
+            entered = entered-at (so .solution th .tree .reached v v-below) label-v
+
+            abbrev cs : List Cut
+            cs = cuts-from (m - k) k cuts″
+
+            joined : cuts-from (k′ - k) k cuts′ ++ cuts-from (m - k′) k′ cuts″ ≡ cs
+            joined = cuts-joined k k′ m cuts′ cuts″ (ch .least) (so .solution th .least) (so .solution th .frame)
+
+            lowered : Lowered n (cost ws) (cost ws″) cs
+            lowered = subst (Lowered n (cost ws) (cost ws″)) joined (lowered-twice (ch .lowered) (so .solution th .lowered))
+
+            coarse-tree : Tree n root (cost ws″) (contracted (at ls) on v) cs (at ps)
+            coarse-tree =
+                tree-same n root (cost ws″) (at lc) (contracted (at ls) on v) (at ps) (at ps) root-below (λ u l. sym (ct .is u l)) (λ u l. refl) cs
+                (subst (λ (x : List Cut). Tree n root (cost ws″) (at lc) x (at ps)) joined
+                (ch .lifts is-found root root-not-v (cost ws″) (cuts-from (m - k′) k′ cuts″) (at ps) (so .solution th .tree)))
+
+            module _ {e : ℕ} (en : Cycle-entry ps ls stamp n v e) {ps′ : List ℕ} (ex : Expanded ps ls stamp tails heads n v e ps′) where
+              fine-tree : Tree n root (cost ws″) (at ls) cs (at ps′)
+              fine-tree =
+                  tree-same n root (cost ws″) (at ls) (at ls) (expanded (at ls) (at tails) (at heads) on (at ls e) (at ps)) (at ps′) root-below (λ u l. refl) (ex .is) cs
+                  (expand-tree n root (cost ws″) (at ls) (at tails) (at heads) on v (cycle-at (chosen-lowered lowered (r .chosen))) cs (at ps) coarse-tree e (en .below) (en .on) (en .has))
+
+              solution : Solution ws ws″ ls n root left cuts cuts″ k ps′ m
+              solution =
+                  let kk = ch .least in
+                  let kk′ = ch .most in
+                  let km = so .solution th .least in
+                  let mm = so .solution th .most in
+                  let lp = three in
+                  record {
+                    parents-size = ex .size;
+                    tree = fine-tree;
+                    lowered = lowered;
+                    fine =
+                        subst (Each (Fine n root)) joined
+                        (each-append (cuts-from (k′ - k) k cuts′) (cuts-from (m - k′) k′ cuts″) (ch .fine is-found root root-below root-not-v) (so .solution th .fine));
+                    least = omega arith;
+                    most = omega arith;
+                    frame =
+                        λ i why.
+                        ⊎-elim (λ (d : i < 2 * k). so .solution th .frame i (inl (omega arith)) ∙ ch .frame i (inl d))
+                        (λ (d : 2 * m ≤ i). so .solution th .frame i (inr d) ∙ ch .frame i (inr (omega arith))) why;
+                    root-none = ex .is root root-below ∙ rw (cycle .root-off) (so .solution th .root-none);
+                  }
+
+              pub expands : (set : ℕ) → Solved ws ws″ ls n root left cuts cuts″ k true ps′ m set
+              expands set =
+                  record {
+                    size = so .size;
+                    cuts-size = so .cuts-size;
+                    solution = λ _. solution;
+                    unentered = λ x. absurd (not-both true refl x);
+                  }

@@ -1,0 +1,2 @@
+-- What expanding a cycle gives. Assumes nothing.
+pub mod Expansion

@@ -1,0 +1,2 @@
+-- What the contracts cite besides the definitions of `instance`. Assumes nothing.
+pub mod Pins

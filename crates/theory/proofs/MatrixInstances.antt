@@ -1,0 +1,67 @@
+-- A matrix as an instance with a budget: the same arcs, arborescences and totals whatever the budget; and where the matrix is that of
+-- what remains of an instance, the same arcs are usable. Assumes nothing.
+use mathlib.Core.Path.{_≡_, refl, sym, _∙_}
+use mathlib.Core.Bool.{true}
+use mathlib.Core.List.{List}
+use mathlib.Core.Logic.{_↔_}
+use Prim.Native.Nat.{ℕ, _≤_}
+use native.Mathlib.Omega.{arith}
+use Rattle.base.proofs.Tests.{same-test}
+use Rattle.instance.specs.Limits.{max-vertices}
+use Rattle.instance.specs.Instance.{Instance, is-arc, weight, mark}
+use Rattle.instance.specs.Arborescence.{is-pinned, other-pinned, remaining, is-arborescence, total}
+use Rattle.instance.specs.Matrix.{matrix, matrix-instance, unmarked}
+use Rattle.instance.specs.States.{fits}
+use Rattle.theory.specs.Usable.{usable}
+use Rattle.theory.proofs.StateLaws.{fits-arborescence, fits-total, make-fits}
+use Rattle.theory.proofs.SameArcs.{Same-arcs, same-back, same-arborescence, same-total}
+use Rattle.theory.proofs.Usable.{usable-some}
+use Rattle.theory.proofs.Restriction.{matrix-same}
+
+same-on : (a b c : Instance) → Same-arcs a b → Same-arcs b c → Same-arcs a c
+same-on a b c e f =
+    record {
+      vertices = e .vertices ∙ f .vertices;
+      roots = e .roots ∙ f .roots;
+      arcs = λ t h. e .arcs t h ∙ f .arcs t h;
+      weights = λ t h r. e .weights t h r ∙ f .weights t h (sym (e .arcs t h) ∙ r);
+    }
+
+-- SAME ARCS AND BUDGET
+same-fits : (a b : Instance) → Same-arcs a b → a .budget ≡ b .budget → (ps : List ℕ) → fits a ps ≡ true → fits b ps ≡ true
+same-fits a b e f ps x =
+    let q = fits-arborescence a ps x in
+    let l = fits-total a ps x in
+    let z = same-total a b e ps q in
+    make-fits b ps (same-arborescence a b e ps q) (omega arith)
+
+usable-into : (a b : Instance) → Same-arcs a b → a .budget ≡ b .budget → (t h : ℕ) → usable a t h ≡ true → usable b t h ≡ true
+usable-into a b e f t h u = let w = usable-some a t h .0 u in usable-some b t h .1 (w .0, same-fits a b e f (w .0) (w .1), w .2)
+
+same-usable : (a b : Instance) → Same-arcs a b → a .budget ≡ b .budget → (t h : ℕ) → usable a t h ≡ usable b t h
+same-usable a b e f t h = same-test (usable a t h) (usable b t h) (usable-into a b e f t h) (usable-into b a (same-back a b e) (sym f) t h)
+
+-- WHATEVER THE BUDGET
+module _ (n r b : ℕ) (m : List ℕ) where
+  pub matrix-instance-same : Same-arcs (matrix-instance n r b m) (unmarked n r m)
+  unfolding unmarked remaining is-arc other-pinned is-pinned mark weight
+  matrix-instance-same = record { vertices = refl; roots = refl; arcs = λ t h. refl; weights = λ t h _. refl }
+
+  pub matrix-instance-remaining : (t h : ℕ) → remaining (matrix-instance n r b m) t h ≡ remaining (unmarked n r m) t h
+  matrix-instance-remaining = matrix-instance-same .arcs
+
+  pub matrix-instance-arborescence : (ps : List ℕ) → (is-arborescence (matrix-instance n r b m) ps ≡ true) ↔ (is-arborescence (unmarked n r m) ps ≡ true)
+  matrix-instance-arborescence ps = (
+    same-arborescence (matrix-instance n r b m) (unmarked n r m) matrix-instance-same ps,
+    same-arborescence (unmarked n r m) (matrix-instance n r b m) (same-back (matrix-instance n r b m) (unmarked n r m) matrix-instance-same) ps,
+  )
+
+  pub matrix-instance-total : (ps : List ℕ) → is-arborescence (unmarked n r m) ps ≡ true → total (matrix-instance n r b m) ps ≡ total (unmarked n r m) ps
+  matrix-instance-total ps a = same-total (matrix-instance n r b m) (unmarked n r m) matrix-instance-same ps (matrix-instance-arborescence ps .1 a)
+
+-- USABLE IN THE MATRIX IS USABLE
+pub matrix-usable : (s : Instance) → s .n ≤ max-vertices → (t h : ℕ) → usable (matrix-instance (s .n) (s .root) (s .budget) (matrix s)) t h ≡ usable s t h
+matrix-usable s small =
+    let left = matrix-instance (s .n) (s .root) (s .budget) (matrix s) in
+    let whole = unmarked (s .n) (s .root) (matrix s) in
+    same-usable left s (same-on left whole s (matrix-instance-same (s .n) (s .root) (s .budget) (matrix s)) (matrix-same s small)) refl

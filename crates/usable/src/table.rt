@@ -1,0 +1,23 @@
+// A table of arcs: 1 at the cell of an arc that is used.
+ghost use mathlib.Core.Path.{_≡_};
+ghost use Prim.Native.Nat.{_≤_};
+ghost use lib.ListN.{length, take};
+ghost use Rattle.instance.specs.Limits.{max-vertices, cells};
+ghost use Rattle.paths.specs.Paths.{Rooted};
+ghost use Rattle.usable.specs.Table.{Tree-added};
+use instance::limits::CELLS;
+
+// Adds each arc of the tree.
+pub fn add_tree(parents: &[u8; 32], n: u32, root: u32, used: &mut [u8; CELLS])
+    requires { ⌜ (n ≤ max-vertices) × (length (now parents) ≡ max-vertices) × Rooted n root (take n (now parents)) × (length (now used) ≡ cells) ⌝ }
+    ensures { λ _. ⌜ Tree-added n root (take n (now (parents .entry))) (now (used .entry)) (now (used .exit)) ⌝ }
+{
+    let mut v: u32 = 0;
+    while v < n {
+        if v != root {
+            let tail = parents[v as usize] as u32;
+            used[(32 * tail + v) as usize] = 1;
+        }
+        v += 1;
+    }
+}
