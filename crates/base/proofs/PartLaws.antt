@@ -40,3 +40,14 @@ pub drop-same : (d : ℕ) (l m : List ℕ) → length l ≡ length m → ((i : �
 drop-same d l m e h =
     ext-getD 0 (drop d l) (drop d m) (simp length-drop (ap (λ (x : ℕ). x - d) e))
     (λ i lt. getD-drop d l i 0 ∙ h (d + i) (omega arith) ∙ sym (getD-drop d m i 0))
+
+-- parts of a number repeated
+pub drop-replicate : (k m x : ℕ) → drop k (replicate m x) ≡ replicate (m - k) x
+drop-replicate zero m x = let e : m ≡ m - 0 = omega arith in ap (λ (j : ℕ). replicate j x) e
+drop-replicate (suc k) zero x = let e : 0 ≡ 0 - suc k = omega arith in ap (λ (j : ℕ). replicate j x) e
+drop-replicate (suc k) (suc m) x = let e : m - k ≡ suc m - suc k = omega arith in drop-replicate k m x ∙ ap (λ (j : ℕ). replicate j x) e
+
+pub take-replicate : (k m x : ℕ) → k ≤ m → take k (replicate m x) ≡ replicate k x
+take-replicate zero m x h = refl
+take-replicate (suc k) zero x h = absurd (omega arith)
+take-replicate (suc k) (suc m) x h = ap (λ (l : List ℕ). x ∷ l) (take-replicate k m x (omega arith))

@@ -1,24 +1,21 @@
 -- From what planning found and what was copied out to what a look promises. Assumes nothing.
-use mathlib.Core.Path.{_≡_, refl, sym, ap, _∙_}
+use mathlib.Core.Path.{_≡_, refl, ap, _∙_}
 use mathlib.Core.Bool.{true, false, _||_}
-use mathlib.Core.List.{List, _++_}
-use Prim.Native.Nat.{ℕ, _*_, _/_, _%_, _≤_}
-use native.Mathlib.Omega.{arith}
-use lib.ListN.{length, take, drop}
+use mathlib.Core.List.{List}
+use Prim.Native.Nat.{ℕ, _*_, _≤_}
+use lib.ListN.{length, take}
 use lib.Dec.{ltb}
 use borrow.Author.Tests.{ltb-false}
-use Rattle.base.specs.Lists.{tabulate, in-front}
+use Rattle.base.specs.Lists.{in-front}
 use Rattle.base.proofs.Tests.{or-false-left, or-false-right}
-use Rattle.base.proofs.FrontLaws.{front-is}
 use Rattle.instance.specs.Limits.{cut-words}
 use Rattle.instance.specs.Refusals.{buffer-short, invalid-board}
 use Rattle.instance.specs.Instance.{Instance}
 use Rattle.instance.specs.States.{states}
-use Rattle.theory.proofs.StateLaws.{states-read}
 use Rattle.commands.specs.Valid.{valid}
 use Rattle.board.specs.ModelOf.{model-of, instance-of}
 use Rattle.board.specs.declared.Board.{Board}
-use Rattle.states.specs.Table.{state-by}
+use Rattle.states.specs.Show.{states-by}
 use Rattle.survey.specs.declared.Survey.{Survey}
 use Rattle.survey.specs.Survey.{Surveys}
 use Rattle.planner.specs.declared.View.{View}
@@ -29,7 +26,7 @@ use Rattle.planner.specs.Displaying.{Displays}
 -- THE LOOK SHOWS WHAT WAS FOUND
 pub shows :
     (s : Instance) (r : Survey) (old new : Buffers) → Surveys s r → Displays r (s .weights) (s .n) (s .root) old new →
-    tabulate (s .n * s .n) (λ i. state-by (s .n) (s .root) (r .used) (s .weights) (i / s .n) (i % s .n)) ≡ states s →
+    states-by (s .n) (s .root) (r .used) (s .weights) ≡ states s →
     Shows s (Shown (r .outcome) (r .pairs)) old new
 shows s r old new f d right =
     record {
@@ -39,8 +36,7 @@ shows s r old new f d right =
       tree-shown = f .parents-found;
       cuts-shown = f .cuts-found;
       parents-buffer = d .parents;
-      states-buffer =
-          d .states ∙ ap (λ (l : List ℕ). l ++ drop (s .n * s .n) (old .states)) right ∙ front-is (states s) (old .states) (s .n * s .n) (states-read s .size);
+      states-buffer = d .states ∙ ap (λ (l : List ℕ). in-front l (old .states)) right;
       cuts-buffer = d .cuts ∙ ap (λ (l : List ℕ). in-front l (old .cuts)) (f .words);
     }
 

@@ -3,38 +3,28 @@ use mathlib.Core.Path.{_≡_, refl, sym, ap, _∙_, subst}
 use mathlib.Core.Bool.{Bool, true, false, cond, true≢false}
 use mathlib.Core.Option.{some}
 use mathlib.Core.List.{List, [], _∷_}
-use Prim.Native.Nat.{ℕ, zero, suc, _*_, _-_, _≤_, _<_}
+use Prim.Native.Nat.{ℕ, _*_, _≤_, _<_}
 use native.Mathlib.Omega.{arith}
 use lib.Dec.{leb}
-use lib.ListN.{set, take, drop, replicate}
+use lib.ListN.{set, take, replicate}
 use borrow.Author.Tests.{le-leb, lt-leb, leb-true, leb-false}
-use Rattle.instance.specs.Limits.{no-parent, cells, cut-words}
-use Rattle.instance.specs.Instance.{Instance, instance-with}
+use Rattle.instance.specs.Limits.{max-vertices, no-parent, cells, cut-words}
+use Rattle.instance.specs.Instance.{Instance}
 use Rattle.instance.specs.Arborescence.{is-arborescence, total}
-use Rattle.instance.specs.Cuts.{Cut, cuts-in, pair-words, words-of, Proves}
-use Rattle.instance.specs.Matrix.{matrix, unmarked}
+use Rattle.instance.specs.Cuts.{Cut, cuts-in, pair-words, words-of, values, Proves}
+use Rattle.instance.specs.Matrix.{matrix, matrix-instance, unmarked}
 use Rattle.instance.specs.declared.Outcome.{Outcome}
 use Rattle.instance.specs.declared.Outcome.the-variants.{Plan, Over, NoTree}
 use Rattle.instance.specs.States.{shows-tree, outcome-at, outcome}
+use Rattle.base.proofs.PartLaws.{drop-replicate, take-replicate}
 use Rattle.theory.proofs.Restriction.{matrix-arborescence, matrix-total, matrix-proves, matrix-no-entry}
 use Rattle.theory.proofs.Optimality.{proved-plan, proved-over, shut-outcome}
+use Rattle.edmonds.specs.declared.Planned.{Planned}
 use Rattle.edmonds.specs.Planned.{Planned-matrix}
-use Rattle.states.specs.Tree.{Matrix-ok, Matrix-tree}
-use Rattle.states.specs.Table.{Usable-table}
-use Rattle.states.proofs.ShowLaws.{over-table, shut-table}
+use Rattle.usable.specs.Table.{Usable-table}
+use Rattle.usable.proofs.TableLaws.{over-table, shut-table}
 use Rattle.survey.specs.Survey.{Parents-by, Cuts-shown, Surveys}
 use Rattle.survey.proofs.WordLaws.{length-cuts-in, words-again}
-
--- LISTS OF ONE NUMBER
-drop-replicate : (k m x : ℕ) → drop k (replicate m x) ≡ replicate (m - k) x
-drop-replicate zero m x = let e : m ≡ m - 0 = omega arith in ap (λ (j : ℕ). replicate j x) e
-drop-replicate (suc k) zero x = let e : 0 ≡ 0 - suc k = omega arith in ap (λ (j : ℕ). replicate j x) e
-drop-replicate (suc k) (suc m) x = let e : m - k ≡ suc m - suc k = omega arith in drop-replicate k m x ∙ ap (λ (j : ℕ). replicate j x) e
-
-take-replicate : (k m x : ℕ) → k ≤ m → take k (replicate m x) ≡ replicate k x
-take-replicate zero m x h = refl
-take-replicate (suc k) zero x h = absurd (omega arith)
-take-replicate (suc k) (suc m) x h = ap (λ (l : List ℕ). x ∷ l) (take-replicate k m x (omega arith))
 
 -- WHAT THE TEST OF THE TOTAL TELLS
 module _ (v b : ℕ) where
@@ -63,93 +53,86 @@ module _ (v b : ℕ) where
       go false e h = leb-false v b e
 
 -- WHAT PLANNING THE MATRIX OF AN INSTANCE TELLS OF IT
-module _ (s : Instance) (small : s .n ≤ 32) (reduced words ps : List ℕ) (found : Bool) (k c : ℕ)
-    (p : Planned-matrix (s .n) (s .root) (matrix s) reduced (replicate cut-words 0) words found ps k c) where
+module _ (s : Instance) (small : s .n ≤ max-vertices) (reduced words : List ℕ) (r : Planned)
+    (p : Planned-matrix (s .n) (s .root) (matrix s) reduced (replicate cut-words 0) words r) where
   abbrev left : Instance
   left = unmarked (s .n) (s .root) (matrix s)
 
+  abbrev ps : List ℕ
+  ps = take (s .n) (r .parents)
+
   abbrev cs : List Cut
-  cs = cuts-in k words
+  cs = cuts-in (r .count) words
 
-  module _ (f : found ≡ true) where
-    found-left : is-arborescence left (take (s .n) ps) ≡ true
-    found-left = p .minimum f .arborescence
+  module _ (f : r .found ≡ true) where
+    found-tree : is-arborescence s ps ≡ true
+    found-tree = matrix-arborescence s small ps .0 (p .minimum f .arborescence)
 
-    found-tree : is-arborescence s (take (s .n) ps) ≡ true
-    found-tree = matrix-arborescence s small (take (s .n) ps) .0 found-left
+    same : r .total ≡ total s ps
+    same = p .is-total f ∙ matrix-total s small ps found-tree
 
-    same-total : total left (take (s .n) ps) ≡ total s (take (s .n) ps)
-    same-total = matrix-total s small (take (s .n) ps) found-tree
+    proves : Proves s cs (r .total)
+    proves = subst (λ (v : ℕ). Proves s cs v) (sym (p .is-total f)) (matrix-proves s small cs (total left ps) .0 (p .minimum f .proved))
 
-    found-proves : Proves s cs (total s (take (s .n) ps))
-    found-proves = subst (λ (v : ℕ). Proves s cs v) same-total (matrix-proves s small cs (total left (take (s .n) ps)) .0 (p .minimum f .proved))
-
-    found-zeros : drop (2 * k) words ≡ replicate (cut-words - 2 * k) 0
-    found-zeros = p .rest f ∙ drop-replicate (2 * k) cut-words 0
-
-    pub matrix-tree : Matrix-ok (s .n) (s .root) (matrix s) → Matrix-tree (s .n) (s .root) (matrix s) ps
-    matrix-tree ok = record { matrix-ok = ok; places = p .parents-size; found = found-left }
-
-    few : 2 * k ≤ cut-words
-    few = omega (arith, found-proves .few, length-cuts-in k words)
+    adds : values cs ≡ total s ps
+    adds = proves .adds ∙ same
 
     found-words : words ≡ words-of cs
-    found-words = words-again k words (omega (arith, few, p .cuts-size)) found-zeros
+    found-words =
+        words-again (r .count) words (omega (arith, proves .few, length-cuts-in (r .count) words, p .cuts-size))
+        (p .rest f ∙ drop-replicate (2 * r .count) cut-words 0)
 
-    module _ (v : ℕ) (e : v ≡ total left (take (s .n) ps)) (o : Outcome) (q : o ≡ outcome-at (s .budget) (some v)) where
-      same : v ≡ total s (take (s .n) ps)
-      same = e ∙ same-total
-
-      proves : Proves s cs v
-      proves = subst (λ (x : ℕ). Proves s cs x) (sym same) found-proves
-
+    module _ (o : Outcome) (q : o ≡ outcome-at (s .budget) (some (r .total))) where
       -- over the budget: no tree is shown, and no arc is usable
-      pub over-survey : shows-tree o ≡ false → Surveys s (record { outcome = o; parents = replicate 32 no-parent; pairs = k; cuts = words; used = replicate cells 0 })
+      pub over-survey : shows-tree o ≡ false →
+          Surveys s (record { outcome = o; parents = replicate max-vertices no-parent; pairs = r .count; cuts = words; used = replicate cells 0 })
       unfolding Parents-by Cuts-shown
       over-survey h =
-          let past = hidden-past v (s .budget) (subst (λ (x : Outcome). shows-tree x ≡ false) q h) in
-          let is : outcome s ≡ Over v = proved-over s (take (s .n) ps) cs found-tree (found-proves .feasible) (found-proves .adds) (omega (arith, same)) ∙ ap Over (sym same) in
+          let past = hidden-past (r .total) (s .budget) (subst (λ (x : Outcome). shows-tree x ≡ false) q h) in
+          let is : outcome s ≡ Over (r .total) = proved-over s ps cs found-tree (proves .feasible) adds (omega (arith, same)) ∙ ap Over (sym same) in
           record {
-            result = q ∙ over-at v (s .budget) past ∙ sym is;
+            result = q ∙ over-at (r .total) (s .budget) past ∙ sym is;
             places = refl;
-            parents-found = rw is (take-replicate (s .n) 32 no-parent small);
+            parents-found = rw is (take-replicate (s .n) max-vertices no-parent small);
             found = cs;
-            counted = sym (length-cuts-in k words);
+            counted = sym (length-cuts-in (r .count) words);
             cuts-found = rw is proves;
             words = found-words;
-            table = over-table (s .n) (s .root) (s .budget) (matrix s) small cs (p .minimum f .proved .feasible) (omega (arith, p .minimum f .proved .adds));
+            table =
+                over-table (s .n) (s .root) (s .budget) (matrix s) small cs (p .minimum f .proved .feasible)
+                (omega (arith, p .minimum f .proved .adds, p .is-total f));
           }
 
       -- within the budget
-      pub plan-survey : (used : List ℕ) → shows-tree o ≡ true → Usable-table (instance-with (s .n) (s .root) (s .budget) (matrix s) []) used →
-          Surveys s (record { outcome = o; parents = ps; pairs = k; cuts = words; used = used })
+      pub plan-survey : (used : List ℕ) → shows-tree o ≡ true → Usable-table (matrix-instance (s .n) (s .root) (s .budget) (matrix s)) used →
+          Surveys s (record { outcome = o; parents = r .parents; pairs = r .count; cuts = words; used = used })
       unfolding Parents-by Cuts-shown
       plan-survey used h table =
-          let within = shown-within v (s .budget) (subst (λ (x : Outcome). shows-tree x ≡ true) q h) in
-          let is : outcome s ≡ Plan v = proved-plan s (take (s .n) ps) cs found-tree (found-proves .feasible) (found-proves .adds) (omega (arith, same)) ∙ ap Plan (sym same) in
+          let within = shown-within (r .total) (s .budget) (subst (λ (x : Outcome). shows-tree x ≡ true) q h) in
+          let is : outcome s ≡ Plan (r .total) = proved-plan s ps cs found-tree (proves .feasible) adds (omega (arith, same)) ∙ ap Plan (sym same) in
           record {
-            result = q ∙ plan-at v (s .budget) within ∙ sym is;
+            result = q ∙ plan-at (r .total) (s .budget) within ∙ sym is;
             places = p .parents-size;
             parents-found = rw is (found-tree, sym same);
             found = cs;
-            counted = sym (length-cuts-in k words);
+            counted = sym (length-cuts-in (r .count) words);
             cuts-found = rw is proves;
             words = found-words;
             table = table;
           }
 
   -- no arborescence
-  pub none-survey : found ≡ false →
-      Surveys s (record { outcome = NoTree; parents = replicate 32 no-parent; pairs = 1; cuts = set (replicate cut-words 0) 0 c; used = replicate cells 0 })
+  pub none-survey : r .found ≡ false →
+      Surveys s (record { outcome = NoTree; parents = replicate max-vertices no-parent; pairs = 1; cuts = set (replicate cut-words 0) 0 (r .set); used = replicate cells 0 })
   unfolding Parents-by Cuts-shown words-of pair-words
   none-survey f =
-      let x : Cut = record { set = c; value = 0 } in
+      let x : Cut = record { set = r .set; value = 0 } in
       let e = matrix-no-entry s small x .0 (p .no-entry f) in
       let is : outcome s ≡ NoTree = shut-outcome s x e in
       record {
         result = sym is;
         places = refl;
-        parents-found = rw is (take-replicate (s .n) 32 no-parent small);
+        parents-found = rw is (take-replicate (s .n) max-vertices no-parent small);
         found = x ∷ [];
         counted = refl;
         cuts-found = rw is (x, refl, e);

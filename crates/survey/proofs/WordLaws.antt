@@ -8,15 +8,11 @@ use lib.ListN.{length, getD, take, drop, replicate, take-append-drop}
 use lib.Seq.{drop-cons}
 use Rattle.instance.specs.Limits.{cut-words}
 use Rattle.instance.specs.Cuts.{cuts-from, cuts-in, pair-words, words-of}
-
-length-cuts : (k i : ℕ) (ws : List ℕ) → length (cuts-from k i ws) ≡ k
-unfolding cuts-from
-length-cuts zero i ws = refl
-length-cuts (suc k) i ws = ap suc (length-cuts k (suc i) ws)
+use Rattle.instance.proofs.CutLaws.{cuts-length}
 
 pub length-cuts-in : (k : ℕ) (ws : List ℕ) → length (cuts-in k ws) ≡ k
 unfolding cuts-in
-length-cuts-in k ws = length-cuts k 0 ws
+length-cuts-in k ws = cuts-length k 0 ws
 
 -- the pairs from place i on are the words from 2 i on
 pairs-at : (k i : ℕ) (ws : List ℕ) → 2 * (i + k) ≤ length ws → pair-words (cuts-from k i ws) ≡ take (2 * k) (drop (2 * i) ws)
@@ -39,4 +35,4 @@ words-again k ws h z =
     sym (take-append-drop (2 * k) ws)
     ∙ ap (λ (l : List ℕ). l ++ drop (2 * k) ws) (sym (pairs-at k 0 ws (omega arith)))
     ∙ ap (λ (l : List ℕ). pair-words (cuts-from k 0 ws) ++ l) z
-    ∙ ap (λ (j : ℕ). pair-words (cuts-from k 0 ws) ++ replicate (cut-words - 2 * j) 0) (sym (length-cuts k 0 ws))
+    ∙ ap (λ (j : ℕ). pair-words (cuts-from k 0 ws) ++ replicate (cut-words - 2 * j) 0) (sym (cuts-length k 0 ws))

@@ -6,14 +6,14 @@ use mathlib.Core.List.{List, [], _∷_}
 use Prim.Native.Nat.{ℕ}
 use lib.ListN.{length, take, replicate}
 use Rattle.instance.specs.Limits.{max-vertices, no-parent}
-use Rattle.instance.specs.Instance.{Instance, instance-with}
+use Rattle.instance.specs.Instance.{Instance}
 use Rattle.instance.specs.Arborescence.{is-arborescence, total}
 use Rattle.instance.specs.Cuts.{Cut, words-of, Proves, No-entry}
 use Rattle.instance.specs.declared.Outcome.{Outcome}
 use Rattle.instance.specs.declared.Outcome.the-variants.{Plan, Over, NoTree}
 use Rattle.instance.specs.States.{shows-tree, total-in, outcome}
-use Rattle.instance.specs.Matrix.{matrix}
-use Rattle.states.specs.Table.{Usable-table}
+use Rattle.instance.specs.Matrix.{matrix, matrix-instance}
+use Rattle.usable.specs.Table.{Usable-table}
 use Rattle.survey.specs.declared.Survey.{Survey}
 
 -- the parents of an arborescence with the total v; or "255 .. everywhere"
@@ -39,4 +39,4 @@ pub record Surveys (s : Instance) (r : Survey) : Type 0 where
   pub counted : r .pairs ≡ length found
   pub cuts-found : Cuts-shown (outcome s) s found
   pub words : r .cuts ≡ words-of found
-  pub table : Usable-table (instance-with (s .n) (s .root) (s .budget) (matrix s) []) (r .used)
+  pub table : Usable-table (matrix-instance (s .n) (s .root) (s .budget) (matrix s)) (r .used)

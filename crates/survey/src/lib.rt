@@ -16,6 +16,8 @@ use instance::limits::CELLS;
 use instance::limits::CUT_WORDS;
 use instance::limits::NO_PARENT;
 use instance::shows_tree;
+use remaining::remaining_matrix;
+use usable::usable_arcs;
 
 // What planning found: the outcome, the parents of the tree that is shown, the number of cuts, the cuts as pairs of words, and 1 at each arc
 // that some arborescence within budget uses.
@@ -68,7 +70,7 @@ pub fn plan_instance<'a>(
     requires { ⌜ (valid-instance (instance-with n root budget (now weights) (now marks)) ≡ true) × (length (now weights) ≡ cells) × (length (now marks) ≡ cells) ⌝ }
     ensures { λ r. ⌜ Surveys (instance-with n root budget (now (weights .entry)) (now (marks .entry))) r ⌝ }
 {
-    let m = states::matrix::remaining_matrix(weights, marks, n, root);
+    let m = remaining_matrix(weights, marks, n, root);
     let mut reduced = m;
     let mut cuts = [0u32; CUT_WORDS];
     let p = edmonds::plan_matrix(&mut reduced, n as usize, Vertex(root), &mut cuts);
@@ -76,13 +78,13 @@ pub fn plan_instance<'a>(
         return no_tree(p.set);
     }
     let parents = p.parents;
+    let total = p.total;
     let pairs = p.count;
-    let total = states::tree::tree_total(&m, &parents, n, root);
     let outcome = outcome_at(budget, total);
     if !shows_tree(outcome) {
         return blank(outcome, pairs, cuts);
     }
-    let used = states::usable::usable_arcs(&m, &reduced, &parents, n, root, total, budget);
+    let used = usable_arcs(&m, &reduced, &parents, n, root, total, budget);
     Survey {
         outcome,
         parents,

@@ -1,24 +1,24 @@
 -- The matrix of what remains is planned; each outcome is told of the instance by its law. Assumes nothing.
-use mathlib.Core.Path.{_≡_, refl, sym, ap, _∙_, subst}
+use mathlib.Core.Path.{_≡_, refl, sym, _∙_, subst}
 use mathlib.Core.Bool.{true}
-use mathlib.Core.List.{List, []}
+use mathlib.Core.List.{List}
 use Prim.Native.Nat.{ℕ}
-use lib.ListN.{length, take, replicate}
+use lib.ListN.{replicate}
 use borrow.Author.Needs.{needs}
 use borrow.Author.Tests.{not-true, not-false}
+use Rattle.instance.specs.Limits.{cut-words}
 use Rattle.instance.specs.Instance.{Instance, instance-with}
-use Rattle.instance.specs.Arborescence.{total}
-use Rattle.instance.specs.Matrix.{matrix, unmarked}
+use Rattle.instance.specs.Matrix.{matrix, matrix-instance, Matrix-ok}
 use Rattle.instance.specs.declared.Outcome.{Outcome}
 use Rattle.instance.specs.States.{shows-tree}
-use Rattle.edmonds.specs.Planned.{Weights, Planned-matrix}
 use Rattle.instance.proofs.ValidLaws.{valid-budget}
-use Rattle.states.specs.Judge.{Fitting-plan}
-use Rattle.states.specs.Table.{Usable-table}
-use Rattle.states.specs.Tree.{Matrix-ok, Matrix-tree}
-use Rattle.states.proofs.PlanLaws.{matrix-budget, valid-matrix, planned-fitting}
+use Rattle.instance.proofs.MatrixLaws.{matrix-budget, valid-matrix}
+use Rattle.edmonds.specs.Planned.{Planned-matrix}
+use Rattle.usable.specs.Fitting.{Fitting-plan}
+use Rattle.usable.specs.Table.{Usable-table}
+use Rattle.usable.proofs.FittingLaws.{planned-fitting}
 use Rattle.survey.specs.Survey.{Surveys}
-use Rattle.survey.proofs.SurveyLaws.{shown-within, none-survey, matrix-tree, over-survey, plan-survey}
+use Rattle.survey.proofs.SurveyLaws.{shown-within, none-survey, over-survey, plan-survey}
 use Rattle.survey.proofs.plan_instance.Statement.{statement}
 use Rattle.survey.proofs.plan_instance.Tie as tie
 
@@ -30,10 +30,7 @@ ok : (c : tie.Start) → Matrix-ok (inst c .n) (inst c .root) (matrix (inst c))
 ok c = valid-matrix (inst c) (c .pre .0)
 
 -- AFTER THE MATRIX IS MADE
-abbrev made : (c : tie.After-remaining-matrix) → List ℕ
-made c = c .remaining-matrix .result
-
-made-is : (c : tie.After-remaining-matrix) → made c ≡ matrix (inst (c .before))
+made-is : (c : tie.After-remaining-matrix) → c .remaining-matrix .result ≡ matrix (inst (c .before))
 made-is c =
     let a = c .before .args in
     c .remaining-matrix .ensures ∙ sym (matrix-budget (a .n) (a .root) (a .budget) (a .weights .now) (a .marks .now))
@@ -44,12 +41,12 @@ start-of c = c .before .before .before .before
 
 planned :
     (c : tie.After-plan-matrix) →
-    Planned-matrix (inst (start-of c) .n) (inst (start-of c) .root) (matrix (inst (start-of c))) (c .plan-matrix .last .0) (replicate 122 0) (c .plan-matrix .last .1 .1 .1 .0)
-    (c .plan-matrix .result .found) (c .plan-matrix .result .parents) (c .plan-matrix .result .count) (c .plan-matrix .result .set)
+    Planned-matrix (inst (start-of c) .n) (inst (start-of c) .root) (matrix (inst (start-of c))) (c .plan-matrix .last .0) (replicate cut-words 0)
+    (c .plan-matrix .last .1 .1 .1 .0) (c .plan-matrix .result)
 planned c =
     subst
-    (λ (m : List ℕ). Planned-matrix (inst (start-of c) .n) (inst (start-of c) .root) m (c .plan-matrix .last .0) (replicate 122 0) (c .plan-matrix .last .1 .1 .1 .0)
-    (c .plan-matrix .result .found) (c .plan-matrix .result .parents) (c .plan-matrix .result .count) (c .plan-matrix .result .set))
+    (λ (m : List ℕ). Planned-matrix (inst (start-of c) .n) (inst (start-of c) .root) m (c .plan-matrix .last .0) (replicate cut-words 0)
+    (c .plan-matrix .last .1 .1 .1 .0) (c .plan-matrix .result))
     (made-is (c .before .before .before)) (c .plan-matrix .ensures)
 
 remaining-matrix-requires : tie.Need-remaining-matrix-requires
@@ -57,9 +54,8 @@ remaining-matrix-requires c κs = (ok c .small, c .pre .1, c .pre .2)
 
 plan-matrix-requires : tie.Need-plan-matrix-requires
 plan-matrix-requires c κs =
-    let o = ok (c .before .before .before) in
-    let e = made-is (c .before .before) in
-    (ap length e ∙ o .size, refl, o .small, o .root-below, subst Weights (sym e) (o .bounded))
+    let s = inst (c .before .before .before) in
+    (subst (Matrix-ok (s .n) (s .root)) (sym (made-is (c .before .before))) (ok (c .before .before .before)), refl)
 
 no-tree-requires : tie.Need-no-tree-requires
 no-tree-requires c κs = search needs
@@ -69,49 +65,15 @@ returns c =
     let p = c .before .before .before in
     let s = inst (start-of p) in
     subst (Surveys s) (sym (c .no-tree .ensures))
-    (none-survey s (ok (start-of p) .small) _ _ _ _ _ _ (planned p) (not-true (p .plan-matrix .result .found) (c .before .if1 .taken)))
+    (none-survey s (ok (start-of p) .small) _ _ (p .plan-matrix .result) (planned p) (not-true (p .plan-matrix .result .found) (c .before .if1 .taken)))
 
--- AN ARBORESCENCE IS FOUND
-abbrev after : tie.Else1 → tie.After-plan-matrix
-after c = c .before .before
+-- AN ARBORESCENCE IS FOUND, and its outcome
+abbrev plan-of : tie.After-outcome-at → tie.After-plan-matrix
+plan-of c = c .before .before .before .before
 
-abbrev inst-of : tie.Else1 → Instance
-inst-of c = inst (start-of (after c))
+found : (c : tie.After-outcome-at) → plan-of c .plan-matrix .result .found ≡ true
+found c = not-false (plan-of c .plan-matrix .result .found) (c .before .before .if1 .left)
 
-found : (c : tie.Else1) → after c .plan-matrix .result .found ≡ true
-found c = not-false (after c .plan-matrix .result .found) (c .if1 .left)
-
-abbrev made-of : tie.Else1 → List ℕ
-made-of c = made (after c .before .before .before)
-
-same-matrix : (c : tie.Else1) → matrix (inst-of c) ≡ made-of c
-same-matrix c = sym (made-is (after c .before .before .before))
-
-ok-of : (c : tie.Else1) → Matrix-ok (inst-of c .n) (inst-of c .root) (matrix (inst-of c))
-ok-of c = ok (start-of (after c))
-
-tree-total-requires : tie.Need-tree-total-requires
-tree-total-requires c κs =
-    let e = c .before .before .before in
-    let s = inst-of e in
-    let o = ok-of e in
-    subst (λ (m : List ℕ). Matrix-tree (s .n) (s .root) m (after e .plan-matrix .result .parents)) (same-matrix e)
-    (matrix-tree s (o .small) _ _ _ _ _ _ (planned (after e)) (found e) o)
-
--- AFTER ITS TOTAL
-abbrev found-at : tie.After-tree-total → tie.Else1
-found-at c = c .before .before .before .before
-
-total-is :
-    (c : tie.After-tree-total) →
-    c .tree-total .result
-    ≡ total (unmarked (inst-of (found-at c) .n) (inst-of (found-at c) .root) (matrix (inst-of (found-at c)))) (take (inst-of (found-at c) .n) (after (found-at c) .plan-matrix .result .parents))
-total-is c =
-    let s = inst-of (found-at c) in
-    c .tree-total .ensures
-    ∙ ap (λ (m : List ℕ). total (unmarked (s .n) (s .root) m) (take (s .n) (after (found-at c) .plan-matrix .result .parents))) (sym (same-matrix (found-at c)))
-
--- AFTER ITS OUTCOME
 outcome-at-requires : tie.Need-outcome-at-requires
 outcome-at-requires c κs = search needs
 
@@ -124,36 +86,39 @@ blank-requires c κs = search needs
 returns-2 : tie.Need-returns-2
 returns-2 c =
     let a = c .before .before in
-    let k = a .before .before in
-    let e = found-at k in
+    let o = a .before in
+    let p = plan-of o in
+    let s = inst (start-of p) in
     let hidden = sym (a .shows-tree .ensures) ∙ not-true (a .shows-tree .result) (c .before .if2 .taken) in
-    subst (Surveys (inst-of e)) (sym (c .blank .ensures))
-    (over-survey (inst-of e) (ok-of e .small) _ _ _ _ _ _ (planned (after e)) (found e) _ (total-is k) _ (a .before .outcome-at .ensures) hidden)
+    subst (Surveys s) (sym (c .blank .ensures))
+    (over-survey s (ok (start-of p) .small) _ _ (p .plan-matrix .result) (planned p) (found o) (o .outcome-at .result) (o .outcome-at .ensures) hidden)
 
 -- WITHIN BUDGET
 shown : (c : tie.Else2) → shows-tree (c .before .before .outcome-at .result) ≡ true
 shown c = sym (c .before .shows-tree .ensures) ∙ not-false (c .before .shows-tree .result) (c .if2 .left)
 
+same-matrix : (c : tie.After-outcome-at) → matrix (inst (start-of (plan-of c))) ≡ plan-of c .before .before .before .remaining-matrix .result
+same-matrix c = sym (made-is (plan-of c .before .before .before))
+
 usable-arcs-requires : tie.Need-usable-arcs-requires
 usable-arcs-requires c κs =
     let x = c .before .before .before in
     let o = x .before .before in
-    let k = o .before in
-    let e = found-at k in
-    let s = inst-of e in
-    let most = valid-budget s (start-of (after e) .pre .0) in
-    let within = shown-within (k .tree-total .result) (s .budget) (subst (λ (y : Outcome). shows-tree y ≡ true) (o .outcome-at .ensures) (shown x)) in
-    subst (λ (m : List ℕ). Fitting-plan (s .n) (s .root) m (after e .plan-matrix .last .0) (after e .plan-matrix .result .parents) (k .tree-total .result) (s .budget)) (same-matrix e)
-    (planned-fitting (s .n) (s .root) _ _ _ _ _ _ _ _ _ _ (ok-of e) (planned (after e)) (found e) (total-is k) within most)
+    let p = plan-of o in
+    let s = inst (start-of p) in
+    let r = p .plan-matrix .result in
+    let within = shown-within (r .total) (s .budget) (subst (λ (y : Outcome). shows-tree y ≡ true) (o .outcome-at .ensures) (shown x)) in
+    subst (λ (m : List ℕ). Fitting-plan (s .n) (s .root) m (p .plan-matrix .last .0) (r .parents) (r .total) (s .budget)) (same-matrix o)
+    (planned-fitting (s .n) (s .root) _ _ _ _ r (s .budget) (ok (start-of p)) (planned p) (found o) within (valid-budget s (start-of p .pre .0)))
 
 returns-3 : tie.Need-returns-3
 returns-3 c =
     let x = c .before .before .before .before in
-    let k = x .before .before .before in
-    let e = found-at k in
-    let s = inst-of e in
-    plan-survey s (ok-of e .small) _ _ _ _ _ _ (planned (after e)) (found e) _ (total-is k) _ (x .before .before .outcome-at .ensures) _ (shown x)
-    (subst (λ (m : List ℕ). Usable-table (instance-with (s .n) (s .root) (s .budget) m []) (c .usable-arcs .result)) (sym (same-matrix e)) (c .usable-arcs .ensures))
+    let o = x .before .before in
+    let p = plan-of o in
+    let s = inst (start-of p) in
+    plan-survey s (ok (start-of p) .small) _ _ (p .plan-matrix .result) (planned p) (found o) (o .outcome-at .result) (o .outcome-at .ensures) _ (shown x)
+    (subst (λ (m : List ℕ). Usable-table (matrix-instance (s .n) (s .root) (s .budget) m) (c .usable-arcs .result)) (sym (same-matrix o)) (c .usable-arcs .ensures))
 
 pub plan-instance-spec : {M : Type 1} → statement M
 plan-instance-spec =
@@ -163,7 +128,6 @@ plan-instance-spec =
     plan-matrix-requires
     no-tree-requires
     returns
-    tree-total-requires
     outcome-at-requires
     shows-tree-requires
     blank-requires

@@ -1,7 +1,7 @@
 -- Each way out answers with the tests that led there; n times n is at most 1,024. Assumes nothing.
 use native.Mathlib.Omega.{arith}
 use borrow.Author.Tests.{lt-ltb, le-ltb}
-use Rattle.states.proofs.CellLaws.{square}
+use Rattle.base.proofs.GridLaws.{square-most}
 use Rattle.planner.specs.Looking.{too-short}
 use Rattle.planner.proofs.looking.is_too_short.Statement.{statement}
 use Rattle.planner.proofs.looking.is_too_short.Tie as tie
@@ -11,10 +11,10 @@ unfolding too-short
 returns c = simp (lt-ltb _ _ (c .if1 .taken))
 
 mul-if2 : tie.Need-mul-if2
-mul-if2 c = omega (arith, square (c .before .args .n) (omega arith))
+mul-if2 c = omega (arith, square-most (c .before .args .n) 32 (omega arith))
 
 cast-if2 : tie.Need-cast-if2
-cast-if2 c = omega (arith, square (c .before .args .n) (omega arith))
+cast-if2 c = omega (arith, square-most (c .before .args .n) 32 (omega arith))
 
 returns-2 : tie.Need-returns-2
 unfolding too-short
