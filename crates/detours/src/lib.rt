@@ -19,14 +19,7 @@ use instance::limits::CELLS;
 use instance::limits::NO_ARC;
 
 // The least increase on the path from the tail up to the head.
-fn path_least(
-    parents: &[u8; 32],
-    table: &[u32; 32],
-    n: u32,
-    root: u32,
-    head: u32,
-    tail: u32,
-) -> u32
+fn path_least(parents: &[u8; 32], table: &[u32; 32], n: u32, root: u32, head: u32, tail: u32) -> u32
     requires { ⌜ (n ≤ max-vertices) × (length (now parents) ≡ max-vertices) × Rooted n root (take n (now parents)) × (head < n) × (head ≢ root) × (tail < n) × Descends (take n (now parents)) head tail ⌝ }
     ensures { λ r. ⌜ Path-least (take n (now (parents .entry))) (now (table .entry)) head tail r ⌝ }
 {
@@ -43,13 +36,7 @@ fn path_least(
 }
 
 // What the arc from each tail to the head adds besides its own weight, when it replaces the arc into the head.
-pub fn detour_costs(
-    m: &[u32; CELLS],
-    parents: &[u8; 32],
-    n: u32,
-    root: u32,
-    head: u32,
-) -> [u32; 32]
+pub fn detour_costs(m: &[u32; CELLS], parents: &[u8; 32], n: u32, root: u32, head: u32) -> [u32; 32]
     requires { ⌜ Matrix-tree n root (now m) (now parents) × (head < n) × (head ≢ root) ⌝ }
     ensures { λ r. ⌜ Detours (unmarked n root (now (m .entry))) (take n (now (parents .entry))) head n r ⌝ }
 {

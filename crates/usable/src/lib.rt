@@ -13,13 +13,13 @@ use table::add_tree;
 
 // 1 at the cell of each usable arc.
 pub fn usable_arcs(
-    m: &[u32; CELLS],       // the weights of the remaining arcs
+    m: &[u32; CELLS], // the weights of the remaining arcs
     reduced: &[u32; CELLS], // their reduced costs, which planning leaves
-    parents: &[u8; 32],     // a cheapest arborescence
-    n: u32,                 // the number of vertices
-    root: u32,              // one of them
-    total: u32,             // the cheapest total
-    limit: u32,             // what a total may be at most: no less than the cheapest
+    parents: &[u8; 32], // a cheapest arborescence
+    n: u32, // the number of vertices
+    root: u32, // one of them
+    total: u32, // the cheapest total
+    limit: u32, // what a total may be at most: no less than the cheapest
 ) -> [u8; CELLS]
     requires { ⌜ Fitting-plan n root (now m) (now reduced) (now parents) total limit ⌝ }
     ensures { λ r. ⌜ Usable-table (matrix-instance n root limit (now (m .entry))) r ⌝ }
