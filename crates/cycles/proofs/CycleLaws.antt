@@ -1,5 +1,5 @@
--- The search for a cycle as two loops: what holds between walks, and on one. A walk ends since each of its steps stamps a place that had
--- no stamp. Assumes nothing.
+-- The search for a cycle as two loops: what holds between walks, and on one. A walk ends since each of its steps stamps
+-- a place that had no stamp. Assumes nothing.
 use mathlib.Core.Path.{_≡_, refl, sym, subst, _∙_}
 use mathlib.Core.Bool.{true, false, cond}
 use mathlib.Core.List.{List, [], _∷_}

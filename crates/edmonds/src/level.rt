@@ -1,4 +1,5 @@
-// One level of contraction: "a closed ring of positions is drawn together and the smaller sheet is planned". Each call has fewer groups.
+// One level of contraction: "a closed ring of positions is drawn together and the smaller sheet is planned". Each call
+// has fewer groups.
 
 ghost use mathlib.Core.Path.{_≡_};
 ghost use mathlib.Core.Bool.{true, false};
@@ -17,7 +18,8 @@ use instance::limits::CELLS;
 use instance::limits::CUT_WORDS;
 use instance::limits::NO_PARENT;
 
-// A tree of the groups by its parents, with the place of the next cut; or, where there is none, a set that no arc enters.
+// A tree of the groups by its parents, with the place of the next cut; or, where there is none, a set that no arc
+// enters.
 pub struct GroupTree {
     pub found: bool,
     pub parents: [u8; 32],

@@ -97,7 +97,8 @@ fn take_arcs(
     }
 }
 
-// Expands the cycle at v: only the arc that the one chosen outside replaces is dropped. The parameters are those of take_arcs.
+// Expands the cycle at v: only the arc that the one chosen outside replaces is dropped. The parameters are those of
+// take_arcs.
 pub fn expand_cycle(
     label: &[u8; 32],
     stamp: &[u8; 32],

@@ -1,5 +1,5 @@
--- The matrix with one arc forced has the arborescences that use the arc, at the same totals; so planning on it finds the least total
--- with the arc. Assumes nothing.
+-- The matrix with one arc forced has the arborescences that use the arc, at the same totals; so planning on it finds
+-- the least total with the arc. Assumes nothing.
 use mathlib.Core.Path.{_≡_, refl, sym, ap, _∙_}
 use mathlib.Core.Bool.{Bool, true, false, _&&_, _||_, not, cond, and-true}
 use mathlib.Core.List.{List}

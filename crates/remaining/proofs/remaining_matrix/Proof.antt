@@ -1,4 +1,5 @@
--- `remaining::remaining_matrix` meets its contract: the cells that were passed are those of the matrix. Assumes nothing.
+-- `remaining::remaining_matrix` meets its contract: the cells that were passed are those of the matrix. Assumes
+-- nothing.
 use mathlib.Core.Path.{refl, sym, _∙_}
 use mathlib.Core.Logic.{⊎-elim}
 use Prim.Native.Nat.{ℕ, _%_, _-_, _≤_}

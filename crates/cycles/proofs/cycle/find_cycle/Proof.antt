@@ -1,4 +1,5 @@
--- `cycles::cycle::find_cycle` meets its contract. The inner loop's measure is the number of places with no stamp. Assumes nothing.
+-- `cycles::cycle::find_cycle` meets its contract. The inner loop's measure is the number of places with no stamp.
+-- Assumes nothing.
 use mathlib.Core.Logic.{inl, inr, ⊎-elim}
 use Prim.Native.Nat.{_-_, _≤_}
 use native.Mathlib.Omega.{arith}
