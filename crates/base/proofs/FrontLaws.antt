@@ -1,4 +1,5 @@
--- The front of a list replaced and the rest kept: lengths and parts, and the loop that fills a caller's buffer from the front. Assumes nothing.
+-- The front of a list replaced and the rest kept: lengths and parts, and the loop that fills a caller's buffer from the
+-- front. Assumes nothing.
 use mathlib.Core.Path.{_≡_, refl, sym, ap, _∙_}
 use mathlib.Core.List.{List, [], _∷_, _++_, append-assoc}
 use Prim.Native.Nat.{ℕ, suc, _+_, _≤_, _<_}

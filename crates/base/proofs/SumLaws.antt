@@ -1,5 +1,5 @@
--- Sums, counts and tests over every number below a bound: one number more, the first split off, one place that differs, a bound on each
--- place, and the count of all but one. Assumes nothing.
+-- Sums, counts and tests over every number below a bound: one number more, the first split off, one place that differs,
+-- a bound on each place, and the count of all but one. Assumes nothing.
 use mathlib.Core.Path.{_≡_, refl, sym, ap, _∙_}
 use mathlib.Core.Bool.{Bool, true, false, _&&_, not, cond}
 use mathlib.Core.Logic.{⊎-elim, _≢_}

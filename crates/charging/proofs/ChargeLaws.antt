@@ -1,4 +1,5 @@
--- A charged group, in the three ways that charging ends: a value charged, nothing to charge, no arc at all. Assumes nothing.
+-- A charged group, in the three ways that charging ends: a value charged, nothing to charge, no arc at all. Assumes
+-- nothing.
 use mathlib.Core.Path.{_≡_, refl, _∙_}
 use mathlib.Core.Bool.{true, false}
 use mathlib.Core.List.{List, [], _∷_}

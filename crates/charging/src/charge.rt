@@ -1,5 +1,5 @@
-// Charging a group: its cheapest entering arc is found, every arc that enters it is lowered by that weight, and the group is written
-// down as a cut of that value. A weight of 0 gives no cut.
+// Charging a group: its cheapest entering arc is found, every arc that enters it is lowered by that weight, and the
+// group is written down as a cut of that value. A weight of 0 gives no cut.
 
 ghost use mathlib.Core.Path.{_≡_};
 ghost use mathlib.Core.Bool.{true, false};

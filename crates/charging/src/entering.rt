@@ -1,4 +1,5 @@
-// The cheapest arc that enters a group. Only the columns of the group's own vertices are read: a group of one vertex costs n steps.
+// The cheapest arc that enters a group. Only the columns of the group's own vertices are read: a group of one vertex
+// costs n steps.
 
 ghost use mathlib.Core.Path.{_≡_};
 ghost use Prim.Native.Nat.{_+_, _≤_, _<_};

@@ -1,5 +1,5 @@
--- The weights that the algorithm starts from are those of the remaining arcs. In a weight matrix every arc is free, so all arcs remain.
--- Assumes nothing.
+-- The weights that the algorithm starts from are those of the remaining arcs. In a weight matrix every arc is free, so
+-- all arcs remain. Assumes nothing.
 use mathlib.Core.Path.{_≡_, sym, _∙_}
 use mathlib.Core.Bool.{true}
 use mathlib.Core.List.{List}

@@ -1,5 +1,6 @@
--- Charging a group: its vertices become a cut, whose value is taken off the arcs that enter it. A tree for the lowered weights is then
--- one with the new cut in front, since exactly one arc of any tree of groups enters a group. Assumes nothing.
+-- Charging a group: its vertices become a cut, whose value is taken off the arcs that enter it. A tree for the lowered
+-- weights is then one with the new cut in front, since exactly one arc of any tree of groups enters a group. Assumes
+-- nothing.
 use mathlib.Core.Path.{_≡_, refl, sym, _∙_}
 use mathlib.Core.Bool.{true, false, not}
 use mathlib.Core.List.{List, [], _∷_}

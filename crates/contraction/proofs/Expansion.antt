@@ -1,7 +1,7 @@
--- Expanding a cycle: a tree of the contracted groups becomes one of the finer groups. The arc into the contracted group enters it at
--- one vertex, tj; every group of the cycle but tj's takes its own arc again, so that exactly one arc of the cycle is dropped. Going round
--- the cycle from tj's group reaches each of its groups. The cycle's arcs enter no cut, since every cut is a union of contracted groups.
--- Assumes nothing.
+-- Expanding a cycle: a tree of the contracted groups becomes one of the finer groups. The arc into the contracted group
+-- enters it at one vertex, tj; every group of the cycle but tj's takes its own arc again, so that exactly one arc of
+-- the cycle is dropped. Going round the cycle from tj's group reaches each of its groups. The cycle's arcs enter no
+-- cut, since every cut is a union of contracted groups. Assumes nothing.
 use mathlib.Core.Path.{_≡_, refl, sym, ap, _∙_, subst}
 use mathlib.Core.Bool.{Bool, true, false, _&&_, not}
 use mathlib.Core.List.{List}

@@ -1,9 +1,10 @@
--- From a tree at single vertices to an arborescence of the instance, and cuts that prove its total: each arc's weight is what the cuts
--- charge it, and each cut is entered once, so that weights and values add up to the same. Assumes nothing.
+-- From a tree at single vertices to an arborescence of the instance, and cuts that prove its total: each arc's weight
+-- is what the cuts charge it, and each cut is entered once, so that weights and values add up to the same. Assumes
+-- nothing.
 use mathlib.Core.Path.{_≡_, refl, sym, _∙_}
 use mathlib.Core.Bool.{Bool, true, false, _&&_, not, cond}
 use mathlib.Core.List.{List, [], _∷_}
-use mathlib.Core.Logic.{inr, ⊎-elim, _≢_}
+use mathlib.Core.Logic.{inr, ⊎-elim}
 use Prim.Native.Nat.{ℕ, suc, _+_, _^_, _≤_, _<_}
 use native.Mathlib.Omega.{arith}
 use lib.Dec.{ltb, leb, eqb}

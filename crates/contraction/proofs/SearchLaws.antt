@@ -1,5 +1,5 @@
--- The search by stamps: a walk that comes to a stamp of its own has closed a cycle; one that comes to the root's group, or to an older
--- stamp, has none behind it; and how a walk goes on. Assumes nothing.
+-- The search by stamps: a walk that comes to a stamp of its own has closed a cycle; one that comes to the root's group,
+-- or to an older stamp, has none behind it; and how a walk goes on. Assumes nothing.
 use mathlib.Core.Path.{_≡_, refl, sym, _∙_, subst}
 use mathlib.Core.Bool.{Bool, true, false}
 use mathlib.Core.Logic.{_⊎_, inl, inr, ⊎-elim, _≢_}

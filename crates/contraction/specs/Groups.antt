@@ -1,5 +1,5 @@
--- Groups of vertices. Contraction keeps the vertices' numbers: each vertex has a label, the number of one vertex of its group, and
--- a contraction gives all vertices of a cycle of groups one label. Assumes nothing: these are definitions.
+-- Groups of vertices. Contraction keeps the vertices' numbers: each vertex has a label, the number of one vertex of its
+-- group, and a contraction gives all vertices of a cycle of groups one label. Assumes nothing: these are definitions.
 use mathlib.Core.Path.{_≡_}
 use mathlib.Core.Bool.{Bool, true, false, _&&_, not, cond}
 use mathlib.Core.List.{List}
@@ -53,8 +53,8 @@ pub record Cycle (n root : ℕ) (w : ℕ → ℕ → ℕ) (label tail head : ℕ
 abbrev pub contracted : (label : ℕ → ℕ) (on : ℕ → Bool) (c : ℕ) → ℕ → ℕ
 contracted label on c v = cond (on (label v)) c (label v)
 
--- EXPANSION: each group of the cycle takes its own arc again, all but the group gj, which the arc chosen outside enters: exactly one
--- arc of the cycle is dropped
+-- EXPANSION: each group of the cycle takes its own arc again, all but the group gj, which the arc chosen outside
+-- enters: exactly one arc of the cycle is dropped
 abbrev pub expanded : (label tail head : ℕ → ℕ) (on : ℕ → Bool) (gj : ℕ) (parent : ℕ → ℕ) → ℕ → ℕ
 expanded label tail head on gj parent v =
     cond (on (label v) && (not (eqb (label v) gj) && eqb (head (label v)) v)) (tail (label v)) (parent v)

@@ -1,6 +1,6 @@
--- The search for a cycle by stamps. A walk follows the chosen arcs backwards and stamps the groups that it comes by with 1, 2, 3, and
--- so on; 0 is no stamp. Stamps grow, so a walk that comes to a stamp of its own has closed a cycle: the groups stamped no earlier.
--- Assumes nothing: these are definitions.
+-- The search for a cycle by stamps. A walk follows the chosen arcs backwards and stamps the groups that it comes by
+-- with 1, 2, 3, and so on; 0 is no stamp. Stamps grow, so a walk that comes to a stamp of its own has closed a cycle:
+-- the groups stamped no earlier. Assumes nothing: these are definitions.
 use mathlib.Core.Path.{_≡_}
 use mathlib.Core.Bool.{Bool}
 use mathlib.Core.Logic.{_⊎_}

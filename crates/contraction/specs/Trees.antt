@@ -1,5 +1,6 @@
--- Arborescences of groups, with the cuts that prove them by complementary slackness: every chosen arc has reduced cost 0, and exactly
--- one chosen arc enters each cut. There is no sum here: the totals are added up once, at the end. Assumes nothing: these are definitions.
+-- Arborescences of groups, with the cuts that prove them by complementary slackness: every chosen arc has reduced cost
+-- 0, and exactly one chosen arc enters each cut. There is no sum here: the totals are added up once, at the end.
+-- Assumes nothing: these are definitions.
 use mathlib.Core.Path.{_≡_}
 use mathlib.Core.Bool.{true, false}
 use mathlib.Core.List.{List, [], _∷_}

@@ -1,5 +1,5 @@
--- The search for a cycle as two loops: what holds between walks, and on one. A walk ends since each of its steps stamps a place that had
--- no stamp. Assumes nothing.
+-- The search for a cycle as two loops: what holds between walks, and on one. A walk ends since each of its steps stamps
+-- a place that had no stamp. Assumes nothing.
 use mathlib.Core.Path.{_≡_, refl, sym, subst, _∙_}
 use mathlib.Core.Bool.{true, false, cond}
 use mathlib.Core.List.{List, [], _∷_}
@@ -12,6 +12,7 @@ use lib.ListN.{length, set, length-set, replicate}
 use lib.Seq.{getD-set-same, getD-set-other}
 use borrow.Author.Tests.{eqb-true, eqb-false, eq-eqb, ne-eqb}
 use Rattle.base.proofs.Tests.{test}
+use Rattle.instance.specs.Limits.{max-vertices}
 use Rattle.contraction.specs.Groups.{Along, stop}
 use Rattle.contraction.specs.Search.{Walk}
 use Rattle.contraction.proofs.SearchLaws.{ended, onward, restart}
@@ -39,24 +40,24 @@ all-zero (suc k) (suc g) = all-zero k g
 
 -- every group below s has led to the root's
 pub record Between (ls tails : List ℕ) (n root : ℕ) (stamp : List ℕ) (now s : ℕ) : Type 0 where
-  pub size : length stamp ≡ 32
+  pub size : length stamp ≡ max-vertices
   pub walk : Walk n root (at ls) (at tails) (at stamp) now now (at ls root)
   pub passed : (v : ℕ) → v < s → at ls v ≡ v → (v ≡ at ls root) ⊎ (1 ≤ at stamp v)
-  pub room : now + zeros stamp ≡ 33
+  pub room : now + zeros stamp ≡ max-vertices + 1
 
 -- the walk from s has come to v
 pub record Walking (ls tails : List ℕ) (n root : ℕ) (stamp : List ℕ) (first now s v : ℕ) : Type 0 where
-  pub size : length stamp ≡ 32
+  pub size : length stamp ≡ max-vertices
   pub walk : Walk n root (at ls) (at tails) (at stamp) first now v
   pub passed : (u : ℕ) → u < s → at ls u ≡ u → (u ≡ at ls root) ⊎ (1 ≤ at stamp u)
   pub start : (s ≡ v) ⊎ (1 ≤ at stamp s)
-  pub room : now + zeros stamp ≡ 33
+  pub room : now + zeros stamp ≡ max-vertices + 1
 
 module _ (ls tails : List ℕ) (n root : ℕ) (sb : Searchable ls tails n root) where
-  pub none-stamped : Between ls tails n root (replicate 32 0) 1 0
+  pub none-stamped : Between ls tails n root (replicate max-vertices 0) 1 0
   unfolding zeros
   none-stamped =
-      let z : (g : ℕ) → at (replicate 32 0) g ≡ 0 = λ g. all-zero 32 g in
+      let z : (g : ℕ) → at (replicate max-vertices 0) g ≡ 0 = λ g. all-zero max-vertices g in
       record {
         size = refl;
         walk =
@@ -108,8 +109,8 @@ module _ (ls tails : List ℕ) (n root : ℕ) (sb : Searchable ls tails n root) 
     pub met : first ≤ at stamp v → Met ls tails stamp n root v
     met l = record { first = first; last = now; walk = k .walk; met = l }
 
-    pub below-32 : v < 32
-    below-32 = omega (arith, k .walk .v-below, sb .small)
+    pub in-range : v < max-vertices
+    in-range = omega (arith, k .walk .v-below, sb .small)
 
     pub tail-below : v ≢ at ls root → at tails v < n
     tail-below ne = sb .arc v (k .walk .v-below, k .walk .v-label, ne)
@@ -117,7 +118,7 @@ module _ (ls tails : List ℕ) (n root : ℕ) (sb : Searchable ls tails n root) 
     pub onwards : v ≢ at ls root → at stamp v ≡ 0 → Walking ls tails n root (set stamp v now) first (now + 1) s (at ls (at tails v))
     onwards ne z =
         let size = k .size in
-        let inside = below-32 in
+        let inside = in-range in
         let same : at (set stamp v now) v ≡ now = getD-set-same stamp v now 0 (omega arith) in
         let others : (g : ℕ) → g ≢ v → at (set stamp v now) g ≡ at stamp g = λ g off. getD-set-other stamp v g now 0 off in
         let pos : 1 ≤ now = omega (arith, k .walk .first-pos, k .walk .first-now) in
@@ -149,4 +150,4 @@ module _ (ls tails : List ℕ) (n root : ℕ) (sb : Searchable ls tails n root) 
         }
 
     pub falls : at stamp v ≡ 0 → zeros (set stamp v now) < zeros stamp
-    falls z = omega (arith, zeros-set stamp v now (omega (arith, k .size, below-32)) z (omega (arith, k .walk .first-pos, k .walk .first-now)))
+    falls z = omega (arith, zeros-set stamp v now (omega (arith, k .size, in-range)) z (omega (arith, k .walk .first-pos, k .walk .first-now)))

@@ -1,5 +1,5 @@
-// The search for a cycle: "the search stops at the first ring it meets". Walks follow the chosen arcs backwards and stamp the groups
-// that they come by; a walk that comes to a stamp of its own has closed a cycle.
+// The search for a cycle: "the search stops at the first ring it meets". Walks follow the chosen arcs backwards and
+// stamp the groups that they come by; a walk that comes to a stamp of its own has closed a cycle.
 
 ghost use Rattle.cycles.specs.Cycle.{Searchable, Searched};
 use instance::Vertex;

@@ -1,4 +1,5 @@
--- What it costs to make a tree use an arc, by exchanging one or two of its arcs. Assumes nothing: these are definitions.
+-- What it costs to make a tree use an arc, by exchanging one or two of its arcs. Assumes nothing: these are
+-- definitions.
 use mathlib.Core.Path.{_≡_}
 use mathlib.Core.Bool.{true}
 use mathlib.Core.List.{List}

@@ -1,4 +1,5 @@
--- What it costs at least to give a vertex a parent that is not marked in a table. Assumes nothing: these are definitions.
+-- What it costs at least to give a vertex a parent that is not marked in a table. Assumes nothing: these are
+-- definitions.
 use mathlib.Core.Path.{_≡_}
 use mathlib.Core.List.{List}
 use mathlib.Core.Logic.{_≢_}

@@ -1,6 +1,6 @@
-// Detours: what it costs to make a cheapest tree use an arc. An arc whose tail is no descendant of its head can replace the arc into the
-// head. Otherwise it closes a cycle down the path from head to tail, and some vertex on that path has to take a parent that is no
-// descendant of the head.
+// Detours: what it costs to make a cheapest tree use an arc. An arc whose tail is no descendant of its head can replace
+// the arc into the head. Otherwise it closes a cycle down the path from head to tail, and some vertex on that path has
+// to take a parent that is no descendant of the head.
 mod descendants; // descendants.rt: the descendants of a vertex
 mod increases; // increases.rt: what it costs to give a vertex another parent
 
@@ -19,14 +19,7 @@ use instance::limits::CELLS;
 use instance::limits::NO_ARC;
 
 // The least increase on the path from the tail up to the head.
-fn path_least(
-    parents: &[u8; 32],
-    table: &[u32; 32],
-    n: u32,
-    root: u32,
-    head: u32,
-    tail: u32,
-) -> u32
+fn path_least(parents: &[u8; 32], table: &[u32; 32], n: u32, root: u32, head: u32, tail: u32) -> u32
     requires { ⌜ (n ≤ max-vertices) × (length (now parents) ≡ max-vertices) × Rooted n root (take n (now parents)) × (head < n) × (head ≢ root) × (tail < n) × Descends (take n (now parents)) head tail ⌝ }
     ensures { λ r. ⌜ Path-least (take n (now (parents .entry))) (now (table .entry)) head tail r ⌝ }
 {
@@ -43,13 +36,7 @@ fn path_least(
 }
 
 // What the arc from each tail to the head adds besides its own weight, when it replaces the arc into the head.
-pub fn detour_costs(
-    m: &[u32; CELLS],
-    parents: &[u8; 32],
-    n: u32,
-    root: u32,
-    head: u32,
-) -> [u32; 32]
+pub fn detour_costs(m: &[u32; CELLS], parents: &[u8; 32], n: u32, root: u32, head: u32) -> [u32; 32]
     requires { ⌜ Matrix-tree n root (now m) (now parents) × (head < n) × (head ≢ root) ⌝ }
     ensures { λ r. ⌜ Detours (unmarked n root (now (m .entry))) (take n (now (parents .entry))) head n r ⌝ }
 {

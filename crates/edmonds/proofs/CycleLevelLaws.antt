@@ -1,5 +1,5 @@
--- A level of planning with a cycle: the contracted level can be planned, and what solves it solves this level, once the cycle is expanded.
--- Assumes nothing.
+-- A level of planning with a cycle: the contracted level can be planned, and what solves it solves this level, once the
+-- cycle is expanded. Assumes nothing.
 use mathlib.Core.Path.{_≡_, refl, sym, _∙_, subst}
 use mathlib.Core.Bool.{Bool, true, false}
 use mathlib.Core.List.{List, _++_}

@@ -1,11 +1,11 @@
 -- The values of the cuts, added from the last one down. Assumes nothing.
-use mathlib.Core.Path.{_≡_, refl, ap, _∙_}
+use mathlib.Core.Path.{_≡_, ap, _∙_}
 use mathlib.Core.List.{List}
 use Prim.Native.Nat.{ℕ, suc, _+_, _*_, _-_, _≤_, _<_}
 use native.Mathlib.Omega.{arith}
 use native.Mathlib.Nat.{sub-zero}
 use lib.ListN.{getD}
-use Rattle.instance.specs.Cuts.{Cut, cuts-from, cuts-in, values}
+use Rattle.instance.specs.Cuts.{cuts-from, cuts-in, values}
 use Rattle.instance.proofs.CutLaws.{values-step, values-later}
 
 -- the cuts from place k on have been added

@@ -23,8 +23,8 @@ pub record Plannable (ws ls tails heads : List ℕ) (n root left : ℕ) : Type 0
   pub enough : groups n (at ls) ≤ left
   pub two : 2 ≤ left
 
--- A tree of the groups. The cuts of this level and of those below it are at the places from k up to next, and the matrix holds the
--- reduced costs that they leave.
+-- A tree of the groups. The cuts of this level and of those below it are at the places from k up to next, and the
+-- matrix holds the reduced costs that they leave.
 pub record Solution (ws ws′ ls : List ℕ) (n root left : ℕ) (cuts cuts′ : List ℕ) (k : ℕ) (ps : List ℕ) (next : ℕ) : Type 0 where
   pub parents-size : length ps ≡ max-vertices
   pub tree : Tree n root (cost ws′) (at ls) (cuts-from (next - k) k cuts′) (at ps)

@@ -1,5 +1,5 @@
--- THE CONTRACT OF `plan_matrix`: what planning a weight matrix gives, by the definitions of crate instance. Assumes nothing: these are
--- definitions.
+-- THE CONTRACT OF `plan_matrix`: what planning a weight matrix gives, by the definitions of crate instance. Assumes
+-- nothing: these are definitions.
 use mathlib.Core.Path.{_≡_}
 use mathlib.Core.Bool.{Bool, true, false, cond}
 use mathlib.Core.List.{List}
@@ -17,7 +17,8 @@ use Rattle.edmonds.specs.declared.Planned.{Planned}
 unfoldable pub reduced-matrix : Instance → List Cut → List ℕ
 reduced-matrix s cs = tabulate cells (λ i. cond (remaining s (i / 32) (i % 32)) (reduced-cost s cs (i / 32) (i % 32)) (weight-at s i))
 
--- THE ANSWER: that there is no arborescence, with a set that no arc enters; or the tree with its total, which the cuts' values add to
+-- THE ANSWER: that there is no arborescence, with a set that no arc enters; or the tree with its total, which the cuts'
+-- values add to
 abbrev pub no-arborescence : (set : ℕ) → Planned
 no-arborescence c = record { found = false; parents = replicate max-vertices no-parent; total = 0; count = 0; set = c }
 

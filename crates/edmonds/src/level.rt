@@ -1,4 +1,5 @@
-// One level of contraction: "a closed ring of positions is drawn together and the smaller sheet is planned". Each call has fewer groups.
+// One level of contraction: "a closed ring of positions is drawn together and the smaller sheet is planned". Each call
+// has fewer groups.
 
 ghost use mathlib.Core.Path.{_≡_};
 ghost use mathlib.Core.Bool.{true, false};
@@ -17,7 +18,8 @@ use instance::limits::CELLS;
 use instance::limits::CUT_WORDS;
 use instance::limits::NO_PARENT;
 
-// A tree of the groups by its parents, with the place of the next cut; or, where there is none, a set that no arc enters.
+// A tree of the groups by its parents, with the place of the next cut; or, where there is none, a set that no arc
+// enters.
 pub struct GroupTree {
     pub found: bool,
     pub parents: [u8; 32],
@@ -62,14 +64,14 @@ fn replaced(ends: &[u8; 32], g: Vertex, v: Vertex) -> [u8; 32]
 
 // Plans groups of which each but the root's has chosen an arc of weight 0.
 pub fn plan_groups(
-    w: &mut [u32; CELLS],        // the weights, less what was charged so far
-    label: &[u8; 32],            // the group of each vertex
-    tails: &[u8; 32],            // the tail of the arc that each group has chosen
-    heads: &[u8; 32],            // and its head
-    n: usize,                    // the number of vertices
-    root: Vertex,                // one of them
-    left: u32,                   // there are at most so many groups: it falls at each call
-    c: CutIndex,                 // the place of the next cut
+    w: &mut [u32; CELLS], // the weights, less what was charged so far
+    label: &[u8; 32], // the group of each vertex
+    tails: &[u8; 32], // the tail of the arc that each group has chosen
+    heads: &[u8; 32], // and its head
+    n: usize, // the number of vertices
+    root: Vertex, // one of them
+    left: u32, // there are at most so many groups: it falls at each call
+    c: CutIndex, // the place of the next cut
     cuts: &mut [u32; CUT_WORDS], // where the cuts go
 ) -> GroupTree
     requires { ⌜ Plannable (now w) (now label) (now tails) (now heads) n (root .0) left × (length (now cuts) ≡ cut-words) × (c .0 + left ≤ max-cuts + 2) ⌝ }

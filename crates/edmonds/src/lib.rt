@@ -1,6 +1,6 @@
-// Minimum weight arborescences by Edmonds' algorithm (Algorithm 1 of document 000), on the caller's weight matrix, which is lowered in
-// place: afterwards it holds the reduced costs. Vertices keep their numbers through every contraction; a label for each vertex tells
-// its group.
+// Minimum weight arborescences by Edmonds' algorithm (Algorithm 1 of document 000), on the caller's weight matrix,
+// which is lowered in place: afterwards it holds the reduced costs. Vertices keep their numbers through every
+// contraction; a label for each vertex tells its group.
 
 ghost use mathlib.Core.Path.{_≡_};
 ghost use mathlib.Core.Bool.{true};
@@ -23,7 +23,8 @@ use instance::limits::NO_PARENT;
 use level::GroupTree;
 use level::plan_groups;
 
-// An arborescence by its parents, with its total and the number of cuts; or, where there is none, a set that no arc enters.
+// An arborescence by its parents, with its total and the number of cuts; or, where there is none, a set that no arc
+// enters.
 pub struct Planned {
     pub found: bool,
     pub parents: [u8; 32],
@@ -100,8 +101,8 @@ fn conclude(tree: GroupTree, cuts: &[u32; CUT_WORDS]) -> Planned
     }
 }
 
-// Plans a weight matrix with a stride of 32. "Each position first takes its cheapest entering link": every vertex but the root is
-// charged by itself, and then the groups are planned.
+// Plans a weight matrix with a stride of 32. "Each position first takes its cheapest entering link": every vertex but
+// the root is charged by itself, and then the groups are planned.
 pub fn plan_matrix(
     w: &mut [u32; CELLS],
     n: usize,
@@ -131,16 +132,7 @@ pub fn plan_matrix(
         v += 1;
     }
     let left = group_bound(n);
-    let tree = plan_groups(
-        w,
-        &label,
-        &tails,
-        &heads,
-        n,
-        Vertex(r),
-        left,
-        CutIndex(k),
-        cuts,
-    );
+    let next = CutIndex(k);
+    let tree = plan_groups(w, &label, &tails, &heads, n, Vertex(r), left, next, cuts);
     conclude(tree, cuts)
 }

@@ -1,4 +1,5 @@
--- Expanding a cycle, and the arcs where there is none to expand: what the functions give. Assumes nothing: these are definitions.
+-- Expanding a cycle, and the arcs where there is none to expand: what the functions give. Assumes nothing: these are
+-- definitions.
 use mathlib.Core.Path.{_≡_}
 use mathlib.Core.Bool.{true}
 use mathlib.Core.List.{List}

@@ -66,13 +66,13 @@ fn entry_vertex(
 
 // Each group of the cycle but the entry's takes its own arc again.
 fn take_arcs(
-    label: &[u8; 32],       // the group of each vertex, before the cycle was contracted
-    stamp: &[u8; 32],       // when the search came by each group
-    tails: &[u8; 32],       // the tail of each group's own arc
-    heads: &[u8; 32],       // and its head
-    n: usize,               // the number of vertices
-    v: Vertex,              // a group on the cycle: the others are stamped no earlier
-    entry: Vertex,          // where the cycle is entered
+    label: &[u8; 32], // the group of each vertex, before the cycle was contracted
+    stamp: &[u8; 32], // when the search came by each group
+    tails: &[u8; 32], // the tail of each group's own arc
+    heads: &[u8; 32], // and its head
+    n: usize, // the number of vertices
+    v: Vertex, // a group on the cycle: the others are stamped no earlier
+    entry: Vertex, // where the cycle is entered
     parents: &mut [u8; 32], // the tree of the contracted groups, which becomes one of these groups
 )
     requires { ⌜ (length (now parents) ≡ max-vertices) × (n ≤ max-vertices) × (v .0 < n) × (entry .0 < n) × Labels-below n (now label) ⌝ }
@@ -97,7 +97,8 @@ fn take_arcs(
     }
 }
 
-// Expands the cycle at v: only the arc that the one chosen outside replaces is dropped. The parameters are those of take_arcs.
+// Expands the cycle at v: only the arc that the one chosen outside replaces is dropped. The parameters are those of
+// take_arcs.
 pub fn expand_cycle(
     label: &[u8; 32],
     stamp: &[u8; 32],

@@ -1,5 +1,5 @@
--- Cuts in a buffer of words: how many, from its front, one part after another, what a store elsewhere leaves, and one pair stored.
--- Assumes nothing.
+-- Cuts in a buffer of words: how many, from its front, one part after another, what a store elsewhere leaves, and one
+-- pair stored. Assumes nothing.
 use mathlib.Core.Path.{_≡_, refl, sym, ap, _∙_}
 use mathlib.Core.List.{List, [], _∷_, _++_}
 use mathlib.Core.Logic.{_⊎_, inl}

@@ -1,4 +1,5 @@
--- Weight matrices: a cell as a program reads it, the arcs of a matrix, and the matrix of what remains of an instance. Assumes nothing.
+-- Weight matrices: a cell as a program reads it, the arcs of a matrix, and the matrix of what remains of an instance.
+-- Assumes nothing.
 use mathlib.Core.Path.{_≡_, refl, ap, _∙_}
 use mathlib.Core.Bool.{true, false, _&&_, not, cond}
 use mathlib.Core.List.{List}

@@ -1,5 +1,5 @@
--- Enough steps: a vertex that meets the root after some number of steps to its parent meets it after n. The number of vertices that
--- meet it within k steps grows with k until nothing is added. Assumes nothing.
+-- Enough steps: a vertex that meets the root after some number of steps to its parent meets it after n. The number of
+-- vertices that meet it within k steps grows with k until nothing is added. Assumes nothing.
 use mathlib.Core.Path.{_≡_, refl}
 use mathlib.Core.Bool.{Bool, true, false, _&&_, not}
 use mathlib.Core.List.{List}

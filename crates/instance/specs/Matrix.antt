@@ -1,5 +1,5 @@
--- The weight matrix that the algorithm works on: only what remains of an instance, or of some of its arcs. Assumes nothing: these
--- are definitions.
+-- The weight matrix that the algorithm works on: only what remains of an instance, or of some of its arcs. Assumes
+-- nothing: these are definitions.
 use mathlib.Core.Path.{_≡_}
 use mathlib.Core.Bool.{Bool, true, _&&_, cond}
 use mathlib.Core.List.{List, []}

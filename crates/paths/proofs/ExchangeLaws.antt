@@ -1,10 +1,10 @@
--- Exchanging arcs of an arborescence. A vertex h can take any parent t that is no descendant of it; and where t is one, after some
--- vertex on the way from t to h has taken a parent that is none. Assumes nothing.
+-- Exchanging arcs of an arborescence. A vertex h can take any parent t that is no descendant of it; and where t is one,
+-- after some vertex on the way from t to h has taken a parent that is none. Assumes nothing.
 use mathlib.Core.Path.{_≡_, refl, sym, ap, _∙_}
 use mathlib.Core.Bool.{true, false, cond}
 use mathlib.Core.List.{List}
 use mathlib.Core.Logic.{⊎-elim, _≢_}
-use Prim.Native.Nat.{ℕ, zero, suc, _+_, _≤_, _<_}
+use Prim.Native.Nat.{ℕ, _+_, _<_}
 use native.Mathlib.Omega.{arith}
 use native.Mathlib.Decide.{ℕ-discrete}
 use lib.Dec.{eqb}

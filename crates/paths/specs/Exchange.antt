@@ -6,7 +6,8 @@ use Prim.Native.Nat.{ℕ, _+_, _≤_}
 use Rattle.instance.specs.Instance.{Instance, weight}
 use Rattle.instance.specs.Arborescence.{parent, is-arborescence, total, uses}
 
--- An exchange that makes the arborescence use the arc: it adds the arc's weight and at most d, and drops the arc into the head.
+-- An exchange that makes the arborescence use the arc: it adds the arc's weight and at most d, and drops the arc into
+-- the head.
 pub record Exchange (s : Instance) (parents : List ℕ) (t h d : ℕ) : Type 0 where
   pub made : List ℕ
   pub found : is-arborescence s made ≡ true

@@ -1,5 +1,5 @@
--- Laws of pins: a pinned arc as a program reads it, one tail more, and what pins make of the weight of a cell in the matrix. Assumes
--- nothing.
+-- Laws of pins: a pinned arc as a program reads it, one tail more, and what pins make of the weight of a cell in the
+-- matrix. Assumes nothing.
 use mathlib.Core.Path.{_≡_, refl, sym, _∙_}
 use mathlib.Core.Bool.{Bool, true, false, _&&_, _||_, not, cond}
 use mathlib.Core.List.{List}

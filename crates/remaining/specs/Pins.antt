@@ -1,5 +1,5 @@
--- The pins into a head, summed up in one number: the tail of the only one, or a number that is no vertex for none and another for
--- several. Assumes nothing: these are definitions.
+-- The pins into a head, summed up in one number: the tail of the only one, or a number that is no vertex for none and
+-- another for several. Assumes nothing: these are definitions.
 use mathlib.Core.Path.{_≡_}
 use mathlib.Core.Bool.{Bool, _&&_, _||_, not}
 use mathlib.Core.List.{List}

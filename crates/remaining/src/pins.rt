@@ -59,7 +59,12 @@ fn pins_into<'a>(
     pin
 }
 
-pub fn pin_table<'a>(weights: &'a [u32; CELLS], marks: &'a [u8; CELLS], n: u32, root: u32) -> [u32; 32]
+pub fn pin_table<'a>(
+    weights: &'a [u32; CELLS],
+    marks: &'a [u8; CELLS],
+    n: u32,
+    root: u32,
+) -> [u32; 32]
     requires { ⌜ (n ≤ max-vertices) × (length (now weights) ≡ cells) × (length (now marks) ≡ cells) ⌝ }
     ensures { λ r. ⌜ Pin-table (instance-with n root 0 (now (weights .entry)) (now (marks .entry))) n r ⌝ }
 {

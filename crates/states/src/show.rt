@@ -1,5 +1,5 @@
-// The states of all cells, from the table of the arcs that some fitting arborescence uses. An arborescence has one arc into each
-// head, so a used arc is mandatory where it is the only used one into its head.
+// The states of all cells, from the table of the arcs that some fitting arborescence uses. An arborescence has one arc
+// into each head, so a used arc is mandatory where it is the only used one into its head.
 ghost use mathlib.Core.Path.{_≡_};
 ghost use mathlib.Core.Bool.{_&&_, not, cond};
 ghost use Prim.Native.Nat.{_*_, _≤_, _<_};
@@ -42,7 +42,8 @@ fn counts_into(used: &[u8; CELLS], n: u32) -> [u32; 32]
     counts
 }
 
-// The state of a cell where an arc can be or not, with its weight, whether it is used, and the number of used arcs into its head.
+// The state of a cell where an arc can be or not, with its weight, whether it is used, and the number of used arcs into
+// its head.
 fn state_of(possible: bool, weight: u32, used: u8, count: u32) -> u8
     ensures { λ r. ⌜ r ≡ cond (possible && not (eqb weight no-arc)) (cond (eqb used 1) (cond (eqb count 1) 3 2) 1) 0 ⌝ }
 {

@@ -1,6 +1,6 @@
-// Plans four instances with root 0 and prints a line for each: document 01's sheet Q, cycles nested as deep as 32 vertices allow,
-// entered once at the innermost and once at the outermost vertex, and the same cycles with no arc from the root. The tree's weights are
-// added here, and printed beside the total that comes with the plan.
+// Plans four instances with root 0 and prints a line for each: document 01's sheet Q, cycles nested as deep as 32
+// vertices allow, entered once at the innermost and once at the outermost vertex, and the same cycles with no arc from
+// the root. The tree's weights are added here, and printed beside the total that comes with the plan.
 
 ghost use mathlib.Core.Path.{_≡_};
 ghost use Prim.Native.Nat.{_≤_, _<_};
@@ -41,8 +41,8 @@ fn put_q(w: &mut [u32; CELLS])
     put_arc(w, 3, 1, 7);
 }
 
-// Vertices 1 to 31, each entered from the one before and from the one after: the cycle of 1 and 2 is contracted first, then that of
-// the group with 3, and so on.
+// Vertices 1 to 31, each entered from the one before and from the one after: the cycle of 1 and 2 is contracted first,
+// then that of the group with 3, and so on.
 fn put_cycles(w: &mut [u32; CELLS])
     requires { ⌜ (length (now w) ≡ cells) × Weights (now w) ⌝ }
     ensures { λ _. ⌜ (length (now (w .exit)) ≡ cells) × Weights (now (w .exit)) ⌝ }

@@ -1,5 +1,5 @@
--- The candidates leave out no arborescence, so that a test over those that are selected from them is a statement about all lists
--- of parents. Assumes nothing.
+-- The candidates leave out no arborescence, so that a test over those that are selected from them is a statement about
+-- all lists of parents. Assumes nothing.
 use mathlib.Core.Path.{_≡_, refl, sym, ap, _∙_, subst}
 use mathlib.Core.Bool.{Bool, true, false, _&&_, not, cond}
 use mathlib.Core.List.{List, [], _∷_, map}

@@ -1,11 +1,13 @@
--- Weak duality (document 000, section 3): feasible cuts bound the total of every arborescence from below, also with the reduced
--- cost of an arc that it uses; a set that no remaining arc enters rules every arborescence out. Assumes nothing.
+-- Weak duality (document 000, section 3): feasible cuts bound the total of every arborescence from below, also with the
+-- reduced cost of an arc that it uses; a set that no remaining arc enters rules every arborescence out. Assumes
+-- nothing.
 --
--- The idea: an arborescence has an arc into every set without the root. Go from a member of the set from parent to parent; the
--- root is met, which is outside, so some arc on the way has its head inside and its tail outside. So each cut charges some arc
--- of the arborescence with its value, and by feasibility no arc is charged with more than its weight.
-use mathlib.Core.Path.{_≡_, refl, subst}
-use mathlib.Core.Bool.{Bool, true, false, _&&_, not, cond}
+-- The idea: an arborescence has an arc into every set without the root. Go from a member of the set from parent to
+-- parent; the root is met, which is outside, so some arc on the way has its head inside and its tail outside. So each
+-- cut charges some arc of the arborescence with its value, and by feasibility no arc is charged with more than its
+-- weight.
+use mathlib.Core.Path.{_≡_, subst}
+use mathlib.Core.Bool.{true, false, _&&_, not, cond}
 use mathlib.Core.List.{List, [], _∷_}
 use mathlib.Core.Logic.{⊎-elim, _≢_}
 use Prim.Native.Nat.{ℕ, zero, suc, _+_, _/_, _%_, _^_, _≤_, _<_}

@@ -1,4 +1,5 @@
--- One arc forced: in the matrix that leaves it alone into its head, the arborescences are those that use it. Assumes nothing.
+-- One arc forced: in the matrix that leaves it alone into its head, the arborescences are those that use it. Assumes
+-- nothing.
 use mathlib.Core.Path.{_≡_, refl, sym, subst}
 use mathlib.Core.Bool.{Bool, true, false, _||_, not}
 use mathlib.Core.List.{List}

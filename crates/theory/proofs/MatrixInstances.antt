@@ -1,5 +1,5 @@
--- A matrix as an instance with a budget: the same arcs, arborescences and totals whatever the budget; and where the matrix is that of
--- what remains of an instance, the same arcs are usable. Assumes nothing.
+-- A matrix as an instance with a budget: the same arcs, arborescences and totals whatever the budget; and where the
+-- matrix is that of what remains of an instance, the same arcs are usable. Assumes nothing.
 use mathlib.Core.Path.{_≡_, refl, sym, _∙_}
 use mathlib.Core.Bool.{true}
 use mathlib.Core.List.{List}

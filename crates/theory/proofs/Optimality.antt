@@ -1,5 +1,5 @@
--- What cuts settle: an arborescence whose total they add to is cheapest, a set that no remaining arc enters leaves none; and which
--- states follow without listing anything. Assumes nothing.
+-- What cuts settle: an arborescence whose total they add to is cheapest, a set that no remaining arc enters leaves
+-- none; and which states follow without listing anything. Assumes nothing.
 use mathlib.Core.Path.{_≡_, refl}
 use mathlib.Core.Bool.{true}
 use mathlib.Core.List.{List}

@@ -1,5 +1,5 @@
--- Instances whose weights are a matrix of what remains of another, or of some of it: their remaining arcs, arborescences, totals
--- and cuts. The algorithm works on such a matrix. Assumes nothing.
+-- Instances whose weights are a matrix of what remains of another, or of some of it: their remaining arcs,
+-- arborescences, totals and cuts. The algorithm works on such a matrix. Assumes nothing.
 use mathlib.Core.Path.{_≡_, refl, sym, ap, _∙_}
 use mathlib.Core.Bool.{Bool, true, false, _&&_, not, cond, and-true}
 use mathlib.Core.List.{List}

@@ -1,5 +1,5 @@
--- Instances with the same vertices, the same root and the same remaining arcs at the same weights have the same arborescences,
--- totals and cuts, whatever else their lists hold. Assumes nothing.
+-- Instances with the same vertices, the same root and the same remaining arcs at the same weights have the same
+-- arborescences, totals and cuts, whatever else their lists hold. Assumes nothing.
 use mathlib.Core.Path.{_≡_, refl, sym, ap, _∙_, subst}
 use mathlib.Core.Bool.{Bool, true, false, cond}
 use mathlib.Core.List.{List, [], _∷_}

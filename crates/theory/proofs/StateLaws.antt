@@ -1,5 +1,5 @@
--- The computed state of each cell is the one that document 01's words allow, and the only one; so is the list of all states.
--- Assumes nothing.
+-- The computed state of each cell is the one that document 01's words allow, and the only one; so is the list of all
+-- states. Assumes nothing.
 use mathlib.Core.Path.{_≡_, refl, sym, ap, _∙_, subst}
 use mathlib.Core.Bool.{Bool, true, false, cond}
 use mathlib.Core.List.{List}

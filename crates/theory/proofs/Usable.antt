@@ -1,5 +1,5 @@
--- The state of an arc from usability alone: an arborescence has exactly one arc into each head, so an arc is mandatory exactly
--- where it is usable and no other arc into its head is. Assumes nothing.
+-- The state of an arc from usability alone: an arborescence has exactly one arc into each head, so an arc is mandatory
+-- exactly where it is usable and no other arc into its head is. Assumes nothing.
 use mathlib.Core.Path.{_≡_, refl, ap}
 use mathlib.Core.Bool.{Bool, true, false, _&&_, not, cond}
 use mathlib.Core.List.{List}

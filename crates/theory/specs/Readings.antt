@@ -1,5 +1,5 @@
--- Document 01's words on outcomes and link states, read as statements about all lists of parents, where `instance` computes them
--- from a listing. The theorems that the two agree are in proofs/. Assumes nothing: these are definitions.
+-- Document 01's words on outcomes and link states, read as statements about all lists of parents, where `instance`
+-- computes them from a listing. The theorems that the two agree are in proofs/. Assumes nothing: these are definitions.
 use mathlib.Core.Path.{_≡_}
 use mathlib.Core.Bool.{true, false}
 use mathlib.Core.List.{List}
@@ -28,8 +28,8 @@ None-uses s t h = (ps : List ℕ) → fits s ps ≡ true → uses ps t h ≡ fal
 abbrev pub All-use : Instance → (tail head : ℕ) → Type 0
 All-use s t h = (ps : List ℕ) → fits s ps ≡ true → uses ps t h ≡ true
 
--- v is the state of the cell: "0 not a link; 1 closed, no tree uses it; 2 open, some use it and some don't; 3 sure, there is at
--- least one tree and all use it"
+-- v is the state of the cell: "0 not a link; 1 closed, no tree uses it; 2 open, some use it and some don't; 3 sure,
+-- there is at least one tree and all use it"
 pub record State-reads (s : Instance) (t h v : ℕ) : Type 0 where
   pub absent : is-arc s t h ≡ false → v ≡ 0
   pub present : is-arc s t h ≡ true → (1 ≤ v) × (v ≤ 3)

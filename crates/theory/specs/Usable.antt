@@ -1,4 +1,5 @@
--- Usable arcs, and the restriction of an instance by which a program finds them. Assumes nothing: these are definitions.
+-- Usable arcs, and the restriction of an instance by which a program finds them. Assumes nothing: these are
+-- definitions.
 use mathlib.Core.Bool.{Bool, _||_, not}
 use Prim.Native.Nat.{ℕ}
 use lib.Dec.{eqb}

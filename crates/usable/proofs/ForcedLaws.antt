@@ -1,10 +1,10 @@
--- The matrix with one arc forced has the arborescences that use the arc, at the same totals; so planning on it finds the least total
--- with the arc. Assumes nothing.
+-- The matrix with one arc forced has the arborescences that use the arc, at the same totals; so planning on it finds
+-- the least total with the arc. Assumes nothing.
 use mathlib.Core.Path.{_≡_, refl, sym, ap, _∙_}
 use mathlib.Core.Bool.{Bool, true, false, _&&_, _||_, not, cond, and-true}
 use mathlib.Core.List.{List}
 use mathlib.Core.Logic.{_↔_, _≢_, ⊎-elim}
-use Prim.Native.Nat.{ℕ, _+_, _/_, _%_, _≤_, _<_}
+use Prim.Native.Nat.{ℕ, _+_, _/_, _%_, _<_}
 use native.Mathlib.Omega.{arith}
 use native.Mathlib.Decide.{ℕ-discrete}
 use lib.Dec.{ltb, eqb}

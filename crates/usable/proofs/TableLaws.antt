@@ -1,5 +1,5 @@
--- Laws of tables of arcs: adding an arborescence; and a table with nothing in it, which is right where no arborescence fits. Assumes
--- nothing.
+-- Laws of tables of arcs: adding an arborescence; and a table with nothing in it, which is right where no arborescence
+-- fits. Assumes nothing.
 use mathlib.Core.Path.{_≡_, refl, sym, _∙_}
 use mathlib.Core.Bool.{true, false, _&&_, not, cond}
 use mathlib.Core.List.{List}

@@ -1,4 +1,5 @@
--- Planning with one arc forced, by taking the other arcs into its head out of the matrix. Assumes nothing: these are definitions.
+-- Planning with one arc forced, by taking the other arcs into its head out of the matrix. Assumes nothing: these are
+-- definitions.
 use mathlib.Core.Path.{_≡_}
 use mathlib.Core.Bool.{Bool, true, false, _&&_, not, cond}
 use mathlib.Core.List.{List}

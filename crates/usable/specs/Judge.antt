@@ -1,5 +1,5 @@
--- What is maintained while the arcs of a matrix are judged one after the other: a table that says 1 of usable arcs alone, and of every
--- usable arc that has been judged. Assumes nothing: these are definitions.
+-- What is maintained while the arcs of a matrix are judged one after the other: a table that says 1 of usable arcs
+-- alone, and of every usable arc that has been judged. Assumes nothing: these are definitions.
 use mathlib.Core.Path.{_≡_}
 use mathlib.Core.Bool.{true}
 use mathlib.Core.List.{List}

@@ -1,4 +1,5 @@
--- Tables of arcs: 1 at the cell of an arc that is used, another number elsewhere. Assumes nothing: these are definitions.
+-- Tables of arcs: 1 at the cell of an arc that is used, another number elsewhere. Assumes nothing: these are
+-- definitions.
 use mathlib.Core.Path.{_≡_}
 use mathlib.Core.Bool.{Bool, _&&_, not, cond}
 use mathlib.Core.List.{List}

@@ -1,4 +1,5 @@
-// The cheapest arborescence that uses one arc: planning on a copy of the matrix with the other arcs into its head taken out.
+// The cheapest arborescence that uses one arc: planning on a copy of the matrix with the other arcs into its head taken
+// out.
 ghost use mathlib.Core.Path.{_≡_};
 ghost use mathlib.Core.Bool.{true};
 ghost use Prim.Native.Nat.{_≤_, _<_};

@@ -15,12 +15,12 @@ use instance::limits::NO_ARC;
 
 // Plans with the arc, and adds the tree that is found if it fits.
 fn judge_by_planning(
-    m: &[u32; CELLS],       // the weights
-    n: u32,                 // the number of vertices
-    root: u32,              // one of them
-    limit: u32,             // what a total may be at most
-    tail: u32,              // the arc
-    head: u32,              // into this vertex
+    m: &[u32; CELLS], // the weights
+    n: u32, // the number of vertices
+    root: u32, // one of them
+    limit: u32, // what a total may be at most
+    tail: u32, // the arc
+    head: u32, // into this vertex
     used: &mut [u8; CELLS], // the arcs that are known to be usable
 )
     requires { ⌜ Matrix-ok n root (now m) × (remaining (unmarked n root (now m)) tail head ≡ true) × Sound (matrix-instance n root limit (now m)) (now used) ⌝ }
@@ -50,16 +50,16 @@ fn exchange_fits(rest: u32, weight: u32, detour: u32, limit: u32) -> bool
 
 // One arc.
 fn judge_arc(
-    m: &[u32; CELLS],       // the weights
+    m: &[u32; CELLS], // the weights
     reduced: &[u32; CELLS], // the reduced costs
-    n: u32,                 // the number of vertices
-    root: u32,              // one of them
-    total: u32,             // the cheapest total
-    limit: u32,             // what a total may be at most
-    rest: u32,              // the cheapest total without the tree's arc into the head
-    detour: u32,            // what the tree costs more with the arc, besides its weight
-    tail: u32,              // the arc
-    head: u32,              // into this vertex
+    n: u32, // the number of vertices
+    root: u32, // one of them
+    total: u32, // the cheapest total
+    limit: u32, // what a total may be at most
+    rest: u32, // the cheapest total without the tree's arc into the head
+    detour: u32, // what the tree costs more with the arc, besides its weight
+    tail: u32, // the arc
+    head: u32, // into this vertex
     used: &mut [u8; CELLS], // the arcs that are known to be usable
 )
     requires { ⌜ Candidate n root (now m) (now reduced) total rest detour tail head × Sound (matrix-instance n root limit (now m)) (now used) ⌝ }

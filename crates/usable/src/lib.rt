@@ -1,5 +1,6 @@
-// The arcs of a matrix that some fitting arborescence uses. Each arc is judged once; most are settled by a tree that is known already,
-// by their reduced costs or by an exchange of arcs, and only the rest is planned. Every tree that is found settles all its arcs.
+// The arcs of a matrix that some fitting arborescence uses. Each arc is judged once; most are settled by a tree that is
+// known already, by their reduced costs or by an exchange of arcs, and only the rest is planned. Every tree that is
+// found settles all its arcs.
 mod forced; // forced.rt: the cheapest tree that uses an arc, by planning
 mod judge; // judge.rt: whether an arc is usable
 mod table; // table.rt: a tree's arcs in a table
@@ -13,13 +14,13 @@ use table::add_tree;
 
 // 1 at the cell of each usable arc.
 pub fn usable_arcs(
-    m: &[u32; CELLS],       // the weights of the remaining arcs
+    m: &[u32; CELLS], // the weights of the remaining arcs
     reduced: &[u32; CELLS], // their reduced costs, which planning leaves
-    parents: &[u8; 32],     // a cheapest arborescence
-    n: u32,                 // the number of vertices
-    root: u32,              // one of them
-    total: u32,             // the cheapest total
-    limit: u32,             // what a total may be at most: no less than the cheapest
+    parents: &[u8; 32], // a cheapest arborescence
+    n: u32, // the number of vertices
+    root: u32, // one of them
+    total: u32, // the cheapest total
+    limit: u32, // what a total may be at most: no less than the cheapest
 ) -> [u8; CELLS]
     requires { ⌜ Fitting-plan n root (now m) (now reduced) (now parents) total limit ⌝ }
     ensures { λ r. ⌜ Usable-table (matrix-instance n root limit (now (m .entry))) r ⌝ }

@@ -1,4 +1,5 @@
--- The path stays among the descendants of the head, so it does not come to the root; a parent is less deep. Assumes nothing.
+-- The path stays among the descendants of the head, so it does not come to the root; a parent is less deep. Assumes
+-- nothing.
 use mathlib.Core.Path.{refl}
 use mathlib.Core.Logic.{⊎-elim, _≢_}
 use Prim.Native.Nat.{_<_}

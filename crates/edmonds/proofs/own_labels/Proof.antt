@@ -2,15 +2,16 @@
 use mathlib.Core.Path.{refl}
 use Prim.Native.Nat.{_-_, _≤_}
 use native.Mathlib.Omega.{arith}
+use Rattle.instance.specs.Limits.{max-vertices}
 use Rattle.base.proofs.OverwriteLaws.{Overwritten, overwrite-none, overwrite-store}
 use Rattle.edmonds.proofs.own_labels.Statement.{statement}
 use Rattle.edmonds.proofs.own_labels.Tie as tie
 
 abbrev Inv-loop : tie.InvT-loop
-Inv-loop label₀ i₀ label i = (i ≤ 32) × Overwritten 32 label₀ label (λ v. v) i
+Inv-loop label₀ i₀ label i = (i ≤ max-vertices) × Overwritten max-vertices label₀ label (λ v. v) i
 
 abbrev μ-loop : tie.MeasureT-loop
-μ-loop label₀ i₀ label i = 32 - i
+μ-loop label₀ i₀ label i = max-vertices - i
 
 loop-holds : tie.Need-loop-holds Inv-loop μ-loop
 loop-holds c = (omega arith, overwrite-none _ _ refl)

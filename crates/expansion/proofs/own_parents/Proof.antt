@@ -5,6 +5,7 @@ use Prim.Native.Nat.{ℕ, _-_, _≤_}
 use native.Mathlib.Omega.{arith}
 use lib.ListN.{getD-replicate}
 use borrow.Author.Tests.{eq-eqb, ne-eqb}
+use Rattle.instance.specs.Limits.{max-vertices, no-parent}
 use Rattle.contraction.specs.Groups.{own-arcs}
 use Rattle.contraction.specs.Cells.{at}
 use Rattle.base.proofs.OverwriteLaws.{Overwritten, overwrite-none, overwrite-store, overwrite-pass}
@@ -12,7 +13,7 @@ use Rattle.expansion.proofs.own_parents.Statement.{statement}
 use Rattle.expansion.proofs.own_parents.Tie as tie
 
 abbrev Inv-loop : tie.InvT-loop
-Inv-loop label tails heads n r top out₀ v₀ out v = (v ≤ n) × Overwritten 32 out₀ out (own-arcs r (at label) (at tails) (at heads)) v
+Inv-loop label tails heads n r top out₀ v₀ out v = (v ≤ n) × Overwritten max-vertices out₀ out (own-arcs r (at label) (at tails) (at heads)) v
 
 abbrev μ-loop : tie.MeasureT-loop
 μ-loop label tails heads n r top out₀ v₀ out v = n - v
@@ -69,7 +70,7 @@ loop-less c = omega arith
 loop-again : tie.Need-loop-again Inv-loop μ-loop
 loop-again c =
     let al = c .before .before .before in
-    let none-yet = getD-replicate {A = ℕ} 32 (al .loop .v) 255 0 (omega arith) in (
+    let none-yet = getD-replicate {A = ℕ} max-vertices (al .loop .v) no-parent 0 (omega arith) in (
       omega arith,
       ⊎-elim (λ w. rw (w .4) (overwrite-store _ _ (al .loop .out) (al .loop .v) _ (al .loop .inv .1) (omega arith) (rw (ne-eqb _ _ (w .0 .taken), eq-eqb _ _ (w .2 .taken)))))
           (⊎-elim (λ w. rw (w .3) (overwrite-pass _ _ (al .loop .out) (al .loop .v) (al .loop .inv .1) (rw (ne-eqb _ _ (w .0 .taken), ne-eqb _ _ (w .2 .left)) none-yet)))

@@ -3,6 +3,7 @@ use mathlib.Core.Logic.{⊎-elim}
 use Prim.Native.Nat.{_-_, _≤_}
 use native.Mathlib.Omega.{arith}
 use borrow.Author.Tests.{le-leb, lt-leb, eq-eqb, ne-eqb}
+use Rattle.instance.specs.Limits.{max-vertices}
 use Rattle.contraction.specs.Groups.{expanded}
 use Rattle.contraction.specs.Cells.{at as place}
 use Rattle.contraction.specs.Search.{on-cycle}
@@ -12,7 +13,7 @@ use Rattle.expansion.proofs.take_arcs.Tie as tie
 
 abbrev Inv-loop : tie.InvT-loop
 Inv-loop label stamp tails heads n parents₀ at first e entered u₀ parents u =
-    (u ≤ n) × Overwritten 32 parents₀ parents (expanded (place label) (place tails) (place heads) (on-cycle (place stamp) at) (place label e) (place parents₀)) u
+    (u ≤ n) × Overwritten max-vertices parents₀ parents (expanded (place label) (place tails) (place heads) (on-cycle (place stamp) at) (place label e) (place parents₀)) u
 
 abbrev μ-loop : tie.MeasureT-loop
 μ-loop label stamp tails heads n parents₀ at first e entered u₀ parents u = n - u

@@ -1,5 +1,6 @@
--- `remaining::remaining_matrix` meets its contract: the cells that were passed are those of the matrix. Assumes nothing.
-use mathlib.Core.Path.{_≡_, refl, sym, _∙_}
+-- `remaining::remaining_matrix` meets its contract: the cells that were passed are those of the matrix. Assumes
+-- nothing.
+use mathlib.Core.Path.{refl, sym, _∙_}
 use mathlib.Core.Logic.{⊎-elim}
 use Prim.Native.Nat.{ℕ, _%_, _-_, _≤_}
 use native.Mathlib.Omega.{arith}

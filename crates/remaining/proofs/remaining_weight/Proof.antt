@@ -1,4 +1,5 @@
--- `remaining::remaining_weight` meets its contract: each way out answers with the tests that led there. Assumes nothing.
+-- `remaining::remaining_weight` meets its contract: each way out answers with the tests that led there. Assumes
+-- nothing.
 use borrow.Author.Tests.{eq-eqb, ne-eqb}
 use Rattle.remaining.specs.Pins.{allows}
 use Rattle.remaining.proofs.remaining_weight.Statement.{statement}

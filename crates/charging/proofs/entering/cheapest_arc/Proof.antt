@@ -1,4 +1,5 @@
--- `charging::entering::cheapest_arc` meets its contract: the loop keeps the cheapest arc into the vertices passed. Assumes nothing.
+-- `charging::entering::cheapest_arc` meets its contract: the loop keeps the cheapest arc into the vertices passed.
+-- Assumes nothing.
 use mathlib.Core.Logic.{⊎-elim}
 use Prim.Native.Nat.{_-_, _≤_}
 use native.Mathlib.Omega.{arith}

@@ -1,4 +1,5 @@
--- `charging::entering::cheapest_into` meets its contract: the loop keeps the cheapest arc among the tails passed. Assumes nothing.
+-- `charging::entering::cheapest_into` meets its contract: the loop keeps the cheapest arc among the tails passed.
+-- Assumes nothing.
 use mathlib.Core.Logic.{inl, inr, ⊎-elim}
 use Prim.Native.Nat.{_-_, _≤_}
 use native.Mathlib.Omega.{arith}

@@ -4,6 +4,7 @@ use mathlib.Core.Logic.{⊎-elim}
 use Prim.Native.Nat.{_-_, _≤_}
 use native.Mathlib.Omega.{arith}
 use borrow.Author.Tests.{le-leb, lt-leb}
+use Rattle.instance.specs.Limits.{max-vertices}
 use Rattle.contraction.specs.Groups.{contracted}
 use Rattle.contraction.specs.Cells.{at as place}
 use Rattle.contraction.specs.Search.{on-cycle}
@@ -12,7 +13,7 @@ use Rattle.cycles.proofs.contract.contracted_labels.Statement.{statemen
 use Rattle.cycles.proofs.contract.contracted_labels.Tie as tie
 
 abbrev Inv-loop : tie.InvT-loop
-Inv-loop label stamp n at first out₀ u₀ out u = (u ≤ n) × Overwritten 32 out₀ out (contracted (place label) (on-cycle (place stamp) at) at) u
+Inv-loop label stamp n at first out₀ u₀ out u = (u ≤ n) × Overwritten max-vertices out₀ out (contracted (place label) (on-cycle (place stamp) at) at) u
 
 abbrev μ-loop : tie.MeasureT-loop
 μ-loop label stamp n at first out₀ u₀ out u = n - u

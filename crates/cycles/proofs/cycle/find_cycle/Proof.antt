@@ -1,9 +1,10 @@
--- `cycles::cycle::find_cycle` meets its contract. The inner loop's measure is the number of places with no stamp. Assumes nothing.
+-- `cycles::cycle::find_cycle` meets its contract. The inner loop's measure is the number of places with no stamp.
+-- Assumes nothing.
 use mathlib.Core.Logic.{inl, inr, ⊎-elim}
 use Prim.Native.Nat.{_-_, _≤_}
 use native.Mathlib.Omega.{arith}
 use borrow.Author.Tests.{ltb-true, ltb-false}
-use Rattle.cycles.proofs.CycleLaws.{zeros, Between, Walking, none-stamped, set-out, pass, no-cycle, met, below-32, tail-below, onwards, ends, falls}
+use Rattle.cycles.proofs.CycleLaws.{zeros, Between, Walking, none-stamped, set-out, pass, no-cycle, met, in-range, tail-below, onwards, ends, falls}
 use Rattle.cycles.proofs.cycle.find_cycle.Statement.{statement}
 use Rattle.cycles.proofs.cycle.find_cycle.Tie as tie
 
@@ -55,20 +56,20 @@ array-read-met : tie.Need-array-read-met Inv-loop μ-loop Inv-starts μ-starts
 array-read-met c =
     let al = c .before in
     let sb = al .before .before .before .before .before .before .before .pre in
-    below-32 _ _ _ _ sb _ _ _ _ _ (al .loop .inv)
+    in-range _ _ _ _ sb _ _ _ _ _ (al .loop .inv)
 
 cast-at : tie.Need-cast-at Inv-loop μ-loop Inv-starts μ-starts
 cast-at c =
     let al = c .before .before in
     let sb = al .before .before .before .before .before .before .before .pre in
-    let v = below-32 _ _ _ _ sb _ _ _ _ _ (al .loop .inv) in
+    let v = in-range _ _ _ _ sb _ _ _ _ _ (al .loop .inv) in
     omega arith
 
 array-write-stamp : tie.Need-array-write-stamp Inv-loop μ-loop Inv-starts μ-starts
 array-write-stamp c =
     let al = c .before .before .before in
     let sb = al .before .before .before .before .before .before .before .pre in
-    below-32 _ _ _ _ sb _ _ _ _ _ (al .loop .inv)
+    in-range _ _ _ _ sb _ _ _ _ _ (al .loop .inv)
 
 add-now : tie.Need-add-now Inv-loop μ-loop Inv-starts μ-starts
 add-now c =
@@ -80,7 +81,7 @@ element-copy-out-t : tie.Need-element-copy-out-t Inv-loop μ-loop Inv-starts μ-
 element-copy-out-t c =
     let al = c .before .before .before in
     let sb = al .before .before .before .before .before .before .before .pre in
-    below-32 _ _ _ _ sb _ _ _ _ _ (al .loop .inv)
+    in-range _ _ _ _ sb _ _ _ _ _ (al .loop .inv)
 
 cast-t : tie.Need-cast-t Inv-loop μ-loop Inv-starts μ-starts
 cast-t c =

@@ -1,5 +1,5 @@
--- `edmonds::level::plan_groups` meets its contract: one level by the laws of PlainLevelLaws and CycleLevelLaws, one law for each way to
--- return. The measure is the bound on the number of groups. Assumes nothing.
+-- `edmonds::level::plan_groups` meets its contract: one level by the laws of PlainLevelLaws and CycleLevelLaws, one law
+-- for each way to return. The measure is the bound on the number of groups. Assumes nothing.
 use Prim.Native.Nat.{ℕ, _<_}
 use native.Mathlib.Omega.{arith}
 use borrow.Author.Needs.{needs}
