@@ -31,7 +31,7 @@ pub unentered-before : {n root : ℕ} {ws ws′ : List ℕ} {cs : List Cut} {s :
 unentered-before lo c = record { proper = c .proper; shut = λ t h l m th. c .shut t h l m (lowered-there lo t h l m th) }
 
 -- the vertices of a group other than the root's
-pub group-proper : {ls : List ℕ} {n g s : ℕ} → Members ls g n s → (root : ℕ) → root < n → at ls root ≢ g → (v : ℕ) → v < n → at ls v ≡ g → Proper n root s
+group-proper : {ls : List ℕ} {n g s : ℕ} → Members ls g n s → (root : ℕ) → root < n → at ls root ≢ g → (v : ℕ) → v < n → at ls v ≡ g → Proper n root s
 group-proper {ls} {n} {g} {s} ms root rl ne v l e =
     record {
       some = inside-some s v (ms .is v l ∙ eq-eqb (at ls v) g e);

@@ -8,7 +8,7 @@ use Rattle.instance.specs.Limits.{no-arc}
 use Rattle.instance.specs.Cuts.{Cut, charged}
 use Rattle.contraction.specs.Groups.{Lowered, Chosen}
 
-pub charged-append : (cs ds : List Cut) (t h : ℕ) → charged (cs ++ ds) t h ≡ charged cs t h + charged ds t h
+charged-append : (cs ds : List Cut) (t h : ℕ) → charged (cs ++ ds) t h ≡ charged cs t h + charged ds t h
 unfolding charged
 charged-append [] ds t h = omega arith
 charged-append (c ∷ cs) ds t h = let e = charged-append cs ds t h in omega arith

@@ -27,13 +27,13 @@ pub cuts-in-front : (k : ℕ) (ws zs : List ℕ) → 2 * k ≤ length ws → cut
 unfolding cuts-in
 cuts-in-front k ws zs h = cuts-front k 0 ws zs (omega arith)
 
-pub cuts-append : (a b i j : ℕ) (l : List ℕ) → j ≡ i + a → cuts-from a i l ++ cuts-from b j l ≡ cuts-from (a + b) i l
+cuts-append : (a b i j : ℕ) (l : List ℕ) → j ≡ i + a → cuts-from a i l ++ cuts-from b j l ≡ cuts-from (a + b) i l
 unfolding cuts-from
 cuts-append zero b i j l e = let e′ : j ≡ i = omega arith in rw (e′, zero-add b)
 cuts-append (suc a) b i j l e =
     rw (suc-add a b) (ap (λ (t : List Cut). record { set = getD l (2 * i) 0; value = getD l (2 * i + 1) 0 } ∷ t) (cuts-append a b (suc i) j l (omega arith)))
 
-pub cuts-same : (a i : ℕ) (l m : List ℕ) → ((j : ℕ) → 2 * i ≤ j → j < 2 * (i + a) → getD l j 0 ≡ getD m j 0) → cuts-from a i l ≡ cuts-from a i m
+cuts-same : (a i : ℕ) (l m : List ℕ) → ((j : ℕ) → 2 * i ≤ j → j < 2 * (i + a) → getD l j 0 ≡ getD m j 0) → cuts-from a i l ≡ cuts-from a i m
 unfolding cuts-from
 cuts-same zero i l m h = refl
 cuts-same (suc a) i l m h =

@@ -58,7 +58,7 @@ module _ (n root b : ℕ) (m : List ℕ) where
   abbrev on : Instance
   on = unmarked n root m
 
-  pub fits-tree : (ps : List ℕ) → is-arborescence on ps ≡ true → total on ps ≤ b → fits s ps ≡ true
+  fits-tree : (ps : List ℕ) → is-arborescence on ps ≡ true → total on ps ≤ b → fits s ps ≡ true
   fits-tree ps a l =
       let e = matrix-instance-total n root b m ps a in
       make-fits s ps (matrix-instance-arborescence n root b m ps .1 a) (omega arith)
@@ -74,7 +74,7 @@ module _ (n root b : ℕ) (m : List ℕ) where
         let c = x .3 in
         usable-tree (x .0) (x .1) (omega arith) (x .2)
 
-    pub unusable-lost : h < n → h ≢ root → remaining on t h ≡ false → usable s t h ≡ false
+    unusable-lost : h < n → h ≢ root → remaining on t h ≡ false → usable s t h ≡ false
     unusable-lost l e r = lost-unusable s t h l (ne-eqb h root e) (matrix-instance-remaining n root b m t h ∙ r)
 
     -- a loop, a cell without an arc, an arc into the root
