@@ -28,15 +28,15 @@ pub fn is_too_short(n: u32, parents: usize, states: usize, cuts: usize) -> bool
     cuts < CUT_WORDS
 }
 
-// Copies what was found: the parents, the states by the usable arcs and the weights of the instance, and the words of the cuts.
+// Copies what was found into the caller's buffers.
 fn display(
     found: Survey,
-    weights: &[u32; CELLS],
+    weights: &[u32; CELLS], // the instance's, which tell where an arc is
     n: u32,
     root: u32,
-    parents: &mut [u8],
-    states: &mut [u8],
-    cuts: &mut [u32],
+    parents: &mut [u8], // takes n bytes
+    states: &mut [u8], // takes n times n bytes
+    cuts: &mut [u32], // takes 122 words
 )
     requires { ⌜ (n ≤ max-vertices) × (n ≤ length (now parents)) × (n * n ≤ length (now states)) × (cut-words ≤ length (now cuts)) ⌝ }
     ensures { λ _. ⌜ Displays found (now (weights .entry)) n root (buffers (now (parents .entry)) (now (states .entry)) (now (cuts .entry))) (buffers (now (parents .exit)) (now (states .exit)) (now (cuts .exit))) ⌝ }

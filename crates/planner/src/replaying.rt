@@ -62,13 +62,13 @@ fn write_away(b: Board) -> u32
     written.answer
 }
 
-// One call of the list.
+// One call of the list, on the board that the call before left.
 fn make_call(
     b: Board,
-    kind: u8,
-    first: u32,
-    second: u32,
-    parents: &mut [u8],
+    kind: u8, // what is called
+    first: u32, // a tail or a budget
+    second: u32, // a head
+    parents: &mut [u8], // these three are a look's buffers
     states: &mut [u8],
     cuts: &mut [u32],
 ) -> Answered
