@@ -74,19 +74,17 @@ pub fn charge_group(
     requires { ⌜ (length (now w) ≡ cells) × (length (now cuts) ≡ cut-words) × (n ≤ max-vertices) × (g .0 < n) × (c .0 < max-cuts) ⌝ }
     ensures { λ r. ⌜ Charged-group (now (w .entry)) (now (w .exit)) (now (label .entry)) n (g .0) (now (cuts .entry)) (now (cuts .exit)) (c .0) (r .found) (r .tail .0) (r .head .0) (r .next .0) (r .set) ⌝ }
 {
-    let group = g.0;
-    let k = c.0;
-    let arc = cheapest_arc(w, label, n, Vertex(group));
+    let arc = cheapest_arc(w, label, n, g);
     let value = arc.weight;
     if value == NO_ARC {
-        let set = members(label, n, Vertex(group));
-        return Charged::none(CutIndex(k), set);
+        let set = members(label, n, g);
+        return Charged::none(c, set);
     }
     if value == 0 {
-        return Charged::arc(arc.tail, arc.head, CutIndex(k));
+        return Charged::arc(arc.tail, arc.head, c);
     }
-    lower_arcs(w, label, n, Vertex(group), value);
-    let set = members(label, n, Vertex(group));
-    put_cut(CutIndex(k), set, value, cuts);
-    Charged::arc(arc.tail, arc.head, CutIndex(k + 1))
+    lower_arcs(w, label, n, g, value);
+    let set = members(label, n, g);
+    put_cut(c, set, value, cuts);
+    Charged::arc(arc.tail, arc.head, CutIndex(c.0 + 1))
 }

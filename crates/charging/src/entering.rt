@@ -60,8 +60,7 @@ pub fn cheapest_arc(w: &[u32; CELLS], label: &[u8; 32], n: usize, g: Vertex) -> 
     requires { ⌜ (n ≤ max-vertices) × (g .0 < n) ⌝ }
     ensures { λ r. ⌜ Cheapest (now (w .entry)) (now (label .entry)) n (g .0) n (r .tail .0) (r .head .0) (r .weight) ⌝ }
 {
-    let group = g.0;
-    let own = group as u8;
+    let own = g.0 as u8;
     let mut best = Entering {
         tail: Vertex(NO_END),
         head: Vertex(NO_END),
@@ -70,7 +69,7 @@ pub fn cheapest_arc(w: &[u32; CELLS], label: &[u8; 32], n: usize, g: Vertex) -> 
     let mut h: usize = 0;
     while h < n {
         if label[h] == own {
-            best = cheapest_into(w, label, n, Vertex(group), h, best);
+            best = cheapest_into(w, label, n, g, h, best);
         }
         h += 1;
     }

@@ -33,12 +33,11 @@ pub fn lower_arcs(w: &mut [u32; CELLS], label: &[u8; 32], n: usize, g: Vertex, v
     requires { ⌜ (length (now w) ≡ cells) × (n ≤ max-vertices) × (g .0 < n) × Affords (now w) (now label) n (g .0) value ⌝ }
     ensures { λ _. ⌜ Lowered-cells (now (w .entry)) (now (w .exit)) (now (label .entry)) n (g .0) value n ⌝ }
 {
-    let group = g.0;
-    let own = group as u8;
+    let own = g.0 as u8;
     let mut h: usize = 0;
     while h < n {
         if label[h] == own {
-            lower_into(w, label, n, Vertex(group), h, value);
+            lower_into(w, label, n, g, h, value);
         }
         h += 1;
     }

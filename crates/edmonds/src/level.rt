@@ -77,28 +77,26 @@ pub fn plan_groups(
     requires { ⌜ Plannable (now w) (now label) (now tails) (now heads) n (root .0) left × (length (now cuts) ≡ cut-words) × (c .0 + left ≤ max-cuts + 2) ⌝ }
     ensures { λ r. ⌜ Solved (now (w .entry)) (now (w .exit)) (now (label .entry)) n (root .0) left (now (cuts .entry)) (now (cuts .exit)) (c .0) (r .found) (r .parents) (r .next .0) (r .set) ⌝ }
 {
-    let k = c.0;
-    let r = root.0;
-    let walked = find_cycle(label, tails, n, Vertex(r));
+    let walked = find_cycle(label, tails, n, root);
     if !walked.found {
-        let parents = own_parents(label, tails, heads, n, Vertex(r));
-        return GroupTree::tree(parents, CutIndex(k));
+        let parents = own_parents(label, tails, heads, n, root);
+        return GroupTree::tree(parents, c);
     }
-    let at = walked.at.0;
+    let at = walked.at;
     let stamp = walked.stamp;
-    let coarse = contracted_labels(label, &stamp, n, Vertex(at));
-    let chosen = charge_group(w, &coarse, n, Vertex(at), CutIndex(k), cuts);
+    let coarse = contracted_labels(label, &stamp, n, at);
+    let chosen = charge_group(w, &coarse, n, at, c, cuts);
     if !chosen.found {
         return GroupTree::none(chosen.set);
     }
-    let tails2 = replaced(tails, Vertex(at), chosen.tail);
-    let heads2 = replaced(heads, Vertex(at), chosen.head);
+    let tails2 = replaced(tails, at, chosen.tail);
+    let heads2 = replaced(heads, at, chosen.head);
     let after = chosen.next;
     let inner = plan_groups(w, &coarse, &tails2, &heads2, n, root, left - 1, after, cuts);
     if !inner.found {
         return inner;
     }
     let mut parents = inner.parents;
-    expand_cycle(label, &stamp, tails, heads, n, Vertex(at), &mut parents);
+    expand_cycle(label, &stamp, tails, heads, n, at, &mut parents);
     GroupTree::tree(parents, inner.next)
 }

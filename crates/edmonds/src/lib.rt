@@ -116,23 +116,22 @@ pub fn plan_matrix(
     let label = own_labels();
     let mut tails = [NO_PARENT; 32];
     let mut heads = [NO_PARENT; 32];
-    let mut k: u32 = 0;
+    let mut next = CutIndex(0);
     let mut v: usize = 0;
     while v < n {
         let g = v as u32;
         if g != r {
-            let chosen = charge_group(w, &label, n, Vertex(g), CutIndex(k), cuts);
+            let chosen = charge_group(w, &label, n, Vertex(g), next, cuts);
             if !chosen.found {
                 return shut(chosen.set);
             }
             tails[v] = chosen.tail.0 as u8;
             heads[v] = chosen.head.0 as u8;
-            k = chosen.next.0;
+            next = chosen.next;
         }
         v += 1;
     }
     let left = group_bound(n);
-    let next = CutIndex(k);
-    let tree = plan_groups(w, &label, &tails, &heads, n, Vertex(r), left, next, cuts);
+    let tree = plan_groups(w, &label, &tails, &heads, n, root, left, next, cuts);
     conclude(tree, cuts)
 }

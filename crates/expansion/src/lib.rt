@@ -111,17 +111,6 @@ pub fn expand_cycle(
     requires { ⌜ (length (now parents) ≡ max-vertices) × (n ≤ max-vertices) × (v .0 < n) × Labels-below n (now label) × Cycle-entered (now parents) (now label) (now stamp) n (v .0) ⌝ }
     ensures { λ _. ⌜ Expansion (now (parents .entry)) (now (label .entry)) (now (stamp .entry)) (now (tails .entry)) (now (heads .entry)) n (v .0) (now (parents .exit)) ⌝ }
 {
-    let at = v.0;
-    let e = entry_vertex(label, stamp, parents, n, Vertex(at));
-    let entry = e.0;
-    take_arcs(
-        label,
-        stamp,
-        tails,
-        heads,
-        n,
-        Vertex(at),
-        Vertex(entry),
-        parents,
-    );
+    let entry = entry_vertex(label, stamp, parents, n, v);
+    take_arcs(label, stamp, tails, heads, n, v, entry, parents);
 }

@@ -4,9 +4,9 @@ use mathlib.Core.Path.{_≡_, refl, sym, ap, _∙_, subst}
 use mathlib.Core.Bool.{Bool, true, false, cond}
 use mathlib.Core.List.{List}
 use mathlib.Core.Logic.{_⊎_, inl, inr, ⊎-elim}
-use Prim.Native.Nat.{ℕ, zero, suc, _+_, _*_, _/_, _%_, _≤_, _<_}
+use Prim.Native.Nat.{ℕ, zero, suc, _+_, _*_, _/_, _%_, _≤_}
 use native.Mathlib.Omega.{arith}
-use native.Mathlib.Nat.{div-add-mod', div-lt-iff-lt-mul, mod-lt, not-suc-le-zero}
+use native.Mathlib.Nat.{div-add-mod'}
 use lib.Arith.{digits-div, digits-mod, digits-lt}
 use lib.Dec.{leb}
 use lib.ListN.{length, getD}
@@ -14,6 +14,7 @@ use borrow.Author.Tests.{leb-true, le-leb}
 use Rattle.base.specs.Lists.{tabulate, any-of, all-of}
 use Rattle.base.proofs.Tests.{test, not-both, and-left, and-right, and-both}
 use Rattle.base.proofs.ListLaws.{length-tabulate, getD-tabulate, tabulate-is}
+use Rattle.base.proofs.GridLaws.{grid-row, grid-column}
 use Rattle.instance.specs.Instance.{Instance, is-arc}
 use Rattle.instance.specs.Arborescence.{is-arborescence, total, uses}
 use Rattle.instance.specs.States.{bound, fits, fitting, state-over, state, states}
@@ -136,19 +137,10 @@ module _ (s : Instance) where
             (state-reads s t h);
       }
 
-  -- a cell in the dense list is a tail and a head
-  some-vertex : (i : ℕ) → i < s .n * s .n → 0 < s .n
-  some-vertex i l = at (s .n) refl
-    where
-      at : (k : ℕ) → s .n ≡ k → 0 < s .n
-      at zero e = absurd (not-suc-le-zero (subst (λ (k : ℕ). i < k * k) e l))
-      at (suc k) e = omega arith
-
   pub states-only : (vs : List ℕ) → States-read s vs → vs ≡ states s
   states-only vs r =
       tabulate-is (s .n * s .n) vs cell-state 0 (r .size)
       (λ i l.
-      let z = some-vertex i l in
       sym (ap (λ (j : ℕ). getD vs j 0) (div-add-mod' i (s .n)))
-      ∙ state-only s (i / s .n) (i % s .n) (getD vs (i / s .n * s .n + i % s .n) 0) (r .reads (i / s .n) (i % s .n) (div-lt-iff-lt-mul z .1 l) (mod-lt i z)))
+      ∙ state-only s (i / s .n) (i % s .n) (getD vs (i / s .n * s .n + i % s .n) 0) (r .reads (i / s .n) (i % s .n) (grid-row (s .n) i l) (grid-column (s .n) i l)))
       ∙ sym states-tabulate

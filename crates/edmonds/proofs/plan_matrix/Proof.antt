@@ -11,10 +11,10 @@ use Rattle.edmonds.proofs.plan_matrix.Statement.{statement}
 use Rattle.edmonds.proofs.plan_matrix.Tie as tie
 
 abbrev Inv-loop : tie.InvT-loop
-Inv-loop w₀ n cuts₀ r label tails₀ heads₀ k₀ v₀ w cuts tails heads k v = (v ≤ n) × Begun w₀ w label tails heads n r cuts₀ cuts k v
+Inv-loop w₀ n root cuts₀ r label tails₀ heads₀ next₀ v₀ w cuts tails heads next v = (v ≤ n) × Begun w₀ w label tails heads n r cuts₀ cuts (next .0) v
 
 abbrev μ-loop : tie.MeasureT-loop
-μ-loop w₀ n cuts₀ r label tails₀ heads₀ k₀ v₀ w cuts tails heads k v = n - v
+μ-loop w₀ n root cuts₀ r label tails₀ heads₀ next₀ v₀ w cuts tails heads next v = n - v
 
 own-labels-requires : tie.Need-own-labels-requires Inv-loop μ-loop
 own-labels-requires c κs = search needs
@@ -88,7 +88,7 @@ loop-again c =
     let b = al .loop .inv .1 in (
       omega arith,
       ⊎-elim
-          (λ w. rw (w .9, w .10, w .11, w .12, w .13)
+          (λ w. rw (w .10, w .11, w .12, w .13, w .14)
           (one-charged (pre .0 .small) (ol .own-labels .ensures) (pre .0 .root-below) b (il .loop-test .taken) (w .0 .taken) (w .4 .ensures) (not-false (w .4 .result .found) (w .6 .left))))
           (λ w. rw (w .1, w .2, w .3, w .4, w .5) (pass-root (pre .0 .small) (ol .own-labels .ensures) (pre .0 .root-below) b (w .0 .left)))
           (c .if1 .came),

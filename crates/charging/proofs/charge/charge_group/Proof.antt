@@ -45,8 +45,8 @@ members-requires-2 c κs = search needs
 put-cut-requires : tie.Need-put-cut-requires
 put-cut-requires c κs = search needs
 
-add-t23 : tie.Need-add-t23
-add-t23 c = search needs
+add-t16 : tie.Need-add-t16
+add-t16 c = search needs
 
 arc-requires-2 : tie.Need-arc-requires-2
 arc-requires-2 c κs = search needs
@@ -54,7 +54,7 @@ arc-requires-2 c κs = search needs
 returns-3 : tie.Need-returns-3
 returns-3 c =
     let e = c .arc2 .ensures in
-    let pc = c .before in
+    let pc = c .before .before in
     let lw = pc .before .before .before in
     let ch = lw .before .before .before .before in
     let pre = ch .before .before .pre in
@@ -77,6 +77,6 @@ charge-group-spec =
     lower-arcs-requires
     members-requires-2
     put-cut-requires
-    add-t23
+    add-t16
     arc-requires-2
     returns-3)

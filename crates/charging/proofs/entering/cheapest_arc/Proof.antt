@@ -9,10 +9,10 @@ use Rattle.charging.proofs.entering.cheapest_arc.Statement.{statement}
 use Rattle.charging.proofs.entering.cheapest_arc.Tie as tie
 
 abbrev Inv-loop : tie.InvT-loop
-Inv-loop w label n group own best₀ h₀ best h = (h ≤ n) × Cheapest w label n group h (best .tail .0) (best .head .0) (best .weight)
+Inv-loop w label n g own best₀ h₀ best h = (h ≤ n) × Cheapest w label n (g .0) h (best .tail .0) (best .head .0) (best .weight)
 
 abbrev μ-loop : tie.MeasureT-loop
-μ-loop w label n group own best₀ h₀ best h = n - h
+μ-loop w label n g own best₀ h₀ best h = n - h
 
 cast-own : tie.Need-cast-own Inv-loop μ-loop
 cast-own c = omega arith
@@ -26,7 +26,7 @@ element-copy-out-if1 c = omega arith
 cheapest-into-requires : tie.Need-cheapest-into-requires Inv-loop μ-loop
 cheapest-into-requires c κs =
     let at1 = c .before .before .before in
-    let pre = at1 .before .pre in
+    let pre = at1 .before .before .pre in
     ((pre .0, pre .1, omega arith, c .if1 .taken), at1 .loop .inv .1)
 
 add-h : tie.Need-add-h Inv-loop μ-loop

@@ -8,16 +8,16 @@ use Rattle.charging.proofs.lower.lower_arcs.Statement.{statement}
 use Rattle.charging.proofs.lower.lower_arcs.Tie as tie
 
 abbrev Inv-loop : tie.InvT-loop
-Inv-loop w₀ label n value group own h₀ w h = (h ≤ n) × Lowered-cells w₀ w label n group value h
+Inv-loop w₀ label n g value own h₀ w h = (h ≤ n) × Lowered-cells w₀ w label n (g .0) value h
 
 abbrev μ-loop : tie.MeasureT-loop
-μ-loop w₀ label n value group own h₀ w h = n - h
+μ-loop w₀ label n g value own h₀ w h = n - h
 
 cast-own : tie.Need-cast-own Inv-loop μ-loop
 cast-own c = omega arith
 
 loop-holds : tie.Need-loop-holds Inv-loop μ-loop
-loop-holds c = (omega arith, none-lowered _ _ _ _ _ (c .pre .0))
+loop-holds c = (omega arith, none-lowered _ _ _ _ _ (c .before .pre .0))
 
 element-copy-out-if1 : tie.Need-element-copy-out-if1 Inv-loop μ-loop
 element-copy-out-if1 c = omega arith
@@ -25,7 +25,7 @@ element-copy-out-if1 c = omega arith
 lower-into-requires : tie.Need-lower-into-requires Inv-loop μ-loop
 lower-into-requires c κs =
     let at1 = c .before .before .before .before in
-    let pre = at1 .before .pre in
+    let pre = at1 .before .before .pre in
     let own = c .before .if1 .taken in (
       (at1 .loop .inv .1 .size, pre .1, pre .2, omega arith, own),
       λ t l ne. let x = pre .3 (at1 .loop .h) (omega arith) own t l ne in let y = at1 .loop .inv .1 .rest t (at1 .loop .h) (omega arith) (inr (omega arith)) in omega arith,
@@ -41,7 +41,7 @@ loop-again : tie.Need-loop-again Inv-loop μ-loop
 loop-again c =
     let at1 = c .before .before .before in
     let at-h = at1 .loop .h in
-    let small = at1 .before .pre .1 in (
+    let small = at1 .before .before .pre .1 in (
       omega arith,
       ⊎-elim
           (λ w. rw (w .3) (next-vertex _ _ _ _ _ (at1 .loop .w) _ at-h (omega arith) (at1 .loop .inv .1) (w .2 .ensures)))

@@ -82,7 +82,7 @@ returns t c =
 
 contracted-labels-requires : (t : ℕ) → lts.Need-contracted-labels-requires (callees t) (at-measure t) plan.Post
 contracted-labels-requires t c κs =
-    let e1 = c .before .before in
+    let e1 = c .before .before .before in
     let fc = e1 .before .before in
     let st = fc .before in
     let r = st .pre .1 .0 in
@@ -92,7 +92,7 @@ contracted-labels-requires t c κs =
 charge-group-requires : (t : ℕ) → lts.Need-charge-group-requires (callees t) (at-measure t) plan.Post
 charge-group-requires t c κs =
     let cl = c .before .before .before in
-    let e1 = cl .before .before .before in
+    let e1 = cl .before .before .before .before in
     let fc = e1 .before .before in
     let st = fc .before in
     let r = st .pre .1 .0 in
@@ -111,7 +111,7 @@ returns-2 t c =
     let t2 = c .before in
     let cg = t2 .before .before in
     let cl = cg .before .before .before .before in
-    let e1 = cl .before .before .before in
+    let e1 = cl .before .before .before .before in
     let fc = e1 .before .before in
     let st = fc .before in
     let r = st .pre .1 .0 in
@@ -122,14 +122,14 @@ returns-2 t c =
 
 -- what replaces the ends of an arc fits there
 stored : (t : ℕ) (c : lts.Else2 (callees t) (at-measure t) plan.Post)
-    → (c .before .before .before .before .before .before .before .before .before .before .before .find-cycle .result .at .0 < max-vertices)
+    → (c .before .before .before .before .before .before .before .before .before .before .before .before .find-cycle .result .at .0 < max-vertices)
     × (c .before .before .charge-group .result .tail .0 < max-vertices)
     × (c .before .before .charge-group .result .head .0 < max-vertices)
 stored t c =
     let e2 = c in
     let cg = e2 .before .before in
     let cl = cg .before .before .before .before in
-    let e1 = cl .before .before .before in
+    let e1 = cl .before .before .before .before in
     let fc = e1 .before .before in
     let st = fc .before in
     let r = st .pre .1 .0 in
@@ -154,7 +154,7 @@ sub-plan-groups t c =
     let e2 = c .before .before .before .before .before .before .before in
     let cg = e2 .before .before in
     let cl = cg .before .before .before .before in
-    let e1 = cl .before .before .before in
+    let e1 = cl .before .before .before .before in
     let fc = e1 .before .before in
     let st = fc .before in
     let r = st .pre .1 .0 in
@@ -168,7 +168,7 @@ plan-groups-requires t c κs =
     let e2 = tails .before in
     let cg = e2 .before .before in
     let cl = cg .before .before .before .before in
-    let e1 = cl .before .before .before in
+    let e1 = cl .before .before .before .before in
     let fc = e1 .before .before in
     let st = fc .before in
     let r = st .pre .1 .0 in
@@ -188,7 +188,7 @@ returns-3 t c =
     let e2 = pg .before .before .before .before .before .before .before .before .before in
     let cg = e2 .before .before in
     let cl = cg .before .before .before .before in
-    let e1 = cl .before .before .before in
+    let e1 = cl .before .before .before .before in
     let fc = e1 .before .before in
     let st = fc .before in
     let r = st .pre .1 .0 in
@@ -206,7 +206,7 @@ expand-cycle-requires t c κs =
     let e2 = pg .before .before .before .before .before .before .before .before .before in
     let cg = e2 .before .before in
     let cl = cg .before .before .before .before in
-    let e1 = cl .before .before .before in
+    let e1 = cl .before .before .before .before in
     let fc = e1 .before .before in
     let st = fc .before in
     let r = st .pre .1 .0 in
@@ -230,7 +230,7 @@ returns-4 t c =
     let e2 = pg .before .before .before .before .before .before .before .before .before in
     let cg = e2 .before .before in
     let cl = cg .before .before .before .before in
-    let e1 = cl .before .before .before in
+    let e1 = cl .before .before .before .before in
     let fc = e1 .before .before in
     let st = fc .before in
     let r = st .pre .1 .0 in
