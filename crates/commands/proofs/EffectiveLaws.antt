@@ -139,7 +139,7 @@ module _ (s : Instance) where
       rw other (mark-elsewhere es t h (all-of-rest (on-arc s) (entry-mark m u v) es a) e)
   mark-elsewhere (entry-budget v ∷ es) t h a e = mark-elsewhere es t h (all-of-rest (on-arc s) (entry-budget v) es a) e
 
-  -- by the index of the cell, and by its ends
+  -- by the index of the cell
   pub cell-elsewhere : (k : Log) → On-arcs s k → (i : ℕ) → i < cells → is-arc s (i / 32) (i % 32) ≡ false → mark-at (effective k) i ≡ mark-at s i
   unfolding effective mark
   cell-elsewhere k n i b e =
@@ -151,12 +151,3 @@ module _ (s : Instance) where
   pub effective-cell-elsewhere :
       (cs : List Command) (i : ℕ) → i < cells → is-arc s (i / 32) (i % 32) ≡ false → mark-at (effective (log-after cs (new-log s))) i ≡ mark-at s i
   effective-cell-elsewhere cs i b e = cell-elsewhere (log-after cs (new-log s)) (log-on-arcs cs (new-log s) (new-on-arcs s)) i b e
-
-  pub effective-elsewhere :
-      (cs : List Command) (t h : ℕ) → t < max-vertices → h < max-vertices → is-arc s t h ≡ false →
-      mark (effective (log-after cs (new-log s))) t h ≡ mark s t h
-  unfolding mark
-  effective-elsewhere cs t h lt lh e =
-      let q : cell t h / 32 ≡ t = omega arith in
-      let r : cell t h % 32 ≡ h = omega arith in
-      effective-cell-elsewhere cs (cell t h) (omega arith) (rw (q, r) e)

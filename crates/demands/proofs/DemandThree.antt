@@ -1,5 +1,5 @@
--- DEMAND 3, of the public calls themselves and for every caller: one claim about every list of commands on a freshly opened card, refused ones
--- included, looks and writes between them or not. Assumes nothing.
+-- DEMAND 3, of the public calls themselves and for every caller: one claim about every list of commands on a freshly
+-- opened card, refused ones included, looks and writes between them or not. Assumes nothing.
 use mathlib.Core.Path.{_≡_, refl, sym, ap, _∙_, subst}
 use mathlib.Core.Bool.{Bool, true, false, true≢false}
 use mathlib.Core.List.{List, [], _∷_}
@@ -57,14 +57,15 @@ run-follows (then-command {c = c} {b = b} {r = r} l rest) k f =
 run-follows (then-look l rest) k f = run-follows rest k f
 run-follows (then-write l rest) k f = run-follows rest k f
 
--- "every call's answer, accepted or the refusal's number, is the book's. A look at the last board, whatever buffers it is lent, gives 14
--- exactly when one is too short; otherwise the n times n states are those of 'Link states', over the feed trees of the card's positions,
--- root and prices under the standing marks, within the standing budget."
+-- "every call's answer, accepted or the refusal's number, is the book's. A look at the last board, whatever buffers it
+-- is lent, gives 14 exactly when one is too short; otherwise the n times n states are those of 'Link states', over the
+-- feed trees of the card's positions, root and prices under the standing marks, within the standing budget."
 pub record Demand-3 (ws : List ℕ) (cs : List Command) (xs : List ℕ) (v : View) (old new : Buffers) : Type 0 where
   pub answers : xs ≡ log-answers cs (new-log (instance-in ws))
   pub last-look : Looks-at true (short-for (instance-in ws .n) old) (effective (log-after cs (new-log (instance-in ws)))) v old new
-  -- the n times n states in the buffer, read in document 01's words and in both directions: closed exactly when no fitting arborescence of the
-  -- effective instance uses the arc, open exactly when some do and some don't, sure exactly when there is one and all use it
+  -- the n times n states in the buffer, read in document 01's words and in both directions: closed exactly when no
+  -- fitting arborescence of the effective instance uses the arc, open exactly when some do and some don't, sure exactly
+  -- when there is one and all use it
   pub states-shown :
       short-for (instance-in ws .n) old ≡ false →
       States-read (effective (log-after cs (new-log (instance-in ws)))) (take (instance-in ws .n * instance-in ws .n) (new .states))

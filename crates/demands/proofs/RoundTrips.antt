@@ -1,6 +1,7 @@
--- The round trips of the calls themselves: "A read card written back yields the same bytes; a written board read back has equal positions, root
--- and budget and, where a link can be, equal prices and marks." Of a board that was reached from a card by a run of calls the second holds of
--- every cell: where no link can be, card and board hold the same. Boards that are called equal are written alike. Assumes nothing.
+-- The round trips of the calls themselves: "A read card written back yields the same bytes; a written board read back
+-- has equal positions, root and budget and, where a link can be, equal prices and marks." Of a board that was reached
+-- from a card by a run of calls the second holds of every cell: where no link can be, card and board hold the same.
+-- Boards that are called equal are written alike. Assumes nothing.
 use mathlib.Core.Path.{_≡_, refl, sym, ap, _∙_, subst}
 use mathlib.Core.Bool.{true, false, cond}
 use mathlib.Core.List.{List}

@@ -16,7 +16,7 @@ use Rattle.instance.specs.Arborescence.{parent}
 use Rattle.instance.specs.Cuts.{Cut, cuts-from, cuts-in, values, No-entry}
 use Rattle.instance.specs.Matrix.{unmarked, Matrix-ok}
 use Rattle.instance.proofs.CutLaws.{cuts-length, cuts-begun}
-use Rattle.instance.proofs.MatrixLaws.{total-most}
+use Rattle.instance.proofs.MatrixLaws.{matrix-total-most}
 use Rattle.contraction.specs.Cells.{at, cost, Own-labels}
 use Rattle.contraction.specs.Groups.{Lowered}
 use Rattle.contraction.specs.Trees.{Each, Tree, Fine}
@@ -123,7 +123,7 @@ module _ (ws₀ : List ℕ) (n root : ℕ) (ok : Matrix-ok n root ws₀) where
             let small = ok .small in
             let f = few in
             let e = minimum .proved .adds in
-            let t = total-most n root ws₀ ok (take n ps) in
+            let t = matrix-total-most n root ws₀ ok (take n ps) in
             (omega arith, omega arith)
 
         tree-planned : Planned-matrix n root ws₀ ws′ cuts₀ cuts′ (concluded true ps count set cuts′)

@@ -1,4 +1,5 @@
--- What an arc and a remaining arc are, taken apart; an arc as a program reads it; with no marks every arc remains. Assumes nothing.
+-- What an arc and a remaining arc are, taken apart; an arc as a program reads it; with no marks every arc remains.
+-- Assumes nothing.
 use mathlib.Core.Path.{_≡_, refl}
 use mathlib.Core.Bool.{true, false, _&&_, not, and-true}
 use mathlib.Core.List.{List}
@@ -50,7 +51,8 @@ module _ (s : Instance) (t h : ℕ) where
   pub remaining-ends : remaining s t h ≡ true → Ends (s .n) (s .root) t h
   remaining-ends e = arc-ends (remaining-arc e)
 
--- AS A PROGRAM READS IT: an array has 1,024 elements, so what is read past its end (0 there, no arc in the definitions) never matters
+-- AS A PROGRAM READS IT: an array has 1,024 elements, so what is read past its end (0 there, no arc in the definitions)
+-- never matters
 pub arc-cell : (n r t h : ℕ) → n ≤ max-vertices → can-be-arc n r t h ≡ true → cell t h < cells
 arc-cell n r t h l e = let k = ends n r t h e in omega arith
 

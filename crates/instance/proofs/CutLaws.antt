@@ -1,4 +1,4 @@
--- Cuts in a buffer of words: how many, from its front, one part after another, what a store elsewhere leaves, and one
+-- Cuts in a buffer of words: how many, one part after another, what a store elsewhere leaves, and one
 -- pair stored. Assumes nothing.
 use mathlib.Core.Path.{_≡_, refl, sym, ap, _∙_}
 use mathlib.Core.List.{List, [], _∷_, _++_}
@@ -6,7 +6,7 @@ use mathlib.Core.Logic.{_⊎_, inl}
 use Prim.Native.Nat.{ℕ, zero, suc, _+_, _*_, _-_, _≤_, _<_}
 use native.Mathlib.Omega.{arith}
 use native.Mathlib.Nat.{zero-add, suc-add, sub-zero}
-use lib.ListN.{length, set, length-set, getD, List·getD-append}
+use lib.ListN.{length, set, length-set, getD}
 use lib.Seq.{getD-set-same, getD-set-other}
 use Rattle.instance.specs.Cuts.{Cut, cuts-from, cuts-in, values}
 
@@ -14,18 +14,6 @@ pub cuts-length : (a i : ℕ) (l : List ℕ) → length (cuts-from a i l) ≡ a
 unfolding cuts-from
 cuts-length zero i l = refl
 cuts-length (suc a) i l = ap suc (cuts-length a (suc i) l)
-
--- cuts are read from the front of the words
-cuts-front : (k i : ℕ) (ws zs : List ℕ) → 2 * (i + k) ≤ length ws → cuts-from k i (ws ++ zs) ≡ cuts-from k i ws
-unfolding cuts-from
-cuts-front zero i ws zs h = refl
-cuts-front (suc k) i ws zs h =
-    rw (List·getD-append ws zs 0 (2 * i) (omega arith), List·getD-append ws zs 0 (2 * i + 1) (omega arith))
-    (ap (λ (cs : List Cut). record { set = getD ws (2 * i) 0; value = getD ws (2 * i + 1) 0 } ∷ cs) (cuts-front k (suc i) ws zs (omega arith)))
-
-pub cuts-in-front : (k : ℕ) (ws zs : List ℕ) → 2 * k ≤ length ws → cuts-in k (ws ++ zs) ≡ cuts-in k ws
-unfolding cuts-in
-cuts-in-front k ws zs h = cuts-front k 0 ws zs (omega arith)
 
 cuts-append : (a b i j : ℕ) (l : List ℕ) → j ≡ i + a → cuts-from a i l ++ cuts-from b j l ≡ cuts-from (a + b) i l
 unfolding cuts-from

@@ -1,5 +1,6 @@
--- Edges of the definitions, computed: document 01's cuts for P1 and its traps, sets that are no cut, two pins into one vertex, lists
--- that are no arborescence, a matrix that is too short, a root other than 0 and weights of 0. Assumes nothing.
+-- Edges of the definitions, computed: document 01's cuts for P1 and its traps, sets that are no cut, two pins into one
+-- vertex, lists that are no arborescence, a matrix that is too short, a root other than 0 and weights of 0. Assumes
+-- nothing.
 use mathlib.Core.Path.{_≡_, refl}
 use mathlib.Core.Bool.{Bool, true, false, _&&_, not, cond}
 use mathlib.Core.List.{List, [], _∷_, map}
@@ -124,8 +125,8 @@ pub banned-arc : is-arc (instance-q 16 (arc 0 1 banned ∷ [])) 0 1 && not (rema
 unfolding any-below instance-q instance-of filled weight mark can-be-arc is-arc is-pinned other-pinned remaining
 banned-arc = refl
 
--- LISTS: P1's; 255 elsewhere than at the root, something else at the root, too short, too long, a cycle, a vertex that is its own
--- parent, a parent that is no vertex, an arc that is none (3→2)
+-- LISTS: P1's; 255 elsewhere than at the root, something else at the root, too short, too long, a cycle, a vertex that
+-- is its own parent, a parent that is no vertex, an arc that is none (3→2)
 pub lists-judged :
     map (is-arborescence (instance-q 16 []))
     ((255 ∷ 0 ∷ 1 ∷ 1 ∷ []) ∷ (255 ∷ 0 ∷ 255 ∷ 1 ∷ []) ∷ (0 ∷ 0 ∷ 1 ∷ 1 ∷ []) ∷ (255 ∷ 0 ∷ 1 ∷ []) ∷ (255 ∷ 0 ∷ 1 ∷ 1 ∷ 1 ∷ [])
@@ -145,8 +146,9 @@ pub missing : is-arc (record { n = 2; root = 0; budget = 0; weights = []; marks 
 unfolding is-arc can-be-arc weight
 missing = refl
 
--- ROOT 2, arcs of weight 0, and cells that can never be an arc (into the root, from a vertex to itself, outside the instance) that
--- hold weights and pins: 2→0 and 0→1 are the only arborescence of total 0; with 2→1 for 0→1 it costs 3; that with 1→0 costs 7
+-- ROOT 2, arcs of weight 0, and cells that can never be an arc (into the root, from a vertex to itself, outside the
+-- instance) that hold weights and pins: 2→0 and 0→1 are the only arborescence of total 0; with 2→1 for 0→1 it costs 3;
+-- that with 1→0 costs 7
 unfoldable pub root-two : Instance
 root-two =
     instance-of 3 2 3 (arc 2 0 0 ∷ arc 0 1 0 ∷ arc 2 1 3 ∷ arc 1 0 4 ∷ arc 0 2 7 ∷ arc 1 1 0 ∷ arc 3 1 0 ∷ [])

@@ -54,9 +54,9 @@ store-fits m i x size le fits j l =
     (λ (e : eqb j i ≡ false). let y = getD-set-other m i j x no-arc (eqb-false j i e) in let f = fits j l in omega arith) (test (eqb j i))
 
 module _ (n r : ℕ) (m : List ℕ) (ok : Matrix-ok n r m) where
-  pub weight-most : (t h : ℕ) → weight (unmarked n r m) t h ≤ no-arc
+  pub matrix-weight-most : (t h : ℕ) → weight (unmarked n r m) t h ≤ no-arc
   unfolding weight unmarked
-  weight-most t h =
+  matrix-weight-most t h =
       ⊎-elim (λ (e : ltb (cell t h) cells ≡ true). ok .bounded (cell t h) (ltb-true (cell t h) cells e))
       (λ (e : ltb (cell t h) cells ≡ false).
       let l = ltb-false (cell t h) cells e in
@@ -65,11 +65,11 @@ module _ (n r : ℕ) (m : List ℕ) (ok : Matrix-ok n r m) where
       omega arith)
       (test (ltb (cell t h) cells))
 
-  pub total-most : (ps : List ℕ) → total (unmarked n r m) ps ≤ n * no-arc
+  pub matrix-total-most : (ps : List ℕ) → total (unmarked n r m) ps ≤ n * no-arc
   unfolding total unmarked
-  total-most ps =
+  matrix-total-most ps =
       sum-most n (λ v. cond (eqb v r) 0 (weight (unmarked n r m) (parent ps v) v)) no-arc
-      (λ v l. cond-most (eqb v r) 0 (weight (unmarked n r m) (parent ps v) v) no-arc (omega arith) (weight-most (parent ps v) v))
+      (λ v l. cond-most (eqb v r) 0 (weight (unmarked n r m) (parent ps v) v) no-arc (omega arith) (matrix-weight-most (parent ps v) v))
 
 -- THE MATRIX OF WHAT REMAINS
 -- what it holds at a cell

@@ -1,5 +1,5 @@
--- Instances that are the same where an arc can be have the same arcs and the same remaining arcs, and are equally valid. Assumes
--- nothing.
+-- Instances that are the same where an arc can be have the same arcs and the same remaining arcs, and are equally
+-- valid. Assumes nothing.
 use mathlib.Core.Path.{_≡_, refl, sym, ap, _∙_, fun-ext}
 use mathlib.Core.Bool.{Bool, true, false, _&&_, not, cond}
 use Prim.Native.Nat.{ℕ, _/_, _%_}

@@ -1,5 +1,5 @@
--- What a valid instance holds: its ranges, each cell's weight, and the weight and the mark of each arc; a cell as a program reads it. Assumes
--- nothing.
+-- What a valid instance holds: its ranges, each cell's weight, and the weight and the mark of each arc; a cell as a
+-- program reads it. Assumes nothing.
 use mathlib.Core.Path.{_≡_, refl}
 use mathlib.Core.Bool.{Bool, true, false, _&&_, not}
 use mathlib.Core.Logic.{⊎-elim}

@@ -1,5 +1,6 @@
--- P1 to P10 of document 01 ("Sheet Q and its outcomes"), as one list with one claim about the whole list: each outcome, all states,
--- and every arborescence of the least total, among them the parents that document 01 shows. Computed. Assumes nothing.
+-- P1 to P10 of document 01 ("Sheet Q and its outcomes"), as one list with one claim about the whole list: each outcome,
+-- all states, and every arborescence of the least total, among them the parents that document 01 shows. Computed.
+-- Assumes nothing.
 use mathlib.Core.Path.{_≡_, refl}
 use mathlib.Core.List.{List, [], _∷_, map}
 use Prim.Native.Nat.{ℕ}
@@ -41,8 +42,8 @@ instance-q b ms =
 unfoldable pub two : (budget : ℕ) → (marks : List At) → Instance
 two b ms = instance-of 2 0 b (arc 0 1 5 ∷ []) ms
 
--- What is claimed of an instance: its outcome, every arborescence of the total that the outcome names, and all states. The list of
--- optimal arborescences has one entry exactly where document 01's parents are the only cheapest ones.
+-- What is claimed of an instance: its outcome, every arborescence of the total that the outcome names, and all states.
+-- The list of optimal arborescences has one entry exactly where document 01's parents are the only cheapest ones.
 pub record Row : Type 0 where
   pub gives : Outcome
   pub optimal : List (List ℕ)

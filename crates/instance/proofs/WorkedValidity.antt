@@ -1,4 +1,5 @@
--- Which instances are valid, at the ranges' ends: one list with one claim about the whole list. Computed. Assumes nothing.
+-- Which instances are valid, at the ranges' ends: one list with one claim about the whole list. Computed. Assumes
+-- nothing.
 use mathlib.Core.Path.{_≡_, refl}
 use mathlib.Core.Bool.{Bool, true, false}
 use mathlib.Core.List.{List, [], _∷_, map}

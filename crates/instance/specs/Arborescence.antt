@@ -15,8 +15,8 @@ is-pinned s t h = is-arc s t h && eqb (mark s t h) pinned
 unfoldable pub other-pinned : Instance → (tail head : ℕ) → Bool
 other-pinned s t h = any-below (s .n) (λ g. not (eqb g t) && is-pinned s g h)
 
--- A remaining arc (document 01: a remaining link) is "not banned, and not entering a position that has a different pinned
--- feeder. Two pins into one position therefore leave it with none."
+-- A remaining arc (document 01: a remaining link) is "not banned, and not entering a position that has a different
+-- pinned feeder. Two pins into one position therefore leave it with none."
 unfoldable pub remaining : Instance → (tail head : ℕ) → Bool
 remaining s t h = is-arc s t h && (not (eqb (mark s t h) banned) && not (other-pinned s t h))
 
@@ -32,8 +32,8 @@ reaches (suc k) r ps v = eqb v r || reaches k r ps (parent ps v)
 unfoldable pub parent-ok : Instance → (parents : List ℕ) → (v : ℕ) → Bool
 parent-ok s ps v = cond (eqb v (s .root)) (eqb (parent ps v) no-parent) (remaining s (parent ps v) v && reaches (s .n) (s .root) ps v)
 
--- An arborescence (document 01: a feed tree) "picks one remaining link into each position except the root, so that every
--- position is reached from the root".
+-- An arborescence (document 01: a feed tree) "picks one remaining link into each position except the root, so that
+-- every position is reached from the root".
 unfoldable pub is-arborescence : Instance → (parents : List ℕ) → Bool
 is-arborescence s ps = eqb (length ps) (s .n) && all-below (s .n) (parent-ok s ps)
 

@@ -1,5 +1,5 @@
--- Every list that could be a list of parents, and among them the arborescences and the least total. Assumes nothing: these are
--- definitions. They say what is right by listing everything; no program computes them.
+-- Every list that could be a list of parents, and among them the arborescences and the least total. Assumes nothing:
+-- these are definitions. They say what is right by listing everything; no program computes them.
 use mathlib.Core.Bool.{cond}
 use mathlib.Core.List.{List, [], _∷_, _++_, map}
 use mathlib.Core.Option.{Option, none, some}

@@ -59,19 +59,22 @@ unfoldable pub all-positive : List Cut → Bool
 all-positive [] = true
 all-positive (c ∷ cs) = leb 1 (c .value) && all-positive cs
 
--- Dual feasible cuts: "for each remaining link, the amounts of the cuts it enters add to at most its price". A value may be 0 here.
+-- Dual feasible cuts: "for each remaining link, the amounts of the cuts it enters add to at most its price". A value
+-- may be 0 here.
 pub record Feasible (s : Instance) (cs : List Cut) : Type 0 where
   pub sets : sets-ok s cs ≡ true
   pub covered : (t h : ℕ) → remaining s t h ≡ true → charged cs t h ≤ weight s t h
 
--- Cuts that prove a price: "each amount is at least 1", none overcharges, "all amounts add to the cheapest total", "at most 2n − 3".
+-- Cuts that prove a price: "each amount is at least 1", none overcharges, "all amounts add to the cheapest total", "at
+-- most 2n − 3".
 pub record Proves (s : Instance) (cs : List Cut) (v : ℕ) : Type 0 where
   pub feasible : Feasible s cs
   pub positive : all-positive cs ≡ true
   pub few : length cs ≤ cut-limit (s .n)
   pub adds : values cs ≡ v
 
--- The reduced cost (document 01: reduced price) of a remaining arc is "its price less the amounts of the cuts it enters".
+-- The reduced cost (document 01: reduced price) of a remaining arc is "its price less the amounts of the cuts it
+-- enters".
 unfoldable pub reduced-cost : Instance → List Cut → (tail head : ℕ) → ℕ
 reduced-cost s cs t h = weight s t h - charged cs t h
 

@@ -6,8 +6,8 @@ use lib.Dec.{ltb, eqb}
 use lib.ListN.{getD}
 use Rattle.instance.specs.Limits.{no-arc, free}
 
--- An instance (document 01: a sheet with its marks): n vertices (positions), numbered from 0, of which one is the root (the
--- console); a weight (price) and a mark for each cell.
+-- An instance (document 01: a sheet with its marks): n vertices (positions), numbered from 0, of which one is the root
+-- (the console); a weight (price) and a mark for each cell.
 pub record Instance : Type 0 where
   pub n : ℕ
   pub root : ℕ
@@ -39,6 +39,7 @@ mark s t h = mark-at s (cell t h)
 unfoldable pub can-be-arc : (n root tail head : ℕ) → Bool
 can-be-arc n r t h = (ltb t n && ltb h n) && (not (eqb t h) && not (eqb h r))
 
--- An arc (document 01: a link) "exists where the two differ, the fed one is not the root, and the price is not 'no link'".
+-- An arc (document 01: a link) "exists where the two differ, the fed one is not the root, and the price is not 'no
+-- link'".
 unfoldable pub is-arc : Instance → (tail head : ℕ) → Bool
 is-arc s t h = can-be-arc (s .n) (s .root) t h && not (eqb (weight s t h) no-arc)

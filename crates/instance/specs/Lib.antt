@@ -1,4 +1,5 @@
--- The problem, as document 01 states it. A reader has to believe these files and nothing else about feed trees and link states.
+-- The problem, as document 01 states it. A reader has to believe these files and nothing else about feed trees and link
+-- states.
 pub mod Limits
 pub mod Refusals
 pub mod Marks

@@ -1,4 +1,5 @@
--- The refusals of document 01, each under one name with its sentence; 0 is accepted. Assumes nothing: these are definitions.
+-- The refusals of document 01, each under one name with its sentence; 0 is accepted. Assumes nothing: these are
+-- definitions.
 use Prim.Native.Nat.{ℕ}
 
 -- a card that is refused with one of these gives "no board"
@@ -61,7 +62,7 @@ history-empty = 13
 abbrev pub buffer-short : ℕ
 buffer-short = 14
 
--- "board handed in has a field outside the ranges above, a mark other than 0 on no link, more than 200 recorded, or a record
--- naming no link or restoring a value out of range"
+-- "board handed in has a field outside the ranges above, a mark other than 0 on no link, more than 200 recorded, or a
+-- record naming no link or restoring a value out of range"
 abbrev pub invalid-board : ℕ
 invalid-board = 15

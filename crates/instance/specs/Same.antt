@@ -4,8 +4,8 @@ use mathlib.Core.Bool.{true}
 use Prim.Native.Nat.{ℕ}
 use Rattle.instance.specs.Instance.{Instance, weight, mark, can-be-arc}
 
--- "equal positions, root and budget and, where a link can be, equal prices and marks": cells "that can never be a link .. are never
--- looked at, nor compared"
+-- "equal positions, root and budget and, where a link can be, equal prices and marks": cells "that can never be a link
+-- .. are never looked at, nor compared"
 pub record Same-instance (s t : Instance) : Type 0 where
   pub same-n : s .n ≡ t .n
   pub same-root : s .root ≡ t .root

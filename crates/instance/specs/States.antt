@@ -11,7 +11,8 @@ use Rattle.instance.specs.Candidates.{candidates, cheapest}
 use Rattle.instance.specs.declared.Outcome.{Outcome}
 use Rattle.instance.specs.declared.Outcome.the-variants.{Plan, Over, NoTree}
 
--- which outcomes show a tree: feeders are 255 "everywhere when over or none", and after over or none "no feed lines follow"
+-- which outcomes show a tree: feeders are 255 "everywhere when over or none", and after over or none "no feed lines
+-- follow"
 abbrev pub shows-tree : Outcome → Bool
 shows-tree (Plan v) = true
 shows-tree (Over v) = false
@@ -23,8 +24,8 @@ total-in (Plan v) = v
 total-in (Over v) = v
 total-in NoTree = 0
 
--- "plan with its total; over with the cheapest total; none": the program's own enum, so that there is one. Within budget "if
--- its total is at most the budget"
+-- "plan with its total; over with the cheapest total; none": the program's own enum, so that there is one. Within
+-- budget "if its total is at most the budget"
 unfoldable pub outcome-at : (budget : ℕ) → (cheapest : Option ℕ) → Outcome
 outcome-at b none = NoTree
 outcome-at b (some v) = cond (leb v b) (Plan v) (Over v)
@@ -43,8 +44,8 @@ fits s ps = is-arborescence s ps && leb (total s ps) (bound s)
 unfoldable pub fitting : Instance → List (List ℕ)
 fitting s = select (fits s) (candidates s)
 
--- "0 not a link; 1 closed, no tree uses it; 2 open, some use it and some don't; 3 sure, there is at least one tree and all use it":
--- no arc, excluded, optional, mandatory, over a list of arborescences
+-- "0 not a link; 1 closed, no tree uses it; 2 open, some use it and some don't; 3 sure, there is at least one tree and
+-- all use it": no arc, excluded, optional, mandatory, over a list of arborescences
 unfoldable pub state-over : List (List ℕ) → Instance → (tail head : ℕ) → ℕ
 state-over pss s t h =
     cond (is-arc s t h) (cond (any-of (λ ps. uses ps t h) pss) (cond (all-of (λ ps. uses ps t h) pss) 3 2) 1) 0

@@ -1,5 +1,5 @@
-// The problem in the program's terms: document 01's limits and refusals, vertices, cuts, marks and outcomes, and the checks of an
-// instance's fields. What the words mean is defined in specs/.
+// The problem in the program's terms: document 01's limits and refusals, vertices, cuts, marks and outcomes, and the
+// checks of an instance's fields. What the words mean is defined in specs/.
 pub mod arc; // arc.rt: where an arc can be, and where one is
 pub mod limits; // limits.rt: the numbers of document 01
 pub mod refusals; // refusals.rt: the refusals of document 01
@@ -12,8 +12,8 @@ use limits::BANNED;
 use limits::FREE;
 use limits::PINNED;
 
-// A vertex of an instance (document 01: a position). A vertex and a cut are kept apart, so that neither can be handed in where the
-// other is meant.
+// A vertex of an instance (document 01: a position). A vertex and a cut are kept apart, so that neither can be handed
+// in where the other is meant.
 pub struct Vertex(pub u32);
 
 // The place of a cut among the cuts found, from 0.
@@ -26,7 +26,8 @@ pub enum Mark {
     Banned,
 }
 
-// What planning an instance comes to: the total of a plan, or the cheapest total where it is over the budget, or that there is no tree.
+// What planning an instance comes to: the total of a plan, or the cheapest total where it is over the budget, or that
+// there is no tree.
 pub enum Outcome {
     Plan(u32),
     Over(u32),

@@ -1,5 +1,5 @@
--- One call of a list against the log: a board that is valid and tied to the log stays so, the answer is the log's, and a look between
--- leaves of the buffers what a later look keeps. Assumes nothing.
+-- One call of a list against the log: a board that is valid and tied to the log stays so, the answer is the log's, and
+-- a look between leaves of the buffers what a later look keeps. Assumes nothing.
 use mathlib.Core.Path.{_≡_, refl, ap, _∙_, subst}
 use mathlib.Core.Bool.{Bool, true, false}
 use Prim.Native.Nat.{ℕ, _*_, _≤_}

@@ -1,5 +1,6 @@
--- What a caller learns of the public calls that are functions of this crate, from the functions' own contracts (`Learnt`): so the theorems that
--- cite it are about these functions and no others. The commands' part is `Called` of crate board. Assumes nothing.
+-- What a caller learns of the public calls that are functions of this crate, from the functions' own contracts
+-- (`Learnt`): so the theorems that cite it are about these functions and no others. The commands' part is `Called` of
+-- crate board. Assumes nothing.
 use mathlib.Core.Path.{_≡_}
 use mathlib.Core.List.{List}
 use Prim.Native.Nat.{ℕ}

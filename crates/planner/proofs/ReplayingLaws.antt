@@ -1,5 +1,6 @@
--- The loop that makes a list of calls. What is made so far stands in front of the answers, and what is left would complete the log's
--- answers: so the invariant speaks of the rest of the list and of the log that the board is tied to. Assumes nothing.
+-- The loop that makes a list of calls. What is made so far stands in front of the answers, and what is left would
+-- complete the log's answers: so the invariant speaks of the rest of the list and of the log that the board is tied to.
+-- Assumes nothing.
 use mathlib.Core.Path.{_≡_, refl, sym, ap, _∙_, subst}
 use mathlib.Core.Bool.{Bool, true, false, _||_}
 use mathlib.Core.List.{List, [], _∷_, _++_, append-assoc, append-nil}

@@ -1,6 +1,7 @@
--- What a look yields. Unique, and so an equation: the outcome with its total, the states, every refusal, and all that stands after the filled
--- places. Free, each with what holds of it: the arborescence that is shown, the cuts and how many they are, the set that no arc enters; each
--- is named here, and the buffers are equations with it. Assumes nothing: these are definitions.
+-- What a look yields. Unique, and so an equation: the outcome with its total, the states, every refusal, and all that
+-- stands after the filled places. Free, each with what holds of it: the arborescence that is shown, the cuts and how
+-- many they are, the set that no arc enters; each is named here, and the buffers are equations with it. Assumes
+-- nothing: these are definitions.
 use mathlib.Core.Path.{_≡_}
 use mathlib.Core.Bool.{Bool, true, false, _||_}
 use mathlib.Core.List.{List}
@@ -41,9 +42,9 @@ too-short n a b c = ltb a n || (ltb b (n * n) || ltb c cut-words)
 abbrev pub short-for : (n : ℕ) → Buffers → Bool
 short-for n x = too-short n (length (x .parents)) (length (x .states)) (length (x .cuts))
 
--- A look at an instance: the result, and the buffers before and after. "plan with its total; over with the cheapest total; none"; "the number
--- of pairs is in the result"; "the first n bytes", "the first n times n bytes, feeder by feeder", "the first 122 words", and "bytes and words
--- after those keep their contents".
+-- A look at an instance: the result, and the buffers before and after. "plan with its total; over with the cheapest
+-- total; none"; "the number of pairs is in the result"; "the first n bytes", "the first n times n bytes, feeder by
+-- feeder", "the first 122 words", and "bytes and words after those keep their contents".
 pub record Shows (s : Instance) (r : View) (old new : Buffers) : Type 0 where
   pub tree : List ℕ
   pub found : List Cut

@@ -1,5 +1,5 @@
--- Demand 3 in one definition: the card, the list of calls and the log; the board's own record is not named. Assumes nothing: these are
--- definitions.
+-- Demand 3 in one definition: the card, the list of calls and the log; the board's own record is not named. Assumes
+-- nothing: these are definitions.
 use mathlib.Core.Path.{_≡_}
 use mathlib.Core.Bool.{Bool, true, false, _||_, cond}
 use mathlib.Core.List.{List, [], _∷_}
@@ -70,8 +70,9 @@ Makes write b r old new = (r .answer ≡ cond (valid (model-of b)) 0 invalid-boa
 unfoldable pub unfit : (kinds firsts seconds answers : ℕ) → Bool
 unfit k f s a = ltb f k || (ltb s k || ltb a k)
 
--- A card that does not open leaves everything as it was, and so does "a lent buffer too short" (14): a list of numbers, the answers, or one of
--- the look's three. Else every call is made, its answer is the log's, and the last look shows the effective instance.
+-- A card that does not open leaves everything as it was, and so does "a lent buffer too short" (14): a list of numbers,
+-- the answers, or one of the look's three. Else every call is made, its answer is the log's, and the last look shows
+-- the effective instance.
 unfoldable pub Replays-at : (refusal : ℕ) → (short : Bool) → List Call → Log → View → (answers answers′ : List ℕ) → (old new : Buffers) → Type 0
 Replays-at (suc a) short cs k r xs xs′ old new = (xs′ ≡ xs) × Untouched (suc a) r old new
 Replays-at zero true cs k r xs xs′ old new = (xs′ ≡ xs) × Untouched buffer-short r old new

@@ -1,5 +1,6 @@
-// The public calls, gathered here: open_card, pin, ban, clear, set_budget, take_back, look, write_card and replay. None requires
-// anything of its caller: whatever is handed in gets an answer, and after a refusal the board and all buffers are as they were.
+// The public calls, gathered here: open_card, pin, ban, clear, set_budget, take_back, look, write_card and replay. None
+// requires anything of its caller: whatever is handed in gets an answer, and after a refusal the board and all buffers
+// are as they were.
 mod copies; // copies.rt: copies into the caller's buffers
 pub mod looking; // looking.rt: a look at a board
 pub mod opening; // opening.rt: a board from a card
@@ -21,8 +22,8 @@ pub use opening::open_card;
 pub use replaying::replay;
 pub use writing::write_card;
 
-// What a look shows: the outcome and the number of cuts that prove it, or of the one pair that shows that there is no tree; or the number of
-// a refusal.
+// What a look shows: the outcome and the number of cuts that prove it, or of the one pair that shows that there is no
+// tree; or the number of a refusal.
 pub enum View {
     Shown(Outcome, u32),
     Refused(u32),

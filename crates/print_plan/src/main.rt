@@ -1,5 +1,6 @@
-// Reads a card on standard input and prints its plan, or the line of its refusal, on standard output; it does nothing else. A read or a
-// write that fails is named on standard error. What is printed is proved in `report`; this program only reads and writes.
+// Reads a card on standard input and prints its plan, or the line of its refusal, on standard output; it does nothing
+// else. A read or a write that fails is named on standard error. What is printed is proved in `report`; this program
+// only reads and writes.
 ghost use Prim.Native.Nat.{_≤_};
 ghost use lib.ListN.{length};
 use libc::STDERR_FILENO;
@@ -9,7 +10,8 @@ use report::MAX_CARD;
 use report::MAX_TEXT;
 use report::report;
 
-// One byte more than the longest card: what follows does not matter (first-bytes-enough in report/proofs/LongCards.antt).
+// One byte more than the longest card: what follows does not matter (first-bytes-enough in
+// report/proofs/LongCards.antt).
 const MAX_INPUT: usize = MAX_CARD + 1;
 
 struct Input {
@@ -17,7 +19,8 @@ struct Input {
     length: usize,
 }
 
-// Reads until the buffer is full or the input ends, in whatever pieces it comes. A failed read is told apart from the input's end.
+// Reads until the buffer is full or the input ends, in whatever pieces it comes. A failed read is told apart from the
+// input's end.
 fn read_input(buf: &mut [u8]) -> Input
     ensures { λ r. ⌜ r .length ≤ length (now (buf .exit)) ⌝ }
 {

@@ -1,5 +1,5 @@
--- What a caller learns of `report` from the function's own contract (`Learnt`), so that the theorems that cite it are about this function and
--- no other. Assumes nothing.
+-- What a caller learns of `report` from the function's own contract (`Learnt`), so that the theorems that cite it are
+-- about this function and no other. Assumes nothing.
 use mathlib.Core.List.{List}
 use Prim.Native.Nat.{ℕ}
 use contract.Lifetimes.{Lfts}

@@ -1,5 +1,5 @@
--- An input longer than any card is refused by its first byte, so a program that reads at most one byte more than the longest card answers for
--- the whole of its input. Assumes nothing.
+-- An input longer than any card is refused by its first byte, so a program that reads at most one byte more than the
+-- longest card answers for the whole of its input. Assumes nothing.
 use mathlib.Core.Path.{_≡_, sym, _∙_}
 use mathlib.Core.Bool.{Bool, true, false}
 use mathlib.Core.List.{List}

@@ -1,4 +1,5 @@
--- From the contracts of opening and looking to the text of a card: what a look shows is what the text is made of. Assumes nothing.
+-- From the contracts of opening and looking to the text of a card: what a look shows is what the text is made of.
+-- Assumes nothing.
 use mathlib.Core.Path.{_≡_, refl, sym, ap, _∙_, subst}
 use mathlib.Core.Bool.{Bool, true, false, true≢false}
 use mathlib.Core.List.{List}

@@ -41,8 +41,8 @@ fn report_board(b: Board, out: &mut [u8]) -> usize
     write_report(&weights, &parents, &states, n, root, budget, outcome, out)
 }
 
-// Opens a card, looks at it and writes its text, or the line of its refusal, from the buffer's beginning on. A buffer of less than MAX_TEXT
-// bytes gets 14 and is left as it was.
+// Opens a card, looks at it and writes its text, or the line of its refusal, from the buffer's beginning on. A buffer
+// of less than MAX_TEXT bytes gets 14 and is left as it was.
 pub fn report(card: &[u8], out: &mut [u8]) -> Reported
     ensures { λ r. ⌜ Reports (now (card .entry)) (now (out .entry)) (now (out .exit)) r ⌝ }
 {

@@ -5,7 +5,8 @@ pub use card::MAX_CARD;
 pub use cards::report;
 pub use report_text::MAX_TEXT;
 
-// What was reported: 0, the number of the card's refusal, or 14 for a buffer that is too short; and how long the text is.
+// What was reported: 0, the number of the card's refusal, or 14 for a buffer that is too short; and how long the text
+// is.
 pub struct Reported {
     pub answer: u32,
     pub length: usize,

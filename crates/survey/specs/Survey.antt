@@ -1,5 +1,5 @@
--- What planning finds of an instance, and what a look shows of it. Free, each with what holds of it: which cheapest arborescence, which cuts
--- and how many, which set that no arc enters. Assumes nothing: these are definitions.
+-- What planning finds of an instance, and what a look shows of it. Free, each with what holds of it: which cheapest
+-- arborescence, which cuts and how many, which set that no arc enters. Assumes nothing: these are definitions.
 use mathlib.Core.Path.{_≡_}
 use mathlib.Core.Bool.{Bool, true, false}
 use mathlib.Core.List.{List, [], _∷_}

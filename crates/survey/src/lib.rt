@@ -1,5 +1,5 @@
-// Planning an instance: its remaining arcs, a minimum weight arborescence with the cuts that prove its total, and the arcs that some
-// arborescence within budget uses. No card and no board can be seen from here.
+// Planning an instance: its remaining arcs, a minimum weight arborescence with the cuts that prove its total, and the
+// arcs that some arborescence within budget uses. No card and no board can be seen from here.
 ghost use mathlib.Core.Path.{_≡_};
 ghost use mathlib.Core.Bool.{true};
 ghost use mathlib.Core.Option.{some};
@@ -19,8 +19,8 @@ use instance::shows_tree;
 use remaining::remaining_matrix;
 use usable::usable_arcs;
 
-// What planning found: the outcome, the parents of the tree that is shown, the number of cuts, the cuts as pairs of words, and 1 at each arc
-// that some arborescence within budget uses.
+// What planning found: the outcome, the parents of the tree that is shown, the number of cuts, the cuts as pairs of
+// words, and 1 at each arc that some arborescence within budget uses.
 pub struct Survey {
     pub outcome: Outcome,
     pub parents: [u8; 32],

@@ -1,5 +1,5 @@
--- `report_board` meets its contract: a look at a valid board is not refused, and what it leaves in three buffers of full length is what the
--- text is made of. Assumes nothing.
+-- `report_board` meets its contract: a look at a valid board is not refused, and what it leaves in three buffers of
+-- full length is what the text is made of. Assumes nothing.
 use native.Mathlib.Omega.{arith}
 use borrow.Author.Needs.{needs}
 use Rattle.board.proofs.ModelOfLaws.{known}

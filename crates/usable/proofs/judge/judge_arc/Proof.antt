@@ -11,7 +11,7 @@ use Rattle.instance.specs.Limits.{max-vertices, no-arc}
 use Rattle.instance.specs.Instance.{cell, weight}
 use Rattle.instance.specs.Arborescence.{remaining}
 use Rattle.instance.specs.Matrix.{unmarked}
-use Rattle.instance.proofs.MatrixLaws.{weight-most}
+use Rattle.instance.proofs.MatrixLaws.{matrix-weight-most}
 use Rattle.usable.proofs.UsableLaws.{weight-on, present, reduced-most, usable-bound, unusable-loop, unusable-absent, unusable-reduced}
 use Rattle.usable.proofs.JudgeLaws.{judged-already, judged-unusable, judged-usable}
 use Rattle.usable.proofs.judge.judge_arc.Statement.{statement}
@@ -80,7 +80,7 @@ known c =
     let a = b .args in
     let p = b .pre .0 in
     let arc = present (a .n) (a .root) (a .m .now) (p .matrix-ok) (a .tail) (a .head) (p .tail-below) (p .head-below) (c .before .before .if2 .left) (p .not-root) (c .if3 .left) in
-    let most = weight-most (a .n) (a .root) (a .m .now) (p .matrix-ok) (a .tail) (a .head) in
+    let most = matrix-weight-most (a .n) (a .root) (a .m .now) (p .matrix-ok) (a .tail) (a .head) in
     let lower = reduced-most (a .n) (a .root) (a .total) (a .m .now) (a .reduced .now) (a .tail) (a .head) (p .costs) arc in
     record {
       small = p .matrix-ok .small;
