@@ -23,7 +23,7 @@ pub struct UndoRecord {
 }
 
 // Weights and marks have a stride of 32. The first `count` records are the history, the latest last; the places after
-// them are never looked at, and neither is a cell where no arc can be.
+// them decide nothing, and neither does a cell where no arc can be.
 pub struct Board {
     pub n: u32,
     pub root: u32,
@@ -34,7 +34,7 @@ pub struct Board {
     pub count: usize,
 }
 
-// What a command gives: 0 or the number of the refusal, and the board that is left.
+// What a command gives, and what opening a card gives: 0 or the number of the refusal, and the board that is left.
 pub struct Answered {
     pub answer: u32,
     pub board: Board,

@@ -25,7 +25,7 @@ pub record Result : Type 0 where
   pub board : Model
 
 -- "board as before"
-unfoldable pub refused : (number : ℕ) → Model → Result
+unfoldable pub refused : (answer : ℕ) → Model → Result
 refused a b = record { answer = a; board = b }
 
 -- "Each accepted press is recorded, even if it changes nothing."
@@ -33,7 +33,7 @@ unfoldable pub accepted : Replaced → Instance → Model → Result
 accepted r s b = record { answer = 0; board = record { instance = s; history = r ∷ b .history } }
 
 -- refused by a number, or where that is 0 the other result
-unfoldable pub decided : (refusal : ℕ) → (otherwise : Result) → Model → Result
+unfoldable pub decided : (answer : ℕ) → (otherwise : Result) → Model → Result
 decided zero d b = d
 decided (suc k) d b = refused (suc k) b
 

@@ -37,7 +37,7 @@ unfoldable pub log-length : Log → ℕ
 log-length k = length (k .entries)
 
 -- "A refused call leaves the book as it was."
-unfoldable pub unnoted : (number : ℕ) → Log → Noted
+unfoldable pub unnoted : (answer : ℕ) → Log → Noted
 unnoted a k = record { answer = a; log = k }
 
 -- "accepted and written at the end", or struck out

@@ -31,7 +31,7 @@ use Rattle.planner.specs.Looking.{Buffers, short-for}
 use Rattle.planner.proofs.CallSteps.{tree-long, words-long, looks-long}
 use Rattle.planner.proofs.Learnt.{Looked, looked}
 
--- "keeps pins and bans"
+-- pins and bans are kept
 pub record Keeps-marks (s : Instance) (parents : List ℕ) : Type 0 where
   pub pins : (t h : ℕ) → is-pinned s t h ≡ true → uses parents t h ≡ true
   pub bans : (t h : ℕ) → is-arc s t h ≡ true → mark s t h ≡ banned → uses parents t h ≡ false

@@ -73,7 +73,7 @@ unfit k f s a = ltb f k || (ltb s k || ltb a k)
 -- A card that does not open leaves everything as it was, and so does "a lent buffer too short" (14): a list of numbers,
 -- the answers, or one of the look's three. Else every call is made, its answer is the log's, and the last look shows
 -- the effective instance.
-unfoldable pub Replays-at : (refusal : ℕ) → (short : Bool) → List Call → Log → View → (answers answers′ : List ℕ) → (old new : Buffers) → Type 0
+unfoldable pub Replays-at : (answer : ℕ) → (short : Bool) → List Call → Log → View → (answers answers′ : List ℕ) → (old new : Buffers) → Type 0
 Replays-at (suc a) short cs k r xs xs′ old new = (xs′ ≡ xs) × Untouched (suc a) r old new
 Replays-at zero true cs k r xs xs′ old new = (xs′ ≡ xs) × Untouched buffer-short r old new
 Replays-at zero false cs k r xs xs′ old new = (xs′ ≡ in-front (call-answers cs k) xs) × Shows (effective (calls-after cs k)) r old new

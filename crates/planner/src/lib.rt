@@ -2,10 +2,10 @@
 // requires anything of its caller: whatever is handed in gets an answer, and after a refusal the board and all buffers
 // are as they were.
 mod copies; // copies.rt: copies into the caller's buffers
-pub mod looking; // looking.rt: a look at a board
-pub mod opening; // opening.rt: a board from a card
+mod looking; // looking.rt: a look at a board
+mod opening; // opening.rt: a board from a card
 mod replaying; // replaying.rt: a list of calls, one after the other
-pub mod writing; // writing.rt: a board written as a card
+mod writing; // writing.rt: a board written as a card
 
 pub use board::Answered;
 pub use board::Board;

@@ -1,5 +1,5 @@
 -- What is reported of a card: "The printing program reads a card on standard input and .. writes". Every byte is an
--- equation; free is only which arborescence of a plan is shown. Assumes nothing: these are definitions.
+-- equation; free is only which arborescence is shown. Assumes nothing: these are definitions.
 use mathlib.Core.Path.{_≡_}
 use mathlib.Core.Bool.{Bool, true, false}
 use mathlib.Core.List.{List}
@@ -16,7 +16,7 @@ use Rattle.text.specs.Buffer.{Filled}
 use Rattle.report_text.specs.Whole.{report-text, refused-text, max-text}
 
 -- "count, root, budget; total; fed, feeder, price, by fed position; feeder and its n states": the outcome and the
--- states of the instance, and the parents of one of its cheapest arborescences where it has a plan
+-- states of the instance, and the parents of one of its cheapest arborescences where a tree is shown
 pub record Reports-instance (s : Instance) (old new : List ℕ) (next : ℕ) : Type 0 where
   pub parents : List ℕ
   pub shown : Parents-shown (outcome s) s parents

@@ -2,6 +2,7 @@
 use Prim.Native.Nat.{ℕ, _+_, _^_, _≤_, _<_}
 use native.Mathlib.Omega.{arith}
 use lib.ListN.{length}
+use Rattle.instance.specs.States.{total-in}
 use Rattle.instance.specs.declared.Outcome.{Outcome}
 use Rattle.instance.specs.declared.Outcome.the-variants.{Plan, Over, NoTree}
 use Rattle.text.specs.Decimal.{decimal}
@@ -17,14 +18,8 @@ header-length n r b hn hb =
     let d = decimal-length 8 b (omega arith) hb in
     omega (arith, three-length (codes "positions ") n (codes " root ") r (codes " budget ") b)
 
--- the total that an outcome shows
-unfoldable pub total-in : Outcome → ℕ
-total-in (Plan v) = v
-total-in (Over v) = v
-total-in NoTree = 0
-
 pub outcome-length : (o : Outcome) → total-in o < 10 ^ 8 → length (outcome-line o) ≤ 14
-unfolding outcome-line total-in codes
+unfolding outcome-line codes
 outcome-length (Plan v) h = let d = decimal-length 8 v (omega arith) h in omega (arith, line-length (codes "plan ") v)
 outcome-length (Over v) h = let d = decimal-length 8 v (omega arith) h in omega (arith, line-length (codes "over ") v)
 outcome-length NoTree h = omega arith

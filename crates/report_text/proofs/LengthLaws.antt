@@ -14,7 +14,7 @@ use Rattle.instance.specs.Instance.{Instance, weight, is-arc}
 use Rattle.instance.specs.Arborescence.{parent, is-arborescence}
 use Rattle.instance.specs.declared.Outcome.{Outcome}
 use Rattle.instance.specs.declared.Outcome.the-variants.{Plan, Over, NoTree}
-use Rattle.instance.specs.States.{shows-tree, outcome, states}
+use Rattle.instance.specs.States.{total-in, shows-tree, outcome, states}
 use Rattle.instance.specs.Valid.{valid-instance}
 use Rattle.instance.proofs.ArcLaws.{arc-ends, remaining-arc}
 use Rattle.instance.proofs.ValidLaws.{valid-small, valid-root, valid-budget}
@@ -29,7 +29,7 @@ use Rattle.report_text.specs.Heading.{header-line, outcome-line}
 use Rattle.report_text.specs.Feeds.{feed-lines}
 use Rattle.report_text.specs.Rows.{row-lines}
 use Rattle.report_text.specs.Whole.{whole-text, report-text, refused-text, max-text}
-use Rattle.report_text.proofs.HeadingLaws.{header-length, total-in, outcome-length}
+use Rattle.report_text.proofs.HeadingLaws.{header-length, outcome-length}
 use Rattle.report_text.proofs.FeedLaws.{Short-feeds, feeds-length}
 use Rattle.report_text.proofs.RowLaws.{Digits, rows-length}
 
@@ -63,7 +63,6 @@ state-digits s t h lt lh =
 
 module _ (s : Instance) (valid : valid-instance s ≡ true) where
   outcome-most : total-in (outcome s) ≤ max-budget
-  unfolding total-in
   outcome-most = go (outcome s) refl
     where
       go : (o : Outcome) → outcome s ≡ o → total-in o ≤ max-budget

@@ -56,6 +56,3 @@ module _ (s : Instance) where
         let l = r .0 .least ps (fits-arborescence s ps p) in
         let m = fits-total s ps p in
         omega (arith, r .1))
-
-    pub shut-excluded : (c : Cut) → No-entry s c → state s t h ≡ 1
-    shut-excluded c e = none-excluded (shut-outcome c e)
