@@ -2,23 +2,50 @@
 use board::Board;
 use board::Replaced;
 use board::UndoRecord;
+use reference::access;
 use reference::problem;
 use reference::problem::Problem;
+
+// How many records a board has room for.
+pub const RECORDS: usize = 200;
+
+// The records of an arc's mark, and of a budget.
+pub fn mark_record(tail: u32, head: u32, mark: u8) -> UndoRecord {
+    UndoRecord {
+        replaced: Replaced::OldMark(access::narrow(tail), access::narrow(head), mark),
+    }
+}
+
+pub fn budget_record(budget: u32) -> UndoRecord {
+    UndoRecord {
+        replaced: Replaced::OldBudget(budget),
+    }
+}
+
+// A number for each record, another for another.
+fn record_number(r: UndoRecord) -> u64 {
+    let x = r.replaced;
+    match x {
+        Replaced::OldMark(tail, head, mark) => 4294967296
+            + (tail as u64) * 65536
+            + (head as u64) * 256
+            + (mark as u64),
+        Replaced::OldBudget(budget) => budget as u64,
+    }
+}
 
 // A board with an instance and no record. The record places past the count hold rubbish, which nobody may look at.
 pub fn of_problem(p: Problem) -> Board {
     let weights = p.weights;
     let marks = p.marks;
-    let rubbish = UndoRecord {
-        replaced: Replaced::Mark(200, 201, 77),
-    };
+    let rubbish = mark_record(200, 201, 77);
     Board {
         n: p.n,
         root: p.root,
         budget: p.budget,
         weights: weights,
         marks: marks,
-        records: [rubbish; 200],
+        records: [rubbish; RECORDS],
         count: 0,
     }
 }
@@ -35,20 +62,31 @@ pub fn problem_of(b: Board) -> Problem {
     }
 }
 
-// Whether two instances are equal "where a link can be".
-pub fn equal_problems(p: Problem, q: Problem) -> bool {
+fn equal_headers(p: Problem, q: Problem) -> bool {
     if p.n != q.n {
         return false;
     }
     if p.root != q.root {
         return false;
     }
-    if p.budget != q.budget {
-        return false;
+    p.budget == q.budget
+}
+
+// Whether a cell is compared: each, or only those that can hold an arc.
+fn is_compared(n: u32, root: u32, tail: u32, head: u32, every_cell: bool) -> bool {
+    if every_cell {
+        return true;
     }
+    problem::can_hold(n, root, tail, head)
+}
+
+// Whether two instances are equal: in every cell, or only "where a link can be".
+pub fn equal_problems(p: Problem, q: Problem, every_cell: bool) -> bool {
+    let n = p.n;
+    let root = p.root;
     for k in 0..1024 {
-        if problem::can_hold(p.n, p.root, k / 32, k % 32) {
-            let at = problem::cell(k / 32, k % 32);
+        if is_compared(n, root, k / 32, k % 32, every_cell) {
+            let at = k as usize;
             if p.weights[at] != q.weights[at] {
                 return false;
             }
@@ -57,74 +95,14 @@ pub fn equal_problems(p: Problem, q: Problem) -> bool {
             }
         }
     }
-    true
+    equal_headers(p, q)
 }
 
-fn equal_marks(a: UndoRecord, tail: u8, head: u8, mark: u8) -> bool {
-    let r = a.replaced;
-    match r {
-        Replaced::Mark(t, h, m) => {
-            if t != tail {
-                return false;
-            }
-            if h != head {
-                return false;
-            }
-            m == mark
-        }
-        Replaced::Budget(_) => false,
-    }
-}
-
-fn equal_budgets(a: UndoRecord, budget: u32) -> bool {
-    let r = a.replaced;
-    match r {
-        Replaced::Mark(_, _, _) => false,
-        Replaced::Budget(v) => v == budget,
-    }
-}
-
-fn equal_records(a: UndoRecord, b: UndoRecord) -> bool {
-    let r = b.replaced;
-    match r {
-        Replaced::Mark(tail, head, mark) => equal_marks(a, tail, head, mark),
-        Replaced::Budget(budget) => equal_budgets(a, budget),
-    }
-}
-
-fn equal_histories(a: [UndoRecord; 200], b: [UndoRecord; 200], count: usize) -> bool {
-    for k in 0..200 {
-        if k < count {
-            let x = a[k];
-            let y = b[k];
-            if !equal_records(x, y) {
-                return false;
-            }
-        }
-    }
-    true
-}
-
-// Whether two boards are equal, the history with them. Cells that can never be an arc and records past the count are not compared.
-pub fn equal(a: Board, b: Board) -> bool {
-    if a.count != b.count {
-        return false;
-    }
-    let x = a.records;
-    let y = b.records;
-    if !equal_histories(x, y, a.count) {
-        return false;
-    }
-    equal_problems(problem_of(a), problem_of(b))
-}
-
-fn equal_cells(p: Problem, q: Problem) -> bool {
-    for k in 0..1024 {
-        let at = problem::cell(k / 32, k % 32);
-        if p.weights[at] != q.weights[at] {
-            return false;
-        }
-        if p.marks[at] != q.marks[at] {
+fn equal_records(a: [UndoRecord; RECORDS], b: [UndoRecord; RECORDS]) -> bool {
+    for k in 0..RECORDS {
+        let x = a[k];
+        let y = b[k];
+        if record_number(x) != record_number(y) {
             return false;
         }
     }
@@ -138,13 +116,8 @@ pub fn identical(a: Board, b: Board) -> bool {
     }
     let x = a.records;
     let y = b.records;
-    if !equal_histories(x, y, 200) {
+    if !equal_records(x, y) {
         return false;
     }
-    let p = problem_of(a);
-    let q = problem_of(b);
-    if !equal_cells(p, q) {
-        return false;
-    }
-    equal_problems(p, q)
+    equal_problems(problem_of(a), problem_of(b), true)
 }

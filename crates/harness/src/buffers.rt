@@ -1,48 +1,49 @@
-// What stands in a buffer before a call, and whether a part of it still does.
+// The buffers that the tests lend: longer than any call needs, lent whole or in part, and filled so that a touched
+// place shows.
+use reference::access;
+
+// Room for parents, states and cuts.
+pub const PARENTS: usize = 40;
+
+pub const STATES: usize = 1100;
+
+pub const CUTS: usize = 130;
+
+// What stands in a buffer before a call.
 pub const BYTE: u8 = 170;
 
 pub const WORD: u32 = 2863311530;
 
-// Whether every byte from a place on is the one that stood there before.
-pub fn bytes_untouched(s: &[u8], from: u32) -> bool {
-    let start = from as usize;
-    for k in 0..s.len() {
-        if start <= k {
-            if s[k] != BYTE {
-                return false;
-            }
-        }
+// The first so many words of a buffer, or all of it; and so for a buffer that is lent to be written.
+pub fn front_words(s: &[u32], lent: u32) -> &[u32] {
+    let l = lent as usize;
+    if l < s.len() {
+        return &s[0..l];
     }
-    true
+    s
 }
 
-pub fn words_untouched(s: &[u32], from: u32) -> bool {
-    let start = from as usize;
-    for k in 0..s.len() {
-        if start <= k {
-            if s[k] != WORD {
-                return false;
-            }
-        }
+pub fn front_mut(s: &mut [u8], lent: u32) -> &mut [u8] {
+    let l = lent as usize;
+    if l < s.len() {
+        return &mut s[0..l];
     }
-    true
+    s
 }
 
-// Whether the first bytes of two slices are equal.
-pub fn equal_bytes(a: &[u8], b: &[u8], count: u32) -> bool {
-    for k in 0..count {
-        if reference::access::byte(a, k) != reference::access::byte(b, k) {
-            return false;
-        }
+pub fn front_words_mut(s: &mut [u32], lent: u32) -> &mut [u32] {
+    let l = lent as usize;
+    if l < s.len() {
+        return &mut s[0..l];
     }
-    true
+    s
 }
 
-// a times b by additions, which ask for no bound.
-pub fn times(a: u32, b: u32) -> u32 {
-    let mut sum = 0;
-    for k in 0..a {
-        sum = std::num::wrapping_add_u32(sum, b);
-    }
-    sum
+// Whether the bytes from one place up to another are as before.
+pub fn bytes_untouched(s: &[u8], from: u32, to: u32) -> bool {
+    access::all_bytes(s, from, to, access::of_byte(BYTE))
+}
+
+pub fn words_untouched(s: &[u32], from: u32, to: u32) -> bool {
+    access::all_words(s, from, to, WORD)
 }

@@ -1,38 +1,141 @@
-// The calls that change a board, without the contracts of the planner's, which no test needs.
+// The planner's calls, without their contracts, which no test needs.
+use crate::buffers;
 use board::Answered;
 use board::Board;
+use instance::Outcome;
 use instance::Vertex;
-use reference_log::call;
-use reference_log::call::Call;
+use planner::View;
+use reference::access;
+use reference::call;
+use reference::call::Call;
+use reference::card::CARD_ROOM;
+use reference::card::Card;
+use reference::outcome;
 
-pub fn pin(b: Board, tail: u32, head: u32) -> Answered {
-    planner::pin(b, Vertex(tail), Vertex(head))
+// The kind of a look that is refused, beside those of the reference.
+pub const REFUSED: u32 = 3;
+
+// What a look gave: its kind, the total or the refusal's number, the number of pairs, and the buffers.
+pub struct Shown {
+    pub kind: u32,
+    pub total: u32,
+    pub pairs: u32,
+    pub parents: [u8; buffers::PARENTS],
+    pub states: [u8; buffers::STATES],
+    pub cuts: [u32; buffers::CUTS],
 }
 
-pub fn ban(b: Board, tail: u32, head: u32) -> Answered {
-    planner::ban(b, Vertex(tail), Vertex(head))
+// The view's part of it.
+struct Summary {
+    kind: u32,
+    total: u32,
+    pairs: u32,
 }
 
-pub fn clear(b: Board, tail: u32, head: u32) -> Answered {
-    planner::clear(b, Vertex(tail), Vertex(head))
+fn of_outcome(o: Outcome, pairs: u32) -> Summary {
+    match o {
+        Outcome::Plan(total) => Summary {
+            kind: outcome::PLAN,
+            total: total,
+            pairs: pairs,
+        },
+        Outcome::Over(total) => Summary {
+            kind: outcome::OVER,
+            total: total,
+            pairs: pairs,
+        },
+        Outcome::NoTree => Summary {
+            kind: outcome::NONE,
+            total: 0,
+            pairs: pairs,
+        },
+    }
 }
 
-pub fn set_budget(b: Board, budget: u32) -> Answered {
-    planner::set_budget(b, budget)
+fn of_view(v: View) -> Summary {
+    match v {
+        View::Shown(o, pairs) => of_outcome(o, pairs),
+        View::Refused(answer) => Summary {
+            kind: REFUSED,
+            total: answer,
+            pairs: 0,
+        },
+    }
 }
 
-pub fn take_back(b: Board) -> Answered {
-    planner::take_back(b)
+pub fn as_shown(
+    v: View,
+    parents: [u8; buffers::PARENTS],
+    states: [u8; buffers::STATES],
+    cuts: [u32; buffers::CUTS],
+) -> Shown {
+    let s = of_view(v);
+    Shown {
+        kind: s.kind,
+        total: s.total,
+        pairs: s.pairs,
+        parents: parents,
+        states: states,
+        cuts: cuts,
+    }
 }
 
-// A call by its kind.
+// A look with the first so many bytes and words of the buffers lent.
+pub fn look_with(b: Board, parents_lent: u32, states_lent: u32, cuts_lent: u32) -> Shown {
+    let mut parents = [buffers::BYTE; buffers::PARENTS];
+    let mut states = [buffers::BYTE; buffers::STATES];
+    let mut cuts = [buffers::WORD; buffers::CUTS];
+    let v = planner::look(
+        b,
+        buffers::front_mut(&mut parents, parents_lent),
+        buffers::front_mut(&mut states, states_lent),
+        buffers::front_words_mut(&mut cuts, cuts_lent),
+    );
+    as_shown(v, parents, states, cuts)
+}
+
+pub fn look(b: Board) -> Shown {
+    look_with(b, 40, 1100, 130)
+}
+
+// A written card: the answer, the length and the buffer.
+pub struct Wrote {
+    pub answer: u32,
+    pub length: usize,
+    pub bytes: [u8; CARD_ROOM],
+}
+
+// A write with the first so many bytes of the buffer lent.
+pub fn write_with(b: Board, lent: u32) -> Wrote {
+    let mut bytes = [buffers::BYTE; CARD_ROOM];
+    let w = planner::write_card(b, buffers::front_mut(&mut bytes, lent));
+    Wrote {
+        answer: w.answer,
+        length: w.length,
+        bytes: bytes,
+    }
+}
+
+pub fn write(b: Board) -> Wrote {
+    write_with(b, 2700)
+}
+
+pub fn open(c: Card) -> Answered {
+    let bytes = c.bytes;
+    planner::open_card(access::front(&bytes, c.length))
+}
+
+// A call that changes a board, by its kind.
 pub fn made(b: Board, c: Call) -> Answered {
     let kind = c.kind;
+    let first = c.first;
+    let tail = Vertex(first);
+    let head = Vertex(c.second);
     match kind {
-        call::PIN => pin(b, c.first, c.second),
-        call::BAN => ban(b, c.first, c.second),
-        call::CLEAR => clear(b, c.first, c.second),
-        call::BUDGET => set_budget(b, c.first),
-        _ => take_back(b),
+        call::PIN => planner::pin(b, tail, head),
+        call::BAN => planner::ban(b, tail, head),
+        call::CLEAR => planner::clear(b, tail, head),
+        call::BUDGET => planner::set_budget(b, first),
+        _ => planner::take_back(b),
     }
 }

@@ -1,8 +1,9 @@
-// What the test programs share: boards made of the reference's instances, calls of the planner that no caller sees a contract of,
-// and comparisons with the reference.
-pub mod boards;
-pub mod buffers;
-pub mod calls;
-pub mod looks;
-pub mod replays;
-pub mod verdict;
+// What the test programs share, and the one place that sees both the planner and the reference: the planner's calls on
+// lent buffers that are longer than needed, boards beside the reference's instances, and comparisons.
+pub mod boards; // boards.rt: boards and the reference's instances
+pub mod buffers; // buffers.rt: what stands in a buffer before a call
+pub mod calls; // calls.rt: the planner's calls
+pub mod replays; // replays.rt: a list of calls handed over whole
+pub mod replies; // replies.rt: a call's answer, and whether it touched anything
+pub mod session; // session.rt: a board beside the log
+pub mod verdict; // verdict.rt: whether what a look showed is right

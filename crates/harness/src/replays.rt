@@ -1,40 +1,68 @@
 // A list of calls handed to the planner whole.
 use crate::buffers;
-use crate::looks;
-use crate::looks::Shown;
+use crate::calls;
+use crate::calls::Shown;
+use reference::access;
+use reference::card::Card;
 
-// 300 calls: their kinds, and the two numbers of each.
-pub struct Script {
-    pub kinds: [u8; 300],
-    pub firsts: [u32; 300],
-    pub seconds: [u32; 300],
+// How many calls a list has.
+pub const CALLS: usize = 300;
+
+// Their kinds, and the two numbers of each.
+pub struct Calls {
+    pub kinds: [u8; CALLS],
+    pub firsts: [u32; CALLS],
+    pub seconds: [u32; CALLS],
+}
+
+// How much is lent of each list and each buffer.
+pub struct Lent {
+    pub firsts: u32,
+    pub seconds: u32,
+    pub answers: u32,
+    pub parents: u32,
+    pub states: u32,
+    pub cuts: u32,
+}
+
+// All of it.
+pub fn whole() -> Lent {
+    Lent {
+        firsts: 300,
+        seconds: 300,
+        answers: 300,
+        parents: 40,
+        states: 1100,
+        cuts: 130,
+    }
 }
 
 pub struct Replayed {
     pub shown: Shown,
-    pub answers: [u32; 300],
+    pub answers: [u32; CALLS],
 }
 
-pub fn replay(card: &[u8], s: Script) -> Replayed {
-    let kinds = s.kinds;
-    let firsts = s.firsts;
-    let seconds = s.seconds;
-    let mut answers = [buffers::WORD; 300];
-    let mut parents = [buffers::BYTE; 40];
-    let mut states = [buffers::BYTE; 1100];
-    let mut cuts = [buffers::WORD; 130];
+pub fn replay(c: Card, list: Calls, lent: Lent) -> Replayed {
+    let bytes = c.bytes;
+    let kinds = list.kinds;
+    let firsts = list.firsts;
+    let seconds = list.seconds;
+    let mut answers = [buffers::WORD; CALLS];
+    let mut parents = [buffers::BYTE; buffers::PARENTS];
+    let mut states = [buffers::BYTE; buffers::STATES];
+    let mut cuts = [buffers::WORD; buffers::CUTS];
     let v = planner::replay(
-        card,
+        access::front(&bytes, c.length),
         &kinds,
-        &firsts,
-        &seconds,
-        &mut answers,
-        &mut parents,
-        &mut states,
-        &mut cuts,
+        buffers::front_words(&firsts, lent.firsts),
+        buffers::front_words(&seconds, lent.seconds),
+        buffers::front_words_mut(&mut answers, lent.answers),
+        buffers::front_mut(&mut parents, lent.parents),
+        buffers::front_mut(&mut states, lent.states),
+        buffers::front_words_mut(&mut cuts, lent.cuts),
     );
     Replayed {
-        shown: looks::as_shown(v, parents, states, cuts),
+        shown: calls::as_shown(v, parents, states, cuts),
         answers: answers,
     }
 }

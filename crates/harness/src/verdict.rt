@@ -1,10 +1,13 @@
 // Whether what a look showed is right: 0, or the number of the first thing that is not.
-use crate::buffers;
-use crate::looks::Shown;
+use crate::buffers::bytes_untouched;
+use crate::buffers::words_untouched;
+use crate::calls::Shown;
 use reference::access;
 use reference::outcome;
 use reference::problem;
+use reference::problem::CELLS;
 use reference::problem::Problem;
+use reference::shown;
 use reference::trees;
 use reference::trees::Listing;
 
@@ -20,77 +23,58 @@ pub const STATES: u32 = 5;
 
 pub const TOUCHED: u32 = 6;
 
-// Whether the bytes and words after those of an instance of n vertices are as before.
-pub fn rest_untouched(n: u32, s: Shown) -> bool {
+// Whether the buffers are as before from these places on.
+fn untouched_from(s: Shown, parents_from: u32, states_from: u32, cuts_from: u32) -> bool {
     let parents = s.parents;
     let states = s.states;
     let cuts = s.cuts;
-    if !buffers::bytes_untouched(&parents, n) {
+    if !bytes_untouched(&parents, parents_from, 40) {
         return false;
     }
-    if !buffers::bytes_untouched(&states, buffers::times(n, n)) {
+    if !bytes_untouched(&states, states_from, 1100) {
         return false;
     }
-    buffers::words_untouched(&cuts, 122)
+    words_untouched(&cuts, cuts_from, 130)
 }
 
-// A tree of that total where there is a plan, and 255 everywhere otherwise.
-fn parents_right(table: &[u32; 1024], n: u32, root: u32, s: Shown) -> bool {
+pub fn all_untouched(s: Shown) -> bool {
+    untouched_from(s, 0, 0, 0)
+}
+
+// The parents and the cuts of what was shown, by document 01's conditions, for any n. The table holds the weights of
+// the remaining arcs.
+pub fn certified(table: &[u32; CELLS], n: u32, root: u32, s: Shown) -> u32 {
     let parents = s.parents;
-    if s.kind == outcome::PLAN {
-        return reference_shown::is_tree(table, n, root, &parents, s.total);
-    }
-    reference_shown::no_parents(n, &parents)
-}
-
-// Cuts that prove the total where there is a tree, and otherwise one set that no remaining arc enters.
-fn cuts_right(table: &[u32; 1024], n: u32, root: u32, s: Shown) -> bool {
     let cuts = s.cuts;
-    if s.kind != outcome::NONE {
-        return reference_shown::are_cuts(table, n, root, &cuts, s.pairs, s.total);
-    }
-    if s.pairs != 1 {
-        return false;
-    }
-    reference_shown::is_unentered(table, n, root, &cuts)
-}
-
-// The parents and the cuts of what was shown, by document 01's conditions, for any n. The table holds the weights of the remaining arcs.
-pub fn certified(table: &[u32; 1024], n: u32, root: u32, s: Shown) -> u32 {
-    if !parents_right(table, n, root, s) {
+    if !shown::parents_right(table, &parents, n, root, s.kind, s.total) {
         return PARENTS;
     }
-    if !cuts_right(table, n, root, s) {
+    if !shown::cuts_right(table, &cuts, n, root, s.pairs, s.kind, s.total) {
         return CUTS;
     }
-    if !rest_untouched(n, s) {
+    if !untouched_from(s, n, access::times(n, n), shown::CUT_WORDS) {
         return TOUCHED;
     }
     0
 }
 
 // Whether every state is that of the listing.
-pub fn states_right(p: Problem, list: Listing, states: &[u8]) -> bool {
+fn states_right(states: &[u8], list: Listing, p: Problem) -> bool {
     let n = p.n;
-    for k in 0..64 {
-        let tail = k / 8;
-        let head = k % 8;
-        if tail < n {
-            if head < n {
-                let arc = problem::is_arc(p, tail, head);
-                let right = outcome::state(list, p.budget, arc, tail, head);
-                let at = std::num::wrapping_add_u32(buffers::times(tail, n), head);
-                if access::byte(states, at) != access::of_byte(right) {
-                    return false;
-                }
-            }
+    if n == 0 {
+        return false;
+    }
+    let count = access::times(n, n);
+    for k in 0..count {
+        if access::byte(states, k) != outcome::state(list, p, k / n, k % n) {
+            return false;
         }
     }
     true
 }
 
 // Everything that a look shows of an instance of at most six vertices, against its table of costs and its listing.
-pub fn against(table: &[u32; 1024], list: Listing, p: Problem, s: Shown) -> u32 {
+pub fn against(table: &[u32; CELLS], list: Listing, p: Problem, s: Shown) -> u32 {
     let kind = outcome::kind(list, p.budget);
     if s.kind != kind {
         return KIND;
@@ -101,7 +85,7 @@ pub fn against(table: &[u32; 1024], list: Listing, p: Problem, s: Shown) -> u32 
         }
     }
     let states = s.states;
-    if !states_right(p, list, &states) {
+    if !states_right(&states, list, p) {
         return STATES;
     }
     certified(table, p.n, p.root, s)

@@ -1,10 +1,16 @@
-// The reference that the test programs hold the planner to: written from document 01 alone, in the plainest way, with none of the
-// planner's code or methods.
-pub mod access;
-pub mod outcome;
-pub mod problem;
-pub mod random;
-pub mod report;
-pub mod sample;
-pub mod trees;
-pub mod worked;
+// The reference that the test programs hold the planner to: written from document 01 alone, in the plainest way, with
+// none of the planner's code or methods. The programs' own needs stand beside it: random numbers, counts, scripts.
+pub mod access; // access.rt: small steps that ask nothing of their caller
+pub mod call; // call.rt: calls that change a board, and random ones
+pub mod card; // card.rt: cards, bit by bit
+pub mod log; // log.rt: the log of document 01, "The book for demand 3"
+pub mod outcome; // outcome.rt: what a look has to show, from the listing
+pub mod problem; // problem.rt: instances, and the arcs that remain
+pub mod random; // random.rt: numbers that look random
+pub mod refusals; // refusals.rt: document 01's table of refusals
+pub mod sample; // sample.rt: random instances
+pub mod script; // script.rt: lines of a program's standard input
+pub mod shown; // shown.rt: document 01's conditions on a shown tree and cuts
+pub mod tally; // tally.rt: what a program counts and prints
+pub mod trees; // trees.rt: all trees of a small instance
+pub mod worked; // worked.rt: document 01's worked instances

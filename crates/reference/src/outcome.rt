@@ -1,5 +1,7 @@
 // What a look has to show under a budget, by document 01's words, from the listing of all trees.
+use crate::problem;
 use crate::problem::ABSENT;
+use crate::problem::Problem;
 use crate::trees;
 use crate::trees::Listing;
 
@@ -21,24 +23,19 @@ pub fn kind(list: Listing, budget: u32) -> u32 {
     PLAN
 }
 
-// "0 not a link; 1 closed, no tree uses it; 2 open, some use it and some don't; 3 sure, there is at least one tree and all use it."
-pub fn state(list: Listing, budget: u32, arc: bool, tail: u32, head: u32) -> u8 {
-    if !arc {
+// "0 not a link; 1 closed, no tree uses it; 2 open, some use it and some don't; 3 sure, there is at least one tree and
+// all use it."
+pub fn state(list: Listing, p: Problem, tail: u32, head: u32) -> u32 {
+    let budget = p.budget;
+    if !problem::is_arc(p, tail, head) {
         return 0;
     }
-    let at = trees::place(tail, head);
-    let using = list.using[at];
-    let avoiding = list.avoiding[at];
-    if using == ABSENT {
+    let using = trees::place(tail, head, true);
+    let avoiding = trees::place(tail, head, false);
+    if budget < list.totals[using] {
         return 1;
     }
-    if budget < using {
-        return 1;
-    }
-    if avoiding == ABSENT {
-        return 3;
-    }
-    if budget < avoiding {
+    if budget < list.totals[avoiding] {
         return 3;
     }
     2

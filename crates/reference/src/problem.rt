@@ -1,19 +1,35 @@
 // An instance as the reference holds it, and the arcs that remain under its marks.
 ghost use Prim.Native.Nat.{_<_};
 
-// Cells have stride 32; n is at most 32.
+// Cells, one for each pair of 32 vertices, with stride 32.
+pub const CELLS: usize = 1024;
+
 pub struct Problem {
     pub n: u32,
     pub root: u32,
     pub budget: u32,
-    pub weights: [u32; 1024],
-    pub marks: [u8; 1024],
+    pub weights: [u32; CELLS],
+    pub marks: [u8; CELLS],
 }
 
-// "1,048,575 means no link".
+// "Prices are 0 to 1,000,000 pence; 1,048,575 means no link."
+pub const MAX_WEIGHT: u32 = 1000000;
+
 pub const NO_ARC: u32 = 1048575;
 
-// In a table of costs: the arc does not remain. As a total: there is no tree.
+// "Budgets are 0 to 31,000,000".
+pub const MAX_BUDGET: u32 = 31000000;
+
+// "0 free, 1 pinned, 2 banned", and a number that is no mark.
+pub const FREE: u8 = 0;
+
+pub const PINNED: u8 = 1;
+
+pub const BANNED: u8 = 2;
+
+pub const NO_MARK: u8 = 3;
+
+// In a table of costs: the arc does not remain. As a total: there is no tree. More than any budget.
 pub const ABSENT: u32 = 4294967295;
 
 pub fn cell(tail: u32, head: u32) -> usize
@@ -45,15 +61,21 @@ pub fn is_arc(p: Problem, tail: u32, head: u32) -> bool {
     false
 }
 
+// The mark of an arc, and NO_MARK where there is no arc.
+pub fn mark_of(p: Problem, tail: u32, head: u32) -> u8 {
+    if is_arc(p, tail, head) {
+        let at = cell(tail, head);
+        return p.marks[at];
+    }
+    NO_MARK
+}
+
 // Whether head has a pinned arc from another tail.
-pub fn pinned_elsewhere(p: Problem, tail: u32, head: u32) -> bool {
+fn pinned_elsewhere(p: Problem, tail: u32, head: u32) -> bool {
     for other in 0..32 {
         if other != tail {
-            if is_arc(p, other, head) {
-                let at = cell(other, head);
-                if p.marks[at] == 1 {
-                    return true;
-                }
+            if mark_of(p, other, head) == PINNED {
+                return true;
             }
         }
     }
@@ -62,33 +84,26 @@ pub fn pinned_elsewhere(p: Problem, tail: u32, head: u32) -> bool {
 
 // "Remaining links: not banned, and not entering a position that has a different pinned feeder."
 pub fn remains(p: Problem, tail: u32, head: u32) -> bool {
-    if is_arc(p, tail, head) {
-        let at = cell(tail, head);
-        if p.marks[at] == 2 {
-            return false;
-        }
-        return !pinned_elsewhere(p, tail, head);
+    if PINNED < mark_of(p, tail, head) {
+        return false;
     }
-    false
+    !pinned_elsewhere(p, tail, head)
 }
 
-// The weight of an arc that remains, and ABSENT otherwise.
-fn cost(p: Problem, tail: u32, head: u32) -> u32 {
-    if remains(p, tail, head) {
-        let at = cell(tail, head);
-        return p.weights[at];
-    }
-    ABSENT
-}
-
-// The weight of each remaining arc, and ABSENT in every other cell. Cells that can hold no arc are passed over at once, for speed.
-pub fn costs(p: Problem) -> [u32; 1024] {
-    let mut table = [ABSENT; 1024];
+// The weight of each remaining arc, and ABSENT in every other cell. Cells that can hold no arc are passed over at once,
+// for speed.
+pub fn costs(p: Problem) -> [u32; CELLS] {
+    let mut table = [ABSENT; CELLS];
     let n = p.n;
     let root = p.root;
     for k in 0..1024 {
-        if can_hold(n, root, k / 32, k % 32) {
-            table[cell(k / 32, k % 32)] = cost(p, k / 32, k % 32);
+        let tail = k / 32;
+        let head = k % 32;
+        if can_hold(n, root, tail, head) {
+            if remains(p, tail, head) {
+                let at = k as usize;
+                table[at] = p.weights[at];
+            }
         }
     }
     table

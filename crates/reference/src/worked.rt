@@ -1,5 +1,9 @@
 // Document 01's worked instances: sheet Q and the small ones beside it.
+use crate::access::narrow;
+use crate::card;
+use crate::card::Card;
 use crate::problem;
+use crate::problem::CELLS;
 use crate::problem::NO_ARC;
 use crate::problem::Problem;
 
@@ -9,8 +13,8 @@ pub fn without_arcs(n: u32, root: u32, budget: u32) -> Problem {
         n: n,
         root: root,
         budget: budget,
-        weights: [NO_ARC; 1024],
-        marks: [0; 1024],
+        weights: [NO_ARC; CELLS],
+        marks: [0; CELLS],
     }
 }
 
@@ -50,4 +54,24 @@ pub fn q(budget: u32) -> Problem {
 // "n = 2, price 5", with root 0.
 pub fn two(budget: u32) -> Problem {
     with_weight(without_arcs(2, 0, budget), 0, 1, 5)
+}
+
+// The instance that a line of a script names: sheet Q, two positions or one.
+pub fn sheet(name: u8, budget: u32) -> Problem {
+    match name {
+        b'Q' => q(budget),
+        b'T' => two(budget),
+        _ => without_arcs(1, 0, budget),
+    }
+}
+
+// The card of an instance with this price and mark from 0 to 1, with a filling bit at its end, and cut or continued to
+// a length.
+pub fn card(p: Problem, weight: u32, mark: u32, filling: u32, length: u32) -> Card {
+    let q = with_mark(with_weight(p, 0, 1, weight), 0, 1, narrow(mark));
+    let mut c = card::build(q);
+    let last = (std::num::wrapping_sub_u32(c.length, 1) % 2700) as usize;
+    c.bytes[last] = c.bytes[last] | narrow(filling);
+    c.length = length;
+    c
 }

@@ -5,10 +5,10 @@ use Rattle.harness.proofs.boards.equal_problems.Statement.{statement}
 use Rattle.harness.proofs.boards.equal_problems.Tie as tie
 
 abbrev Inv-loop : tie.InvT-loop
-Inv-loop p q k₀ k = Unit
+Inv-loop every-cell p q n root k₀ k = Unit
 
 abbrev μ-loop : tie.MeasureT-loop
-μ-loop p q k₀ k = 1024 - k
+μ-loop every-cell p q n root k₀ k = 1024 - k
 
 pub equal-problems-spec : {M : Type 1} → statement M
 equal-problems-spec =
@@ -17,10 +17,6 @@ equal-problems-spec =
     Inv-loop
     μ-loop
     (λ c. search needs)
-    (λ c. search needs)
-    (λ c. search needs)
-    (λ c. search needs)
-    (λ c κs. search needs)
     (λ c κs. search needs)
     (λ c. search needs)
     (λ c. search needs)
@@ -33,4 +29,6 @@ equal-problems-spec =
     (λ c. search needs)
     (λ c. search needs)
     (λ c. search needs)
+    (λ c. search needs)
+    (λ c κs. search needs)
     (λ c. search needs))

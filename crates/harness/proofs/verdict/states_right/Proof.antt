@@ -5,10 +5,10 @@ use Rattle.harness.proofs.verdict.states_right.Statement.{statement}
 use Rattle.harness.proofs.verdict.states_right.Tie as tie
 
 abbrev Inv-loop : tie.InvT-loop
-Inv-loop p list states n k₀ k = Unit
+Inv-loop states list p n count k₀ k = Unit
 
 abbrev μ-loop : tie.MeasureT-loop
-μ-loop p list states n k₀ k = 64 - k
+μ-loop states list p n count k₀ k = count - k
 
 pub states-right-spec : {M : Type 1} → statement M
 states-right-spec =
@@ -18,10 +18,10 @@ states-right-spec =
     μ-loop
     (λ c. search needs)
     (λ c κs. search needs)
+    (λ c. search needs)
     (λ c κs. search needs)
-    (λ c κs. search needs)
-    (λ c κs. search needs)
-    (λ c κs. search needs)
+    (λ c. search needs)
+    (λ c. search needs)
     (λ c κs. search needs)
     (λ c. search needs)
     (λ c. search needs)

@@ -5,10 +5,10 @@ use Rattle.reference.proofs.problem.pinned_elsewhere.Statement.{stateme
 use Rattle.reference.proofs.problem.pinned_elsewhere.Tie as tie
 
 abbrev Inv-loop : tie.InvT-loop
-Inv-loop tail head p other₀ other = Unit
+Inv-loop p tail head other₀ other = Unit
 
 abbrev μ-loop : tie.MeasureT-loop
-μ-loop tail head p other₀ other = 32 - other
+μ-loop p tail head other₀ other = 32 - other
 
 pub pinned-elsewhere-spec : {M : Type 1} → statement M
 pinned-elsewhere-spec =
@@ -18,8 +18,6 @@ pinned-elsewhere-spec =
     μ-loop
     (λ c. search needs)
     (λ c κs. search needs)
-    (λ c κs. search needs)
-    (λ c. search needs)
     (λ c. search needs)
     (λ c. search needs)
     (λ c. search needs)

@@ -1,0 +1,57 @@
+// A call's answer, and whether it left everything that it was lent as before.
+use crate::boards;
+use crate::buffers;
+use crate::calls;
+use crate::verdict;
+use board::Answered;
+use board::Board;
+
+pub struct Reply {
+    pub answer: u32,
+    pub untouched: bool,
+}
+
+// Whether a call gave this answer, and touched nothing if it is a refusal.
+pub fn is_reply(r: Reply, answer: u32) -> bool {
+    if r.answer != answer {
+        return false;
+    }
+    if answer == 0 {
+        return true;
+    }
+    r.untouched
+}
+
+// Of a call that changes a board.
+pub fn of_call(before: Board, r: Answered) -> Reply {
+    let after = r.board;
+    Reply {
+        answer: r.answer,
+        untouched: boards::identical(before, after),
+    }
+}
+
+// Of a look with so much lent of each buffer.
+pub fn of_look(b: Board, parents: u32, states: u32, cuts: u32) -> Reply {
+    let s = calls::look_with(b, parents, states, cuts);
+    if s.kind != calls::REFUSED {
+        return Reply {
+            answer: 0,
+            untouched: false,
+        };
+    }
+    Reply {
+        answer: s.total,
+        untouched: verdict::all_untouched(s),
+    }
+}
+
+// Of a write with so many bytes lent.
+pub fn of_write(b: Board, lent: u32) -> Reply {
+    let w = calls::write_with(b, lent);
+    let bytes = w.bytes;
+    Reply {
+        answer: w.answer,
+        untouched: buffers::bytes_untouched(&bytes, 0, 2700),
+    }
+}

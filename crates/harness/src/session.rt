@@ -1,0 +1,94 @@
+// A board opened from a card, beside the log of the calls that were made on it.
+use crate::buffers;
+use crate::calls;
+use crate::calls::Wrote;
+use crate::replies;
+use crate::replies::Reply;
+use crate::verdict;
+use board::Board;
+use reference::access;
+use reference::call::Call;
+use reference::card::Card;
+use reference::log;
+use reference::log::Log;
+use reference::problem::Problem;
+
+pub struct Session {
+    pub board: Board,
+    pub log: Log,
+    pub card: Problem,
+}
+
+// What a call gave: the board's reply, the log's answer, and where the session has come to.
+pub struct Called {
+    pub reply: Reply,
+    pub log_answer: u32,
+    pub session: Session,
+}
+
+// A session on a card that opens; where it does not, every call after is refused with 15 and reported.
+pub fn opened(p: Problem) -> Session {
+    let o = calls::open(reference::card::build(p));
+    let board = o.board;
+    Session {
+        board: board,
+        log: log::empty(),
+        card: p,
+    }
+}
+
+// A call on the board, and in the log.
+pub fn with_call(s: Session, c: Call) -> Called {
+    let board = s.board;
+    let log = s.log;
+    let card = s.card;
+    let made = calls::made(board, c);
+    let noted = log::note(log, card, c);
+    let board_after = made.board;
+    let log_after = noted.log;
+    let session = Session {
+        board: board_after,
+        log: log_after,
+        card: card,
+    };
+    Called {
+        reply: replies::of_call(board, made),
+        log_answer: noted.answer,
+        session: session,
+    }
+}
+
+// The card's instance under what the log says.
+pub fn problem_now(s: Session) -> Problem {
+    let log = s.log;
+    let card = s.card;
+    log::problem_now(log, card)
+}
+
+// Whether a look at the board shows that.
+pub fn look_right(s: Session) -> bool {
+    let board = s.board;
+    verdict::judged(problem_now(s), calls::look(board)) == 0
+}
+
+// Whether a written card is that card, and no other byte was touched.
+pub fn is_written(w: Wrote, c: Card) -> bool {
+    let written = w.bytes;
+    let right = c.bytes;
+    if w.answer != 0 {
+        return false;
+    }
+    if w.length != c.length as usize {
+        return false;
+    }
+    if !access::equal_bytes(&written, &right, c.length) {
+        return false;
+    }
+    buffers::bytes_untouched(&written, c.length, 2700)
+}
+
+// Whether the board is written as that.
+pub fn write_right(s: Session) -> bool {
+    let board = s.board;
+    is_written(calls::write(board), reference::card::build(problem_now(s)))
+}

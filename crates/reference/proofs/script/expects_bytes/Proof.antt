@@ -1,0 +1,28 @@
+-- `reference::script::expects_bytes` is safe and ends.
+use Prim.Native.Nat.{_-_}
+use borrow.Author.Needs.{needs}
+use Rattle.reference.proofs.script.expects_bytes.Statement.{statement}
+use Rattle.reference.proofs.script.expects_bytes.Tie as tie
+
+abbrev Inv-loop : tie.InvT-loop
+Inv-loop line s inputs count k₀ k = Unit
+
+abbrev μ-loop : tie.MeasureT-loop
+μ-loop line s inputs count k₀ k = count - k
+
+pub expects-bytes-spec : {M : Type 1} → statement M
+expects-bytes-spec =
+    tie.close
+    (tie.spec
+    Inv-loop
+    μ-loop
+    (λ c. search needs)
+    (λ c κs. search needs)
+    (λ c κs. search needs)
+    (λ c κs. search needs)
+    (λ c κs. search needs)
+    (λ c. search needs)
+    (λ c. search needs)
+    (λ c. search needs)
+    (λ c. search needs)
+    (λ c. search needs))

@@ -1,0 +1,129 @@
+// The log of document 01, "The book for demand 3": kept from the card and the calls' arguments alone.
+use crate::access::plus;
+use crate::call;
+use crate::call::Call;
+use crate::problem;
+use crate::problem::BANNED;
+use crate::problem::FREE;
+use crate::problem::MAX_BUDGET;
+use crate::problem::PINNED;
+use crate::problem::Problem;
+use crate::refusals::BAD_BUDGET;
+use crate::refusals::HISTORY_EMPTY;
+use crate::refusals::HISTORY_FULL;
+use crate::refusals::NO_SUCH_ARC;
+use crate::refusals::NO_VERTEX;
+
+// "At most 200 presses are recorded".
+pub const RECORDS: usize = 200;
+
+// The effective commands, oldest first.
+pub struct Log {
+    pub count: u32,
+    pub calls: [Call; RECORDS],
+}
+
+pub struct Logged {
+    pub answer: u32,
+    pub log: Log,
+}
+
+pub fn empty() -> Log {
+    let none = Call {
+        kind: call::TAKE_BACK,
+        first: 0,
+        second: 0,
+    };
+    Log {
+        count: 0,
+        calls: [none; RECORDS],
+    }
+}
+
+// "refused with 9 if a position is not below n, else with 10 if the card has no such link".
+fn mark_fault(card: Problem, tail: u32, head: u32) -> u32 {
+    if card.n <= tail {
+        return NO_VERTEX;
+    }
+    if card.n <= head {
+        return NO_VERTEX;
+    }
+    if problem::is_arc(card, tail, head) {
+        0
+    } else {
+        NO_SUCH_ARC
+    }
+}
+
+// "else with 12 if 200 stand".
+fn full_fault(fault: u32, count: u32) -> u32 {
+    if fault != 0 {
+        return fault;
+    }
+    if count < 200 { 0 } else { HISTORY_FULL }
+}
+
+// "refused with 11 if above 31,000,000"; of a take-back "refused with 13 if none stands". 0 where the call is accepted.
+fn refusal(count: u32, card: Problem, c: Call) -> u32 {
+    let kind = c.kind;
+    match kind {
+        call::TAKE_BACK => if count == 0 { HISTORY_EMPTY } else { 0 },
+        call::BUDGET => full_fault(if MAX_BUDGET < c.first { BAD_BUDGET } else { 0 }, count),
+        _ => full_fault(mark_fault(card, c.first, c.second), count),
+    }
+}
+
+// "accepted and written at the end"; of a take-back "accepted, and the last one is struck out".
+fn changed(log: Log, c: Call) -> Log {
+    let mut l = log;
+    if c.kind == call::TAKE_BACK {
+        l.count = std::num::wrapping_sub_u32(l.count, 1);
+        return l;
+    }
+    let at = (l.count % 200) as usize;
+    l.calls[at] = c;
+    l.count = plus(l.count, 1);
+    l
+}
+
+// The log's answer to a call, and the log after it: "A refused call leaves the book as it was."
+pub fn note(log: Log, card: Problem, c: Call) -> Logged {
+    let answer = refusal(log.count, card, c);
+    if answer != 0 {
+        return Logged {
+            answer: answer,
+            log: log,
+        };
+    }
+    Logged {
+        answer: 0,
+        log: changed(log, c),
+    }
+}
+
+// The mark that a call sets.
+fn mark_set(kind: u32) -> u8 {
+    match kind {
+        call::PIN => PINNED,
+        call::BAN => BANNED,
+        _ => FREE,
+    }
+}
+
+// The card's instance under what the log says: an arc's mark is "the one set by the last standing press that names it,
+// or the card's if none does", the budget "that of the last standing budget press, or the card's if there is none".
+pub fn problem_now(log: Log, card: Problem) -> Problem {
+    let mut p = card;
+    for k in 0..200 {
+        if k < log.count {
+            let c = log.calls[k as usize];
+            if c.kind == call::BUDGET {
+                p.budget = c.first;
+            } else {
+                let at = problem::cell(c.first, c.second);
+                p.marks[at] = mark_set(c.kind);
+            }
+        }
+    }
+    p
+}

@@ -1,0 +1,170 @@
+// Boards with one field damaged at a time: every call is refused with 15 and touches nothing. Rubbish where nobody may
+// look is no damage.
+use crate::damage;
+use crate::damage::Damaged;
+use board::Board;
+use harness::boards;
+use harness::calls;
+use harness::replies;
+use harness::replies::Reply;
+use reference::access;
+use reference::call;
+use reference::call::Call;
+use reference::random;
+use reference::random::Random;
+use reference::refusals::BUFFER_SHORT;
+use reference::refusals::INVALID_BOARD;
+use reference::sample;
+use reference::tally;
+use reference::tally::Tally;
+
+// What the program counts beside the faults.
+const SOUND: u32 = 3;
+
+const DAMAGED: u32 = 4;
+
+const CALLS: u32 = 5;
+
+const REFUSED: u32 = 6;
+
+// The calls that are made on each board: six that change one, a write, a look, and both with buffers too short for any
+// board here.
+const KINDS_OF_CALL: u32 = 10;
+
+const WRITE: u32 = 6;
+
+const LOOK: u32 = 7;
+
+const SHORT_WRITE: u32 = 8;
+
+fn nth_call(k: u32) -> Call {
+    match k {
+        0 => new_call(call::PIN, 0, 1),
+        1 => new_call(call::BAN, 1, 0),
+        2 => new_call(call::CLEAR, 33, 4294967295),
+        3 => new_call(call::BUDGET, 17, 0),
+        4 => new_call(call::BUDGET, 4294967295, 0),
+        _ => new_call(call::TAKE_BACK, 0, 0),
+    }
+}
+
+fn new_call(kind: u32, first: u32, second: u32) -> Call {
+    Call {
+        kind: kind,
+        first: first,
+        second: second,
+    }
+}
+
+fn reply_of(b: Board, k: u32) -> Reply {
+    match k {
+        WRITE => replies::of_write(b, 2700),
+        LOOK => replies::of_look(b, 40, 1100, 130),
+        SHORT_WRITE => replies::of_write(b, 4),
+        9 => replies::of_look(b, 1, 3, 121),
+        _ => replies::of_call(b, calls::made(b, nth_call(k))),
+    }
+}
+
+// On a damaged board 15, which comes before 14, and nothing touched; on a sound one not 15, and 14 where a buffer is
+// too short.
+fn is_right(r: Reply, k: u32, is_damaged: bool) -> bool {
+    if is_damaged {
+        return replies::is_reply(r, INVALID_BOARD);
+    }
+    if k < WRITE {
+        return r.answer != INVALID_BOARD;
+    }
+    if k < SHORT_WRITE {
+        return r.answer == 0;
+    }
+    replies::is_reply(r, BUFFER_SHORT)
+}
+
+// One call, and whether 15 came.
+fn tried_call(tally: Tally, d: Damaged, k: u32) -> Tally {
+    let b = d.board;
+    let r = reply_of(b, k);
+    let t = tally::checked(tally, CALLS, is_right(r, k, d.is_damaged));
+    if r.answer == INVALID_BOARD {
+        return tally::with(t, REFUSED, 1);
+    }
+    t
+}
+
+// Whether a call is left out: a look at a large sound board takes long, and test_large has it.
+fn is_left_out(d: Damaged, k: u32) -> bool {
+    let b = d.board;
+    if k != LOOK {
+        return false;
+    }
+    if d.is_damaged {
+        return false;
+    }
+    7 < b.n
+}
+
+// Every call on one board.
+fn tried(tally: Tally, d: Damaged) -> Tally {
+    let mut t = tally::with(tally, if d.is_damaged { DAMAGED } else { SOUND }, 1);
+    for k in 0..KINDS_OF_CALL {
+        if !is_left_out(d, k) {
+            t = tried_call(t, d, k);
+        }
+    }
+    t
+}
+
+// A sound board of 2 to 32 vertices with some history.
+fn some_board(k: u32) -> Board {
+    let g = random::seeded(k);
+    let n = k % 31 + 2;
+    let mut b = boards::of_problem(sample::any_instance(g, n));
+    let mut r = random::next(g);
+    for step in 0u32..40 {
+        let made = calls::made(b, call::some_call(r, n, 4));
+        b = made.board;
+        r = random::next(random::next(random::next(random::next(random::next(r)))));
+    }
+    b
+}
+
+// A sound board taken for a damaged one: what it replies has to be reported, or the test could not fail.
+fn planted(tally: Tally, b: Board) -> Tally {
+    let mut t = tally;
+    for k in 0..KINDS_OF_CALL {
+        if k != LOOK {
+            t = tally::planted(t, !is_right(reply_of(b, k), k, true));
+        }
+    }
+    t
+}
+
+// The board as it is, and then with each damage.
+fn tried_all(tally: Tally, b: Board, g: Random) -> Tally {
+    let sound = Damaged {
+        is_damaged: false,
+        board: b,
+    };
+    let mut t = tried(planted(tally, b), sound);
+    for kind in 0..damage::KINDS {
+        t = tried(t, damage::nth_damage(b, kind, g));
+    }
+    t
+}
+
+fn run(count: u32) -> Tally {
+    let mut t = tally::zero();
+    for k in 0..count {
+        let g = random::seeded(k);
+        t = tried_all(t, some_board(k), g);
+    }
+    t
+}
+
+pub fn all() {
+    tally::report(
+        run(310),
+        b"sound boards\ndamaged boards\ncalls\nrefused with 15\n",
+    );
+}

@@ -1,0 +1,160 @@
+// A board with one field changed: document 01's list for 15, and places that nobody may look at.
+use board::Board;
+use board::UndoRecord;
+use harness::boards;
+use reference::access;
+use reference::problem;
+use reference::problem::MAX_BUDGET;
+use reference::problem::MAX_WEIGHT;
+use reference::problem::NO_ARC;
+use reference::random;
+use reference::random::Random;
+
+// The changes: 9 of a number, 8 of a cell and 6 of a record are damage; 5 are none.
+pub const KINDS: u32 = 28;
+
+const CELLS_FROM: u32 = 9;
+
+const RECORDS_FROM: u32 = 17;
+
+const SOUND_FROM: u32 = 23;
+
+pub struct Damaged {
+    pub is_damaged: bool,
+    pub board: Board,
+}
+
+// A vertex below n other than v, for n of 2 or more.
+fn other_vertex(g: Random, n: u32, v: u32) -> u32 {
+    if n < 2 {
+        return 0;
+    }
+    access::plus(v, access::plus(random::below(g, n - 1), 1)) % n
+}
+
+fn with_cell(b: Board, tail: u32, head: u32, weight: u32, mark: u8) -> Board {
+    let mut c = b;
+    let at = problem::cell(tail, head);
+    c.weights[at] = weight;
+    c.marks[at] = mark;
+    c
+}
+
+// One record of the history replaced; one is made if there is none.
+fn with_record(b: Board, g: Random, record: UndoRecord) -> Board {
+    let mut c = b;
+    if c.count == 0 {
+        c.count = 1;
+    }
+    let below = random::below(g, (c.count % 201) as u32);
+    c.records[(below % 200) as usize] = record;
+    c
+}
+
+// A number out of its range: of vertices, of the root, a budget, a number of records.
+fn number_damaged(b: Board, kind: u32) -> Board {
+    let mut c = b;
+    match kind {
+        0 => c.n = 0,
+        1 => c.n = 33,
+        2 => c.n = 4294967295,
+        3 => c.root = c.n,
+        4 => c.root = 4294967295,
+        5 => c.budget = MAX_BUDGET + 1,
+        6 => c.budget = 4294967295,
+        7 => c.count = 201,
+        _ => c.count = 18446744073709551615,
+    }
+    c
+}
+
+// The weight and the mark of a cell that can hold an arc: a weight out of its range, a mark out of its range, a mark on
+// no arc.
+fn bad_weight(kind: u32) -> u32 {
+    match kind {
+        9 => MAX_WEIGHT + 1,
+        10 => NO_ARC - 1,
+        11 => NO_ARC + 1,
+        12 => 4294967295,
+        13 | 14 => 5,
+        _ => NO_ARC,
+    }
+}
+
+fn bad_mark(kind: u32) -> u8 {
+    match kind {
+        13 => 3,
+        14 => 255,
+        15 => 1,
+        16 => 2,
+        _ => 0,
+    }
+}
+
+// A record that names no arc, or restores a value out of its range; and two that are lawful.
+fn nth_record(kind: u32, n: u32, root: u32, tail: u32, head: u32) -> UndoRecord {
+    match kind {
+        17 => boards::mark_record(n, head, 0),
+        18 => boards::mark_record(tail, tail, 0),
+        19 => boards::mark_record(head, root, 0),
+        20 => boards::mark_record(tail, head, 0),
+        21 => boards::mark_record(tail, head, 3),
+        22 => boards::budget_record(MAX_BUDGET + 1),
+        26 => boards::mark_record(tail, head, 2),
+        _ => boards::budget_record(MAX_BUDGET),
+    }
+}
+
+// The board with that record, and with an arc at the cell that it names, or with none.
+fn record_changed(b: Board, kind: u32, g: Random, tail: u32, head: u32) -> Board {
+    let record = nth_record(kind, b.n, b.root, tail, head);
+    match kind {
+        20 => with_record(with_cell(b, tail, head, NO_ARC, 0), g, record),
+        21 | 26 => with_record(with_cell(b, tail, head, 5, 0), g, record),
+        _ => with_record(b, g, record),
+    }
+}
+
+// Rubbish in a place past the count.
+fn with_rubbish_record(b: Board) -> Board {
+    let mut c = b;
+    if c.count < 200 {
+        let at = c.count;
+        c.records[at] = boards::mark_record(250, 251, 252);
+    }
+    c
+}
+
+// What is no damage: rubbish where no arc can be and past the count, and a lawful record.
+fn sound(b: Board, kind: u32, g: Random, tail: u32, head: u32) -> Board {
+    match kind {
+        23 => with_cell(b, tail, tail, 1000001, 3),
+        24 => with_cell(b, tail, b.root, 4294967295, 255),
+        25 => with_rubbish_record(b),
+        _ => record_changed(b, kind, g, tail, head),
+    }
+}
+
+// The board with the change of that kind, at an arc that the generator picks.
+fn changed(b: Board, kind: u32, g: Random) -> Board {
+    let head = other_vertex(g, b.n, b.root);
+    let tail = other_vertex(random::next(g), b.n, head);
+    let h = random::next(random::next(g));
+    if kind < CELLS_FROM {
+        return number_damaged(b, kind);
+    }
+    if kind < RECORDS_FROM {
+        return with_cell(b, tail, head, bad_weight(kind), bad_mark(kind));
+    }
+    if kind < SOUND_FROM {
+        return record_changed(b, kind, h, tail, head);
+    }
+    sound(b, kind, h, tail, head)
+}
+
+pub fn nth_damage(b: Board, kind: u32, g: Random) -> Damaged {
+    Damaged {
+        is_damaged: kind < SOUND_FROM,
+        board: changed(b, kind, g),
+    }
+}

@@ -1,0 +1,145 @@
+// Random lists of calls on boards opened from cards, with looks and writes between, against the log: every answer, what
+// a look shows, and the bytes of a written card.
+use harness::calls;
+use harness::replies;
+use harness::session;
+use harness::session::Session;
+use reference::access;
+use reference::call;
+use reference::call::Call;
+use reference::problem::MAX_BUDGET;
+use reference::random;
+use reference::random::Random;
+use reference::sample;
+use reference::tally;
+use reference::tally::Tally;
+
+// What the program counts beside the faults: each answer has a count.
+const LISTS: u32 = 3;
+
+const CALLS: u32 = 4;
+
+const LOOKS: u32 = 5;
+
+const WRITES: u32 = 6;
+
+const ANSWERS: u32 = 7;
+
+// Where a list has come to, and what was counted on the way.
+struct Progress {
+    session: Session,
+    tally: Tally,
+}
+
+// The call of a step: in a crowded list the first ones are budgets, so that the 200 records are reached.
+fn nth_call(g: Random, n: u32, crowded: bool, step: u32) -> Call {
+    if crowded {
+        if step < 190 {
+            return Call {
+                kind: call::BUDGET,
+                first: step,
+                second: 0,
+            };
+        }
+        return call::some_call(g, n, 2);
+    }
+    call::some_call(g, n, 5)
+}
+
+// Now and then a look or a write. They leave the board as it was.
+fn between(tally: Tally, s: Session, dice: u32) -> Tally {
+    let mut t = tally;
+    if dice == 0 {
+        t = tally::checked(t, LOOKS, session::look_right(s));
+    }
+    if dice < 2 {
+        t = tally::checked(t, WRITES, session::write_right(s));
+    }
+    t
+}
+
+// One call, held to the log's answer and then to another, which has to be reported; and what comes after it.
+fn stepped(p: Progress, n: u32, crowded: bool, seed: u32, step: u32) -> Progress {
+    let g = random::seeded(access::plus(seed, step));
+    let before = p.session;
+    let c = session::with_call(before, nth_call(random::next(g), n, crowded, step));
+    let reply = c.reply;
+    let right = c.log_answer;
+    let t = tally::checked(p.tally, CALLS, replies::is_reply(reply, right));
+    let u = tally::planted(t, !replies::is_reply(reply, access::plus(right, 1)));
+    let v = tally::with(u, access::plus(ANSWERS, right), 1);
+    let s = c.session;
+    Progress {
+        session: s,
+        tally: between(v, s, random::below(g, 20)),
+    }
+}
+
+fn list_of_calls(start: Progress, n: u32, crowded: bool, seed: u32, length: u32) -> Progress {
+    let mut p = start;
+    for step in 0..length {
+        p = stepped(p, n, crowded, seed, step);
+    }
+    p
+}
+
+// How long a list is: the crowded ones have 300 calls, one in eight of the others up to 300, the rest up to 60.
+fn length_of(g: Random, crowded: bool) -> u32 {
+    if crowded {
+        return 300;
+    }
+    if random::below(g, 8) == 0 {
+        return random::below(random::next(g), 301);
+    }
+    random::below(random::next(g), 61)
+}
+
+// A call on the board that the log does not know: what is written then has to be reported.
+fn planted(tally: Tally, s: Session) -> Tally {
+    let now = session::problem_now(s);
+    let c = Call {
+        kind: call::BUDGET,
+        first: access::plus(now.budget % MAX_BUDGET, 1),
+        second: 0,
+    };
+    let board = s.board;
+    let made = calls::made(board, c);
+    if made.answer != 0 {
+        return tally;
+    }
+    let mut wrong = s;
+    let changed = made.board;
+    wrong.board = changed;
+    tally::planted(tally, !session::write_right(wrong))
+}
+
+// One list: the card is opened, the calls are made, and the last board is looked at and written.
+fn one_list(tally: Tally, k: u32) -> Tally {
+    let card = sample::small_instance(k);
+    let crowded = k % 20 == 0;
+    let seed = k % 4096 * 512;
+    let start = Progress {
+        session: session::opened(card),
+        tally: tally::with(tally, LISTS, 1),
+    };
+    let length = length_of(random::seeded(seed), crowded);
+    let end = list_of_calls(start, card.n, crowded, seed, length);
+    let s = end.session;
+    let t = end.tally;
+    planted(between(t, s, 0), s)
+}
+
+fn run(count: u32) -> Tally {
+    let mut t = tally::zero();
+    for k in 0..count {
+        t = one_list(t, k);
+    }
+    t
+}
+
+pub fn all() {
+    tally::report(
+        run(2000),
+        b"lists\ncalls\nlooks\nwrites\nanswer 0:\nanswer 1:\nanswer 2:\nanswer 3:\nanswer 4:\nanswer 5:\nanswer 6:\nanswer 7:\nanswer 8:\nanswer 9:\nanswer 10:\nanswer 11:\nanswer 12:\nanswer 13:\n",
+    );
+}

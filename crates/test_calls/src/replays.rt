@@ -1,0 +1,197 @@
+// A list of 300 calls, looks and writes handed to the planner whole, against the log; and what is refused before
+// anything is touched.
+use harness::buffers;
+use harness::calls;
+use harness::replays;
+use harness::replays::CALLS;
+use harness::replays::Calls;
+use harness::replays::Lent;
+use harness::replays::Replayed;
+use harness::verdict;
+use reference::access;
+use reference::call;
+use reference::call::Call;
+use reference::card;
+use reference::card::Card;
+use reference::log;
+use reference::log::Log;
+use reference::problem::Problem;
+use reference::random;
+use reference::random::Random;
+use reference::refusals::BAD_LENGTH;
+use reference::refusals::BUFFER_SHORT;
+use reference::sample;
+use reference::tally;
+use reference::tally::Tally;
+
+// What the program counts beside the faults.
+const REPLAYED: u32 = 3;
+
+const REFUSED: u32 = 4;
+
+// Kinds of a look and a write, beside those of the calls that change a board.
+const LOOK: u32 = 5;
+
+// Of 32 calls one looks and one writes.
+fn kind_or_between(g: Random, kind: u32) -> u32 {
+    let x = random::below(g, 32);
+    if x < 2 {
+        return LOOK + x;
+    }
+    kind
+}
+
+fn some_list(seed: Random, n: u32) -> Calls {
+    let mut l = Calls {
+        kinds: [0; CALLS],
+        firsts: [0; CALLS],
+        seconds: [0; CALLS],
+    };
+    let mut g = seed;
+    for k in 0..300 {
+        let c = call::some_call(g, n, 4);
+        g = random::next(random::next(random::next(random::next(random::next(g)))));
+        l.kinds[k] = access::narrow(kind_or_between(g, c.kind));
+        l.firsts[k] = c.first;
+        l.seconds[k] = c.second;
+        g = random::next(g);
+    }
+    l
+}
+
+// The list with one call changed, so that its answer is another: a vertex that is not there, or a budget above the
+// limit.
+fn with_other_call(list: Calls, at: u32) -> Calls {
+    let mut l = list;
+    let k = (at % 300) as usize;
+    let other = if l.kinds[k] == 3 { 0 } else { 3 };
+    l.kinds[k] = other;
+    l.firsts[k] = 4294967295;
+    l
+}
+
+// The log after a part of a list, and whether every answer was the log's; looks and writes answer 0.
+struct Reading {
+    log: Log,
+    right: bool,
+}
+
+fn after_call(r: Reading, p: Problem, c: Call, answer: u32) -> Reading {
+    let log = r.log;
+    if LOOK <= c.kind {
+        return Reading {
+            log: log,
+            right: r.right && answer == 0,
+        };
+    }
+    let noted = log::note(log, p, c);
+    let after = noted.log;
+    Reading {
+        log: after,
+        right: r.right && answer == noted.answer,
+    }
+}
+
+fn read(list: Calls, answers: [u32; CALLS], p: Problem) -> Reading {
+    let mut r = Reading {
+        log: log::empty(),
+        right: true,
+    };
+    for k in 0..300 {
+        let c = Call {
+            kind: access::of_byte(list.kinds[k]),
+            first: list.firsts[k],
+            second: list.seconds[k],
+        };
+        r = after_call(r, p, c, answers[k]);
+    }
+    r
+}
+
+// Whether a replay gave the log's answers to a list, and a last look at what the log says.
+fn is_right(r: Replayed, list: Calls, p: Problem) -> bool {
+    let answers = r.answers;
+    let reading = read(list, answers, p);
+    if !reading.right {
+        return false;
+    }
+    let log = reading.log;
+    let shown = r.shown;
+    verdict::judged(log::problem_now(log, p), shown) == 0
+}
+
+// Whether a replay gave this refusal and touched nothing.
+fn is_refused(r: Replayed, answer: u32) -> bool {
+    let shown = r.shown;
+    let answers = r.answers;
+    if shown.kind != calls::REFUSED {
+        return false;
+    }
+    if shown.total != answer {
+        return false;
+    }
+    if !verdict::all_untouched(shown) {
+        return false;
+    }
+    buffers::words_untouched(&answers, 0, 300)
+}
+
+// One list or one buffer too short by one, the others whole.
+fn one_short(which: u32, n: u32) -> Lent {
+    let mut l = replays::whole();
+    match which {
+        0 => l.firsts = 299,
+        1 => l.seconds = 299,
+        2 => l.answers = 299,
+        3 => l.parents = std::num::wrapping_sub_u32(n, 1),
+        4 => l.states = std::num::wrapping_sub_u32(access::times(n, n), 1),
+        _ => l.cuts = 121,
+    }
+    l
+}
+
+// Each of them is refused with 14, and taken for another refusal it is reported.
+fn tried_short(tally: Tally, c: Card, list: Calls, n: u32) -> Tally {
+    let mut t = tally;
+    for which in 0..6 {
+        let r = replays::replay(c, list, one_short(which, n));
+        t = tally::checked(t, REFUSED, is_refused(r, BUFFER_SHORT));
+        t = tally::planted(t, !is_refused(r, BAD_LENGTH));
+    }
+    t
+}
+
+// A card that is too long is refused with its own number, even where a list is too short.
+fn tried_refused(tally: Tally, c: Card, list: Calls, n: u32) -> Tally {
+    let mut d = c;
+    d.length = access::plus(c.length, 1);
+    let r = replays::replay(d, list, one_short(n, n));
+    tally::checked(tally, REFUSED, is_refused(r, BAD_LENGTH))
+}
+
+// A list from a card, and the same with one call changed, which has to be reported; then the refusals.
+fn tried(tally: Tally, p: Problem, g: Random) -> Tally {
+    let c = card::build(p);
+    let list = some_list(g, p.n);
+    let other = with_other_call(list, random::below(g, 300));
+    let whole = replays::whole();
+    let t = tally::checked(
+        tally,
+        REPLAYED,
+        is_right(replays::replay(c, list, whole), list, p),
+    );
+    let u = tally::planted(t, !is_right(replays::replay(c, other, whole), list, p));
+    tried_refused(tried_short(u, c, list, p.n), c, list, p.n)
+}
+
+fn run(count: u32) -> Tally {
+    let mut t = tally::zero();
+    for k in 0..count {
+        t = tried(t, sample::small_instance(k), random::seeded(k));
+    }
+    t
+}
+
+pub fn all() {
+    tally::report(run(60), b"lists of 300 handed over\nrefused\n");
+}

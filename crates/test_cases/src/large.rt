@@ -1,0 +1,121 @@
+// Instances of 32 vertices: dense, sparse, nested cycles, all weights equal. The shown tree and the cuts prove the
+// total; the states are held to what follows from the shown tree and the cuts, and for some arcs to looks with that arc
+// pinned and banned.
+use crate::exact;
+use crate::make;
+use harness::calls::Shown;
+use harness::verdict;
+use reference::access;
+use reference::outcome;
+use reference::problem;
+use reference::problem::MAX_BUDGET;
+use reference::problem::Problem;
+use reference::random;
+use reference::random::Random;
+use reference::tally;
+use reference::tally::Tally;
+use reference::worked;
+
+// What the program counts beside the faults: the kinds of a look have a count each.
+const INSTANCES: u32 = 3;
+
+const LOOKS: u32 = 4;
+
+const KINDS: u32 = 5;
+
+const ARCS: u32 = 8;
+
+// Whether the kind is that of a total under a budget; there is nothing to say of one without a tree.
+fn kind_right(kind: u32, total: u32, budget: u32) -> bool {
+    match kind {
+        outcome::PLAN => total <= budget,
+        outcome::OVER => budget < total,
+        outcome::NONE => true,
+        _ => false,
+    }
+}
+
+// Whether a look is proved right by its own tree and cuts, and its states fit them.
+fn is_right(p: Problem, s: Shown) -> bool {
+    if !kind_right(s.kind, s.total, p.budget) {
+        return false;
+    }
+    let table = problem::costs(p);
+    if verdict::certified(&table, p.n, p.root, s) != 0 {
+        return false;
+    }
+    exact::states_fit(&table, p, s)
+}
+
+fn with_look(tally: Tally, p: Problem, s: Shown) -> Tally {
+    let t = tally::with(tally, access::plus(KINDS, s.kind), 1);
+    tally::checked(t, LOOKS, is_right(p, s))
+}
+
+// One arc that the generator picks, exactly.
+fn with_arc(tally: Tally, p: Problem, s: Shown, g: Random) -> Tally {
+    let tail = random::below(g, 32);
+    let head = random::below(random::next(g), 32);
+    tally::checked(tally, ARCS, exact::arc_right(p, s, tail, head))
+}
+
+// A look under a budget; then two arcs exactly.
+fn tried(tally: Tally, p: Problem, budget: u32, g: Random) -> Tally {
+    let q = worked::with_budget(p, budget);
+    let s = exact::look_at(q);
+    let t = with_look(tally, q, s);
+    let u = with_arc(t, q, s, g);
+    with_arc(u, q, s, random::next(random::next(g)))
+}
+
+// A plan held to the instance with one of its arcs dearer by 1: that has to be reported, or the test could not fail.
+fn planted(tally: Tally, p: Problem, s: Shown, vertex: u32) -> Tally {
+    let parents = s.parents;
+    if vertex == p.root {
+        return tally;
+    }
+    let tail = access::byte(&parents, vertex);
+    let weight = p.weights[problem::cell(tail, vertex)];
+    let dearer = worked::with_weight(p, tail, vertex, access::plus(weight, 1));
+    tally::planted(tally, !is_right(dearer, s))
+}
+
+// Budgets at the cheapest total, one below, and somewhat above.
+fn tried_around(tally: Tally, p: Problem, total: u32, g: Random) -> Tally {
+    if 30000000 < total {
+        return tally;
+    }
+    let t = tried(tally, p, total, g);
+    let u = tried(t, p, total + total / 64, random::next(g));
+    if total == 0 {
+        return u;
+    }
+    tried(u, p, total - 1, g)
+}
+
+// The cheapest total from a look under the largest budget, and then budgets around it.
+fn tried_all(tally: Tally, p: Problem, g: Random) -> Tally {
+    let q = worked::with_budget(p, MAX_BUDGET);
+    let s = exact::look_at(q);
+    let t = with_look(tally::with(tally, INSTANCES, 1), q, s);
+    if s.kind != outcome::PLAN {
+        return t;
+    }
+    tried_around(planted(t, q, s, random::below(g, 32)), p, s.total, g)
+}
+
+fn run(count: u32) -> Tally {
+    let mut t = tally::zero();
+    for k in 0..count {
+        let g = random::seeded(k);
+        t = tried_all(t, make::nth_instance(k), g);
+    }
+    t
+}
+
+pub fn all() {
+    tally::report(
+        run(240),
+        b"instances of 32\nlooks\nplan\nover\nnone\narcs looked at singly\n",
+    );
+}

@@ -1,0 +1,144 @@
+// Document 01's own cases, one to a line of the standard input, held against the reference and against the planner: the
+// worked outcomes with their trees, states and cards, every refusal from 1 to 15 with what it leaves behind, the 200
+// records.
+use crate::buffer_lines;
+use crate::look_lines;
+use harness::boards;
+use harness::replies;
+use harness::session;
+use harness::session::Called;
+use harness::session::Session;
+use reference::access;
+use reference::log;
+use reference::outcome;
+use reference::refusals::INVALID_BOARD;
+use reference::script;
+use reference::script::Line;
+use reference::script::SCRIPT_ROOM;
+use reference::tally;
+use reference::tally::Tally;
+use reference::worked;
+
+// What the program counts beside the faults.
+const LINES: u32 = 3;
+
+const CHECKED: u32 = 4;
+
+// A call, made as often as the line says: what the last one gave.
+fn called(line: Line, s: Session) -> Called {
+    let times = script::times_of(line);
+    let c = script::call_of(line);
+    let mut last = session::with_call(s, c);
+    for k in 1..times {
+        let s = last.session;
+        last = session::with_call(s, c);
+    }
+    last
+}
+
+// "mark 1 on 2 1: 0", "budget 16: 0", "take-back: 13": the board's answer is the line's, and the log's is the same. 15
+// is no answer of the log's, which knows the card alone.
+fn answer_right(line: Line, s: Session) -> bool {
+    let right = script::expected(line, 1);
+    let c = called(line, s);
+    if c.log_answer != right {
+        if right != INVALID_BOARD {
+            return false;
+        }
+    }
+    let reply = c.reply;
+    replies::is_reply(reply, right)
+}
+
+// Whether a line is right.
+fn is_right(line: Line, s: Session) -> bool {
+    let first = line.first;
+    match first {
+        b'm' | b'b' | b't' => answer_right(line, s),
+        b'p' => look_lines::outcome_right(line, s, outcome::PLAN),
+        b'o' => look_lines::outcome_right(line, s, outcome::OVER),
+        b'n' => look_lines::outcome_right(line, s, outcome::NONE),
+        b'f' => look_lines::parents_right(line, s),
+        b's' => look_lines::set_right(line, s),
+        b'w' => buffer_lines::write_right(line, s),
+        b'l' => buffer_lines::look_right(line, s),
+        b'i' => buffer_lines::lent_right(line, s),
+        b'c' => buffer_lines::card_right(line),
+        _ => !line.expects,
+    }
+}
+
+// A board whose root is out of range.
+fn damaged() -> Session {
+    let p = worked::without_arcs(4, 4, 16);
+    Session {
+        board: boards::of_problem(p),
+        log: log::empty(),
+        card: p,
+    }
+}
+
+// The session after a line: a sheet that is opened, or a call that is made.
+fn after(line: Line, s: Session) -> Session {
+    let first = line.first;
+    match first {
+        b'Q' | b'T' | b'O' => session::opened(worked::sheet(first, script::number(line, 1))),
+        b'D' => damaged(),
+        b'm' | b'b' | b't' => session_of(called(line, s)),
+        _ => s,
+    }
+}
+
+fn session_of(c: Called) -> Session {
+    let s = c.session;
+    s
+}
+
+// The line with each expected number changed in turn: that has to be reported, or the test could not fail.
+fn planted(tally: Tally, line: Line, s: Session) -> Tally {
+    let mut t = tally;
+    let inputs = line.inputs;
+    let count = line.count;
+    for k in inputs..count {
+        t = tally::planted(
+            t,
+            !is_right(script::with_fault(line, access::plus(k, 1)), s),
+        );
+    }
+    t
+}
+
+fn tried(tally: Tally, line: Line, s: Session) -> Tally {
+    let t = tally::with(tally, LINES, 1);
+    let right = is_right(line, s);
+    if !right {
+        tally::print_wrong(tally::count(t, LINES));
+    }
+    if line.expects {
+        return planted(tally::checked(t, CHECKED, right), line, s);
+    }
+    t
+}
+
+fn run(text: &[u8]) -> Tally {
+    let mut t = tally::zero();
+    let mut line = script::empty();
+    let mut s = damaged();
+    for at in 0..text.len() {
+        line = script::with_byte(line, text[at]);
+        if line.is_whole {
+            t = tried(t, line, s);
+            s = after(line, s);
+        }
+    }
+    t
+}
+
+pub fn all() {
+    let mut text = [0; SCRIPT_ROOM];
+    io::read_full(0, &mut text);
+    tally::report(
+        run(&text),
+        b"lines of the script\nlines that expect something\n",
+    );
+}

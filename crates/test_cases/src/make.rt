@@ -1,0 +1,54 @@
+// Large instances.
+use reference::problem::Problem;
+use reference::random;
+use reference::sample;
+use reference::sample::Mixture;
+use reference::worked;
+
+// Arcs both ways between neighbours from 1 to 31, dearer as the numbers grow: 1 and 2 close the first cycle, which 3
+// joins, and so on, so that the cycles lie within one another; and arcs from vertex 0, the root, to every vertex from
+// one on.
+fn nested(entered_from: u32) -> Problem {
+    let mut p = worked::without_arcs(32, 0, 0);
+    for k in 1..32 {
+        if k < 31 {
+            p = worked::with_weight(p, k, k + 1, 100 * k + 100);
+            p = worked::with_weight(p, k + 1, k, 100 * k + 100);
+        }
+        if entered_from <= k {
+            p = worked::with_weight(p, 0, k, 90000);
+        }
+    }
+    p
+}
+
+fn mixed(k: u32, weights: u32, missing: u32, pinned: u32, banned: u32) -> Problem {
+    let mix = Mixture {
+        weights: weights,
+        missing: missing,
+        pinned: pinned,
+        banned: banned,
+    };
+    sample::instance(random::seeded(k), 32, k % 32 * 5 % 32, mix)
+}
+
+// Nested cycles, with a way in at every vertex, at the one that joins last, and at none: there the set that no arc
+// enters is found only after every cycle was drawn together. Dense ones with any weights, with ties, and with all
+// weights equal; sparse ones; and then every mixture.
+pub fn nth_instance(k: u32) -> Problem {
+    match k {
+        0 => nested(1),
+        1 => nested(31),
+        2 => nested(32),
+        3 => mixed(3, 2, 0, 0, 0),
+        4 => mixed(4, 1, 0, 0, 4),
+        5 => mixed(5, 3, 0, 0, 0),
+        6 => mixed(6, 2, 54, 0, 0),
+        7 => mixed(7, 0, 48, 0, 2),
+        8 => mixed(8, 5, 20, 0, 8),
+        9 => mixed(9, 4, 10, 1, 6),
+        10 => mixed(10, 2, 60, 0, 0),
+        11 => mixed(11, 2, 8, 0, 30),
+        _ => mixed(k, k % 6, k % 60, 0, k % 24),
+    }
+}

@@ -1,0 +1,42 @@
+// Results with one fault planted. The comparison has to report each of them, or the test could not fail.
+use harness::calls::Shown;
+use reference::access;
+use reference::random;
+use reference::random::Random;
+use reference::shown::CUT_WORDS;
+
+fn with_parent(shown: Shown, vertex: u32) -> Shown {
+    let mut s = shown;
+    s.parents[(vertex % 40) as usize] = 0;
+    s
+}
+
+fn with_word(shown: Shown, at: u32) -> Shown {
+    let mut s = shown;
+    let k = (at % 130) as usize;
+    s.cuts[k] = access::plus(s.cuts[k], 1);
+    s
+}
+
+fn with_state(shown: Shown, at: u32) -> Shown {
+    let mut s = shown;
+    let k = (at % 1100) as usize;
+    s.states[k] = (s.states[k] % 4 + 1) % 4;
+    s
+}
+
+// An amount raised, a parent at the root, another kind, one pair more, a byte or a word touched past the end, a state
+// changed.
+pub fn with_fault(shown: Shown, n: u32, root: u32, g: Random) -> Shown {
+    let mut s = shown;
+    match random::below(g, 7) {
+        0 => return with_word(s, 1),
+        1 => return with_parent(s, root),
+        2 => s.kind = access::plus(s.kind, 1) % 3,
+        3 => s.pairs = access::plus(s.pairs, 1),
+        4 => return with_parent(s, n),
+        5 => return with_word(s, CUT_WORDS),
+        _ => return with_state(s, random::below(random::next(g), access::times(n, n))),
+    }
+    s
+}
