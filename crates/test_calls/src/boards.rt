@@ -92,7 +92,7 @@ fn tried_call(tally: Tally, d: Damaged, k: u32) -> Tally {
     t
 }
 
-// Whether a call is left out: a look at a large sound board takes long, and test_large has it.
+// Whether a call is left out: a look at a large sound board takes long, and test_cases has it.
 fn is_left_out(d: Damaged, k: u32) -> bool {
     let b = d.board;
     if k != LOOK {
