@@ -200,7 +200,7 @@ fn with_budget(mut instance: Instance, budget: &str, base: &str) -> Instance {
     if let Some(v) = cheapest(&run(base, CARD)) {
         instance.budget = match budget {
             "tight" => v,
-            "middling" => v + v / 10,
+            "middling" => (v + v / 10).min(31_000_000),
             _ => 31_000_000,
         };
     }

@@ -8,8 +8,8 @@ use denote.Ref.{now}
 use denote.Triple.Clauses.{AtExit}
 use Rattle.report.specs.declared.Reported.{Reported}
 use Rattle.report.specs.Reports.{Reports}
-use Rattle.report.proofs.cards.report.Reads as report-reads
-use Rattle.report.proofs.cards.report.Kinds as report-kinds
+use Rattle.report.proofs.reports.report.Reads as report-reads
+use Rattle.report.proofs.reports.report.Kinds as report-kinds
 
 pub data Reported-by : (card : List ℕ) → Reported → (out out′ : List ℕ) → Type 0 where
   by-report :

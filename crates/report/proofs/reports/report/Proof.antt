@@ -2,8 +2,8 @@
 use native.Mathlib.Omega.{arith}
 use Rattle.report.proofs.ReportLaws.{opened-good, refusal-room, too-short-reported, refusal-reported, card-reported}
 use borrow.Author.Needs.{needs}
-use Rattle.report.proofs.cards.report.Statement.{statement}
-use Rattle.report.proofs.cards.report.Tie as tie
+use Rattle.report.proofs.reports.report.Statement.{statement}
+use Rattle.report.proofs.reports.report.Tie as tie
 
 returns : tie.Need-returns
 returns c = too-short-reported _ _ (c .if1 .taken)

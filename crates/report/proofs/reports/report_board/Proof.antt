@@ -4,8 +4,8 @@ use native.Mathlib.Omega.{arith}
 use borrow.Author.Needs.{needs}
 use Rattle.board.proofs.ModelOfLaws.{known}
 use Rattle.report.proofs.ReportLaws.{Text-of, not-refused, text-shown}
-use Rattle.report.proofs.cards.report_board.Statement.{statement}
-use Rattle.report.proofs.cards.report_board.Tie as tie
+use Rattle.report.proofs.reports.report_board.Statement.{statement}
+use Rattle.report.proofs.reports.report_board.Tie as tie
 
 abbrev start-of : tie.After-look → tie.Start
 start-of c = c .before .before .before .before .before .before
