@@ -99,11 +99,11 @@ fn is_unfit(kinds: usize, firsts: usize, seconds: usize, answers: usize) -> bool
     answers < kinds
 }
 
-// Opens the card, makes every call of the list, stores every answer, and looks at the end; a look between goes into the
-// same buffers. `kinds`, `firsts` and `seconds` are the list, a kind and two numbers for each call: 0 pins, 1 bans, 2
-// clears (tail and head), 3 sets the budget, 4 takes back, 5 looks, any other kind writes. `answers` takes the answer
-// of each. `parents`, `states` and `cuts` are the buffers of every look. All are judged before anything is done: where
-// one is too short, nothing is touched.
+// Opens the card `bytes`, makes every call of the list, stores every answer, and looks at the end; a look between goes
+// into the same buffers. `kinds`, `firsts` and `seconds` are the list, a kind and two numbers for each call: 0 pins, 1
+// bans, 2 clears (tail and head), 3 sets the budget, 4 takes back, 5 looks, any other kind writes. `answers` takes the
+// answer of each. `parents`, `states`, `cuts` are the buffers of every look. All are judged before anything is done:
+// where one is too short, nothing is touched.
 pub fn replay(
     bytes: &[u8],
     kinds: &[u8],
