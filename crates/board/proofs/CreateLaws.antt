@@ -10,7 +10,7 @@ use Rattle.instance.specs.Valid.{header-valid, valid-instance}
 use Rattle.commands.specs.Model.{Model, opened}
 use Rattle.commands.specs.Valid.{valid}
 use Rattle.commands.specs.Log.{new-log}
-use Rattle.commands.proofs.ValidLaws.{valid-parts, opened-valid, bad-header}
+use Rattle.commands.proofs.ValidLaws.{valid-parts, opened-valid, header-invalid}
 use Rattle.commands.proofs.LogLaws.{Tied, opened-tied}
 use Rattle.board.specs.declared.Board.{Board}
 use Rattle.board.specs.ModelOf.{model-of}
@@ -20,7 +20,7 @@ use Rattle.board.proofs.RunLaws.{Follows}
 -- the blank board is refused by every call: 15
 pub blank-invalid : valid (model-of blank) ≡ false
 unfolding blank board-with header-valid
-blank-invalid = sym (bad-header (model-of blank) refl)
+blank-invalid = sym (header-invalid (model-of blank) refl)
 
 pub new-board-follows :
     (n root budget : ℕ) (ws ms : List ℕ) (b : Board) → New-board n root budget ws ms b → valid-instance (instance-with n root budget ws ms) ≡ true →

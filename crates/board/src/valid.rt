@@ -10,13 +10,13 @@ ghost use Rattle.commands.specs.Valid.{record-ok, valid};
 ghost use Rattle.board.specs.ModelOf.{instance-of, replaced-of, history-of, model-of};
 use crate::Board;
 use crate::Replaced;
-use instance::arc::is_arc;
+use checks::arc::is_arc;
+use checks::valid::cells_valid;
+use checks::valid::header_valid;
 use instance::limits::BANNED;
 use instance::limits::CELLS;
 use instance::limits::MAX_BUDGET;
 use instance::limits::MAX_RECORDS;
-use instance::valid::cells_valid;
-use instance::valid::header_valid;
 
 fn record_ok(weights: &[u32; CELLS], n: u32, root: u32, replaced: Replaced) -> bool
     requires { ⌜ (n ≤ max-vertices) × (length (now weights) ≡ cells) ⌝ }

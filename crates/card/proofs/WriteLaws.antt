@@ -23,9 +23,9 @@ pub cell-room : (out : List ℕ) (w : BitWriter) (n r i v m : ℕ) → on-card n
 cell-room out w n r i v m t h = rw (t, length-pair v m) at h
 
 -- A buffer that is too short is left alone; else the header, the cells and the filling are put one after the other.
-pub too-short : (s : Instance) (out : List ℕ) → length out < bytes-needed (s .n) → Card-written s out out (record { answer = buffer-short; length = 0 })
+pub short-refused : (s : Instance) (out : List ℕ) → length out < bytes-needed (s .n) → Card-written s out out (record { answer = buffer-short; length = 0 })
 unfolding written-to buffer-after
-too-short s out h = let t = lt-ltb (length out) (bytes-needed (s .n)) h in record { result = simp t; buffer = simp t }
+short-refused s out h = let t = lt-ltb (length out) (bytes-needed (s .n)) h in record { result = simp t; buffer = simp t }
 
 module _ (n r b : ℕ) (vs ms : List ℕ) (few : n ≤ max-vertices) (inside : r < n) (out : List ℕ) (long : bytes-needed n ≤ length out) where
   pub header-room : header-width ≤ 8 * length out

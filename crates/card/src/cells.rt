@@ -11,7 +11,7 @@ use crate::widths::CELL_WIDTH;
 use crate::widths::HEADER_WIDTH;
 use crate::widths::MARK_WIDTH;
 use crate::widths::WEIGHT_WIDTH;
-use instance::arc::can_be_arc;
+use checks::arc::can_be_arc;
 use instance::limits::CELLS;
 use instance::limits::FREE;
 use instance::limits::MAX_WEIGHT;

@@ -58,12 +58,12 @@ module _ (ws : List ℕ) (o : Opens ws) where
       let e = bits-in-are-bits ws in
       let k = length-known (n-of ws) (o .header .n-high) in
       let c : cell-bits cells 0 s ++ drop (bits-needed (n-of ws)) bs ≡ drop header-width bs =
-      rw (offset-start (n-of ws) (root-of ws), o .header .end) at (cells-again s bs e cells (omega (arith, o .header .end, o .fits)) (weight-in ws) (mark-in ws) cells 0 (omega arith)) in
+      rw (offset-start (n-of ws) (root-of ws), o .header .end) at (cells-again s bs e cells (omega (arith, o .header .end, o .long-enough)) (weight-in ws) (mark-in ws) cells 0 (omega arith)) in
       simp append-assoc (rw (
         c,
-        field-written (n-width + root-width) budget-width bs e (omega (arith, o .fits)),
-        field-written n-width root-width bs e (omega (arith, o .fits)),
-      ) (field-written 0 n-width bs e (omega (arith, o .fits))))
+        field-written (n-width + root-width) budget-width bs e (omega (arith, o .long-enough)),
+        field-written n-width root-width bs e (omega (arith, o .long-enough)),
+      ) (field-written 0 n-width bs e (omega (arith, o .long-enough))))
 
 pub card-round-trip : (ws : List ℕ) → are-bytes ws ≡ true → card-refusal ws ≡ 0 → card-of (instance-in ws) ≡ ws
 unfolding card-of instance-in

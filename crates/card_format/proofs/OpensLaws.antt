@@ -41,7 +41,7 @@ refusal-by-steps ws = header-first ws (rest-refusal ws)
 -- A CARD THAT OPENS
 pub record Opens (ws : List ℕ) : Type 0 where
   pub header : Header-known ws
-  pub fits : bits-needed (n-of ws) ≤ length (bits-in ws)
+  pub long-enough : bits-needed (n-of ws) ≤ length (bits-in ws)
   pub all-pass : cells-refusal (weights-in (n-of ws) (root-of ws) (bits-in ws)) (marks-in (n-of ws) (root-of ws) (bits-in ws)) ≡ 0
   pub zeros : all-of (λ b. eqb b 0) (drop (bits-needed (n-of ws)) (bits-in ws)) ≡ true
 
@@ -58,7 +58,7 @@ opens ws e =
     let b = rest-passes (cells-refusal (weights-in n (root-of ws) bs) (marks-in n (root-of ws) bs)) (all-of (λ b. eqb b 0) (drop (bits-needed n) bs)) (a .1) in
     let h = header-known ws (a .0) in
     let k = length-known n (h .n-high) in
-    record { header = h; fits = rw (length-bits-in ws) (omega (arith, h .sized, k .whole)); all-pass = b .0; zeros = b .1 }
+    record { header = h; long-enough = rw (length-bits-in ws) (omega (arith, h .sized, k .whole)); all-pass = b .0; zeros = b .1 }
 
 pub opened-length : (ws : List ℕ) → card-refusal ws ≡ 0 → length ws ≡ bytes-needed (instance-in ws .n)
 unfolding instance-in
@@ -94,7 +94,7 @@ module _ (ws : List ℕ) (o : Opens ws) where
   unfolding cell-field
   mark-small i h q =
       let w = offset-within (n-of ws) (root-of ws) i cells h q in
-      rw q (field-below (offset (n-of ws) (root-of ws) i + weight-width) mark-width (bits-in ws) (bits-in-are-bits ws) (omega (arith, o .fits, o .header .end)))
+      rw q (field-below (offset (n-of ws) (root-of ws) i + weight-width) mark-width (bits-in ws) (bits-in-are-bits ws) (omega (arith, o .long-enough, o .header .end)))
 
   cell-passes : (i : ℕ) → i < cells → cell-refusal (weight-field (n-of ws) (root-of ws) (bits-in ws) i) (mark-field (n-of ws) (root-of ws) (bits-in ws) i) ≡ 0
   unfolding tabulate

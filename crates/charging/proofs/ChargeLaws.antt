@@ -76,7 +76,7 @@ module _ (ws ls : List ℕ) (n g : ℕ) (small : n ≤ max-vertices) {t h a : �
       is-one : cuts-from ((k + 1) - k) k cuts′ ≡ cut ∷ []
       is-one = one-cut cuts k s a (omega arith)
 
-      pub charged : Charged-group ws ws′ ls n g cuts cuts′ k true t h (k + 1) 0
+      pub charged : Charged-group ws ws′ ls n g k cuts cuts′ true t h (k + 1) 0
       charged =
           let size = cuts-size in
           record {
@@ -110,7 +110,7 @@ module _ (ws ls : List ℕ) (n g : ℕ) (small : n ≤ max-vertices) {t h a : �
           }
 
   -- the cheapest arc has weight 0 already
-  pub uncharged : (cuts : List ℕ) (k : ℕ) → length ws ≡ cells → length cuts ≡ cut-words → a ≡ 0 → Charged-group ws ws ls n g cuts cuts k true t h k 0
+  pub uncharged : (cuts : List ℕ) (k : ℕ) → length ws ≡ cells → length cuts ≡ cut-words → a ≡ 0 → Charged-group ws ws ls n g k cuts cuts true t h k 0
   uncharged cuts k size cuts-size z =
       let lt : a < no-arc = omega arith in
       let e = no-cuts k cuts in
@@ -137,7 +137,7 @@ module _ (ws ls : List ℕ) (n g : ℕ) (small : n ≤ max-vertices) {t h a : �
 
   -- no arc at all
   pub no-arcs : (cuts : List ℕ) (k s : ℕ) → length ws ≡ cells → length cuts ≡ cut-words → a ≡ no-arc → Members ls g n s
-      → Charged-group ws ws ls n g cuts cuts k false no-parent no-parent k s
+      → Charged-group ws ws ls n g k cuts cuts false no-parent no-parent k s
   no-arcs cuts k s size cuts-size e ms =
       record {
         size = size;

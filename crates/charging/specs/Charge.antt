@@ -26,7 +26,7 @@ pub record Unentered (n root : ℕ) (ws : List ℕ) (set : ℕ) : Type 0 where
 
 -- A charged group: the arc that it chose runs from t to h; the cut, if any, is at place k, and next is the place after
 -- it. A tree for the cuts that follow is one for all.
-pub record Charged-group (ws ws′ ls : List ℕ) (n g : ℕ) (cuts cuts′ : List ℕ) (k : ℕ) (found : Bool) (t h next set : ℕ) : Type 0 where
+pub record Charged-group (ws ws′ ls : List ℕ) (n g k : ℕ) (cuts cuts′ : List ℕ) (found : Bool) (t h next set : ℕ) : Type 0 where
   pub size : length ws′ ≡ cells
   pub cuts-size : length cuts′ ≡ cut-words
   pub least : k ≤ next

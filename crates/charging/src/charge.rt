@@ -16,6 +16,7 @@ use instance::Vertex;
 use instance::limits::CELLS;
 use instance::limits::CUT_WORDS;
 use instance::limits::NO_ARC;
+use instance::limits::VERTICES;
 
 // Writes a cut at its place.
 fn put_cut(c: CutIndex, set: u32, value: u32, cuts: &mut [u32; CUT_WORDS])
@@ -65,14 +66,14 @@ impl Charged {
 // Charges a group for its cheapest entering arc. The cut, if there is one, goes to place c.
 pub fn charge_group(
     w: &mut [u32; CELLS],
-    label: &[u8; 32],
+    label: &[u8; VERTICES],
     n: usize,
     g: Vertex,
     c: CutIndex,
     cuts: &mut [u32; CUT_WORDS],
 ) -> Charged
     requires { ⌜ (length (now w) ≡ cells) × (length (now cuts) ≡ cut-words) × (n ≤ max-vertices) × (g .0 < n) × (c .0 < max-cuts) ⌝ }
-    ensures { λ r. ⌜ Charged-group (now (w .entry)) (now (w .exit)) (now (label .entry)) n (g .0) (now (cuts .entry)) (now (cuts .exit)) (c .0) (r .found) (r .tail .0) (r .head .0) (r .next .0) (r .set) ⌝ }
+    ensures { λ r. ⌜ Charged-group (now (w .entry)) (now (w .exit)) (now (label .entry)) n (g .0) (c .0) (now (cuts .entry)) (now (cuts .exit)) (r .found) (r .tail .0) (r .head .0) (r .next .0) (r .set) ⌝ }
 {
     let arc = cheapest_arc(w, label, n, g);
     let value = arc.weight;

@@ -9,9 +9,11 @@ ghost use Rattle.charging.specs.Entering.{Cheapest};
 use instance::Vertex;
 use instance::limits::CELLS;
 use instance::limits::NO_ARC;
+use instance::limits::NO_PARENT;
+use instance::limits::VERTICES;
 
 // Stands for the ends of an arc where there is none.
-pub const NO_END: u32 = 255;
+pub const NO_END: u32 = NO_PARENT as u32;
 
 // An arc into a group; the weight is NO_ARC where there is none.
 pub struct Entering {
@@ -23,7 +25,7 @@ pub struct Entering {
 // The cheapest of one arc and those from outside the group into its vertex h.
 fn cheapest_into(
     w: &[u32; CELLS],
-    label: &[u8; 32],
+    label: &[u8; VERTICES],
     n: usize,
     g: Vertex,
     h: usize,
@@ -56,7 +58,7 @@ fn cheapest_into(
     }
 }
 
-pub fn cheapest_arc(w: &[u32; CELLS], label: &[u8; 32], n: usize, g: Vertex) -> Entering
+pub fn cheapest_arc(w: &[u32; CELLS], label: &[u8; VERTICES], n: usize, g: Vertex) -> Entering
     requires { ⌜ (n ≤ max-vertices) × (g .0 < n) ⌝ }
     ensures { λ r. ⌜ Cheapest (now (w .entry)) (now (label .entry)) n (g .0) n (r .tail .0) (r .head .0) (r .weight) ⌝ }
 {

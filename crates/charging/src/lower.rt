@@ -9,9 +9,17 @@ ghost use Rattle.charging.specs.Lower.{Affords, Affords-into, Lowered-in
 use instance::Vertex;
 use instance::limits::CELLS;
 use instance::limits::NO_ARC;
+use instance::limits::VERTICES;
 
 // The arcs from outside the group into its vertex h.
-fn lower_into(w: &mut [u32; CELLS], label: &[u8; 32], n: usize, g: Vertex, h: usize, value: u32)
+fn lower_into(
+    w: &mut [u32; CELLS],
+    label: &[u8; VERTICES],
+    n: usize,
+    g: Vertex,
+    h: usize,
+    value: u32,
+)
     requires { ⌜ (length (now w) ≡ cells) × (n ≤ max-vertices) × (g .0 < n) × (h < n) × (at (now label) h ≡ g .0) ⌝ }
     requires { ⌜ Affords-into (now w) (now label) n (g .0) h value ⌝ }
     ensures { λ _. ⌜ Lowered-into (now (w .entry)) (now (w .exit)) (now (label .entry)) (g .0) value h n ⌝ }
@@ -29,7 +37,7 @@ fn lower_into(w: &mut [u32; CELLS], label: &[u8; 32], n: usize, g: Vertex, h: us
     }
 }
 
-pub fn lower_arcs(w: &mut [u32; CELLS], label: &[u8; 32], n: usize, g: Vertex, value: u32)
+pub fn lower_arcs(w: &mut [u32; CELLS], label: &[u8; VERTICES], n: usize, g: Vertex, value: u32)
     requires { ⌜ (length (now w) ≡ cells) × (n ≤ max-vertices) × (g .0 < n) × Affords (now w) (now label) n (g .0) value ⌝ }
     ensures { λ _. ⌜ Lowered-cells (now (w .entry)) (now (w .exit)) (now (label .entry)) n (g .0) value n ⌝ }
 {

@@ -4,9 +4,10 @@ ghost use Prim.Native.Nat.{_≤_, _<_};
 ghost use Rattle.instance.specs.Limits.{max-vertices};
 ghost use Rattle.charging.specs.Members.{Members};
 use instance::Vertex;
+use instance::limits::VERTICES;
 
 // One bit for each vertex of the group.
-pub fn members(label: &[u8; 32], n: usize, g: Vertex) -> u32
+pub fn members(label: &[u8; VERTICES], n: usize, g: Vertex) -> u32
     requires { ⌜ (n ≤ max-vertices) × (g .0 < n) ⌝ }
     ensures { λ r. ⌜ Members (now (label .entry)) (g .0) n r ⌝ }
 {

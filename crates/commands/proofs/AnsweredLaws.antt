@@ -79,8 +79,8 @@ mark-valid m t h b k v e rs few ok =
     record {
       n-low = v .n-low;
       n-high = v .n-high;
-      root-in = v .root-in;
-      budget-in = v .budget-in;
+      root-below = v .root-below;
+      budget-most = v .budget-most;
       cells-ok = mark-cells s m t h (v .n-high) (v .cells-ok) e k;
       few = few;
       records-ok = sym (records-ok-of (with-mark m t h s) rs) ∙ records-ok-of s rs ∙ ok;
@@ -95,8 +95,8 @@ budget-valid v b k d rs few ok =
     record {
       n-low = d .n-low;
       n-high = d .n-high;
-      root-in = d .root-in;
-      budget-in = k;
+      root-below = d .root-below;
+      budget-most = k;
       cells-ok = cells-valid-of s v ∙ d .cells-ok;
       few = few;
       records-ok = sym (records-ok-of (with-budget v s) rs) ∙ records-ok-of s rs ∙ ok;
@@ -132,7 +132,7 @@ budgeted-valid w b v =
     budget-cases (λ d. Valid (d .board)) b (refused-valid b v) w
     (λ k l.
     budget-valid w b k v (r ∷ b .history) l
-    (all-of-more (record-ok s) r (b .history) (budget-recorded s (s .budget) (v .budget-in)) (v .records-ok)))
+    (all-of-more (record-ok s) r (b .history) (budget-recorded s (s .budget) (v .budget-most)) (v .records-ok)))
 
 undone-valid : (b : Model) (rs : List Replaced) → b .history ≡ rs → Valid b → Valid (undone rs b .board)
 unfolding undone refused restored record-ok

@@ -25,8 +25,8 @@ use Rattle.commands.specs.Valid.{record-ok, valid}
 pub record Valid (b : Model) : Type 0 where
   pub n-low : 1 ≤ b .instance .n
   pub n-high : b .instance .n ≤ max-vertices
-  pub root-in : b .instance .root < b .instance .n
-  pub budget-in : b .instance .budget ≤ max-budget
+  pub root-below : b .instance .root < b .instance .n
+  pub budget-most : b .instance .budget ≤ max-budget
   pub cells-ok : all-below cells (cell-valid (b .instance)) ≡ true
   pub few : length (b .history) ≤ max-records
   pub records-ok : all-of (record-ok (b .instance)) (b .history) ≡ true
@@ -46,8 +46,8 @@ valid-parts b e =
     record {
       n-low = valid-some s i;
       n-high = valid-small s i;
-      root-in = valid-root s i;
-      budget-in = valid-budget s i;
+      root-below = valid-root s i;
+      budget-most = valid-budget s i;
       cells-ok = valid-cells s i;
       few = leb-true (length (b .history)) max-records (and-left F G r);
       records-ok = and-right F G r;
@@ -59,8 +59,8 @@ parts-valid b v =
     simp (
       le-leb _ _ (v .n-low),
       le-leb _ _ (v .n-high),
-      lt-ltb _ _ (v .root-in),
-      le-leb _ _ (v .budget-in),
+      lt-ltb _ _ (v .root-below),
+      le-leb _ _ (v .budget-most),
       v .cells-ok,
       le-leb _ _ (v .few),
       v .records-ok,
@@ -105,17 +105,17 @@ module _ (b : Model) where
   abbrev cells-all : Bool
   cells-all = all-below cells (cell-valid (b .instance))
 
-  pub bad-header : header ≡ false → false ≡ valid b
+  pub header-invalid : header ≡ false → false ≡ valid b
   unfolding valid valid-instance
-  bad-header e = rw e
+  header-invalid e = rw e
 
-  pub bad-cell : header ≡ true → cells-all ≡ false → false ≡ valid b
+  pub cell-invalid : header ≡ true → cells-all ≡ false → false ≡ valid b
   unfolding valid valid-instance
-  bad-cell h e = rw (h, e)
+  cell-invalid h e = rw (h, e)
 
-  pub bad-count : header ≡ true → cells-all ≡ true → max-records < length (b .history) → false ≡ valid b
+  pub count-invalid : header ≡ true → cells-all ≡ true → max-records < length (b .history) → false ≡ valid b
   unfolding valid valid-instance
-  bad-count h c l = rw (h, c, lt-leb (length (b .history)) max-records l)
+  count-invalid h c l = rw (h, c, lt-leb (length (b .history)) max-records l)
 
   pub only-records : header ≡ true → cells-all ≡ true → length (b .history) ≤ max-records → all-of (record-ok (b .instance)) (b .history) ≡ valid b
   unfolding valid valid-instance

@@ -29,7 +29,7 @@ clear t h = set-mark Free t h
 
 -- VALID BOARDS
 -- a board, and what a pin of 99→99 answers: 9, or 15 first
-pub record Judged : Type 0 where
+pub record Board-case : Type 0 where
   pub of : Model
   pub answer : ℕ
 
@@ -39,14 +39,14 @@ model r b w m rs = record { instance = instance-of 3 r b (arc 0 2 4 ∷ arc 2 0 
 abbrev with-history : List Replaced → Model
 with-history rs = model 1 5 1000000 banned rs
 
-abbrev good : Model → Judged
+abbrev good : Model → Board-case
 good b = record { of = b; answer = 9 }
 
-abbrev bad : Model → Judged
+abbrev bad : Model → Board-case
 bad b = record { of = b; answer = 15 }
 
 -- n = 3, root 1, arcs 0→2 and 2→0; 1→2 is no arc, and the cells 0→1 and 1→1 can be none
-unfoldable pub models : List Judged
+unfoldable pub models : List Board-case
 models =
     good (with-history [])
     -- "a field outside the ranges above, a mark other than 0 on no link"
@@ -84,7 +84,7 @@ pub record Left : Type 0 where
   pub marks : List ℕ
   pub budget : ℕ
 
-pub record Run : Type 0 where
+pub record Command-case : Type 0 where
   pub from : Instance
   pub commands : List Command
   pub leaves : Left
@@ -103,7 +103,7 @@ in-log s cs =
     let t = effective (log-after cs (new-log s)) in
     record { answers = log-answers cs (new-log s); marks = marks-in t; budget = t .budget }
 
-unfoldable pub runs : List Run
+unfoldable pub runs : List Command-case
 runs =
     -- "Undoing a pin by setting the link free, where a ban stood before": one that a command set, and one that the card
     -- has

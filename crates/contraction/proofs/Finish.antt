@@ -1,7 +1,7 @@
 -- From a tree at single vertices to an arborescence of the instance, and cuts that prove its total: each arc's weight
 -- is what the cuts charge it, and each cut is entered once, so that weights and values add up to the same. Assumes
 -- nothing.
-use mathlib.Core.Path.{_≡_, refl, sym, _∙_}
+use mathlib.Core.Path.{_≡_, refl, sym, _∙_, ap}
 use mathlib.Core.Bool.{Bool, true, false, _&&_, not, cond}
 use mathlib.Core.List.{List, [], _∷_}
 use mathlib.Core.Logic.{inr, ⊎-elim}
@@ -10,15 +10,16 @@ use native.Mathlib.Omega.{arith}
 use lib.Dec.{ltb, leb, eqb}
 use lib.ListN.{length}
 use borrow.Author.Tests.{eqb-true, eqb-false, eq-eqb, ne-eqb, lt-ltb, le-leb, ltb-true, ltb-false}
-use Rattle.base.specs.Bounded.{all-below, sum-below}
+use Rattle.base.specs.Bounded.{sum-below}
 use Rattle.base.proofs.Tests.{test, and-both, and-false-right}
-use Rattle.base.proofs.BoundedLaws.{all-intro, sum-add, sum-zero, sum-eq}
+use Rattle.base.proofs.BoundedLaws.{sum-add, sum-zero, sum-eq}
 use Rattle.base.proofs.CountingLaws.{sum-one}
 use Rattle.base.proofs.CondLaws.{cond-zero, cond-add}
 use Rattle.instance.specs.Limits.{max-vertices, no-arc, no-parent, cut-limit}
 use Rattle.instance.specs.Instance.{Instance, weight}
-use Rattle.instance.specs.Arborescence.{remaining, parent, reaches, parent-ok, is-arborescence, total}
+use Rattle.instance.specs.Arborescence.{remaining, parent, reaches, is-arborescence, total}
 use Rattle.instance.specs.Cuts.{Cut, inside, enters, charged, values, set-ok, sets-ok, all-positive, Proves}
+use Rattle.instance.proofs.ArborescenceLaws.{make-arborescence}
 use Rattle.instance.proofs.ReachLaws.{enough}
 use Rattle.contraction.specs.Groups.{Lowered}
 use Rattle.contraction.specs.Trees.{Each, none-left, more, Reached, here, step, Once, Tree, Proper, Fine}
@@ -92,15 +93,9 @@ module _ (s : Instance) (w w′ : ℕ → ℕ → ℕ) (ps : List ℕ) (cs : Lis
       let h = has-all v l ne in
       sh .only (parent ps v) v h l (t .between v l h) (eqb-false v (s .root) ne) (was-there v l h)
 
-  vertex-ok : (v : ℕ) → v < s .n → (b : Bool) → eqb v (s .root) ≡ b → cond b (eqb (parent ps v) no-parent) (remaining s (parent ps v) v && reaches (s .n) (s .root) ps v) ≡ true
-  vertex-ok v l true e = rw (eqb-true v (s .root) e) (eq-eqb (parent ps (s .root)) no-parent at-root)
-  vertex-ok v l false e = and-both (remaining s (parent ps v) v) (reaches (s .n) (s .root) ps v) (arc v l e) (arrived v l)
-
   pub arborescence : is-arborescence s ps ≡ true
-  unfolding is-arborescence parent-ok
   arborescence =
-      and-both (eqb (length ps) (s .n)) (all-below (s .n) (parent-ok s ps)) (eq-eqb (length ps) (s .n) sized)
-      (all-intro (s .n) (parent-ok s ps) (λ v l. vertex-ok v l (eqb v (s .root)) refl))
+      make-arborescence s ps sized (λ v l e. ap (parent ps) (eqb-true v (s .root) e) ∙ at-root) (λ v l e. record { arc = arc v l e; reach = arrived v l })
 
   -- THE TOTAL
   tight : (v : ℕ) → v < s .n → eqb v (s .root) ≡ false → weight s (parent ps v) v ≡ charged cs (parent ps v) v

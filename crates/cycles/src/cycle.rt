@@ -3,21 +3,22 @@
 
 ghost use Rattle.cycles.specs.Cycle.{Searchable, Searched};
 use instance::Vertex;
+use instance::limits::VERTICES;
 
 // A group on the cycle, and the stamps: the groups of the cycle are those stamped no earlier than it.
 pub struct Walked {
     pub found: bool,
     pub at: Vertex,
-    pub stamp: [u8; 32],
+    pub stamp: [u8; VERTICES],
 }
 
-pub fn find_cycle(label: &[u8; 32], tails: &[u8; 32], n: usize, root: Vertex) -> Walked
+pub fn find_cycle(label: &[u8; VERTICES], tails: &[u8; VERTICES], n: usize, root: Vertex) -> Walked
     requires { ⌜ Searchable (now label) (now tails) n (root .0) ⌝ }
     ensures { λ r. ⌜ Searched (now (label .entry)) (now (tails .entry)) n (root .0) (r .found) (r .at .0) (r .stamp) ⌝ }
 {
     let r = root.0 as usize;
     let top = label[r] as usize;
-    let mut stamp = [0u8; 32];
+    let mut stamp = [0u8; VERTICES];
     let mut now: u8 = 1;
     let mut s: usize = 0;
     let mut at: u32 = 0;

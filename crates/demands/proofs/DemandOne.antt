@@ -39,17 +39,17 @@ use Rattle.planner.specs.Looking.{Buffers, answer-of, short-for, Looks-at, Look
 use Rattle.planner.specs.Replaying.{Call, Replays-at, Replays}
 use Rattle.planner.proofs.CallSteps.{shown-answer}
 use Rattle.planner.proofs.Learnt.{Opened-by, opened-by, Looked, looked, Wrote, wrote, Replayed, replayed}
-use Rattle.planner.proofs.WritingLaws.{Way, refused-board, refused-buffer, stored, writes-way}
+use Rattle.planner.proofs.WritingLaws.{Write-case, refused-board, refused-buffer, stored, write-cases}
 use Rattle.planner.proofs.OpeningLaws.{opened-answer, opened-starts}
 
 -- AN ANSWER that some public call gave
 pub data Given : ℕ → Type 0 where
   by-opening : {ws : List ℕ} {o : Answered} → Opened-by ws o → Given (o .answer)
   by-command : {c : Command} {b : Board} {r : Answered} → Called c b r → Given (r .answer)
-  by-looking : {b : Board} {v : View} {old new : Buffers} → Looked b v old new → Given (answer-of v)
-  by-writing : {b : Board} {r : Written} {out out′ : List ℕ} → Wrote b r out out′ → Given (r .answer)
-  by-reporting : {ws : List ℕ} {r : Reported} {out out′ : List ℕ} → Reported-by ws r out out′ → Given (r .answer)
-  by-replaying : {ws ks fs gs : List ℕ} {v : View} {xs xs′ : List ℕ} {old new : Buffers} → Replayed ws ks fs gs v xs xs′ old new → Given (answer-of v)
+  by-looking : {b : Board} {v : View} {old new : Buffers} → Looked b old new v → Given (answer-of v)
+  by-writing : {b : Board} {r : Written} {out out′ : List ℕ} → Wrote b out out′ r → Given (r .answer)
+  by-reporting : {ws : List ℕ} {r : Reported} {out out′ : List ℕ} → Reported-by ws out out′ r → Given (r .answer)
+  by-replaying : {ws ks fs gs : List ℕ} {v : View} {xs xs′ : List ℕ} {old new : Buffers} → Replayed ws ks fs gs xs xs′ old new v → Given (answer-of v)
 
 -- THE NUMBERS OF EACH CALL, 0 for accepted: "Cards: 1 to 5 in that order; then .. 6 before 7 ..; then 8."
 abbrev pub card-numbers : List ℕ
@@ -121,37 +121,37 @@ opened-as-before ws o e n =
 
 -- LOOKS
 module _ (s : Instance) (v : View) (old new : Buffers) where
-  looks-at-among : (g t : Bool) → Looks-at g t s v old new → among (answer-of v) buffer-numbers ≡ true
+  looks-at-among : (g t : Bool) → Looks-at g t s old new v → among (answer-of v) buffer-numbers ≡ true
   unfolding Looks-at any-of
   looks-at-among false t u = rw (ap answer-of (u .result))
   looks-at-among true true u = rw (ap answer-of (u .result))
   looks-at-among true false x = rw (shown-answer s v old new x)
 
-  looks-at-as-before : (g t : Bool) → Looks-at g t s v old new → (answer-of v ≡ 0 → ⊥) → new ≡ old
+  looks-at-as-before : (g t : Bool) → Looks-at g t s old new v → (answer-of v ≡ 0 → ⊥) → new ≡ old
   unfolding Looks-at
   looks-at-as-before false t u n = u .buffers
   looks-at-as-before true true u n = u .buffers
   looks-at-as-before true false x n = absurd (n (shown-answer s v old new x))
 
-  looks-at-valid : (g t : Bool) → Looks-at g t s v old new → answer-of v ≡ 0 → g ≡ true
+  looks-at-valid : (g t : Bool) → Looks-at g t s old new v → answer-of v ≡ 0 → g ≡ true
   unfolding Looks-at
   looks-at-valid true t u e = refl
   looks-at-valid false t u e = absurd (omega (arith, sym e ∙ ap answer-of (u .result)))
 
 -- WRITES
 module _ (b : Board) (r : Written) (out out′ : List ℕ) where
-  writes-among : Way b r out out′ → among (r .answer) buffer-numbers ≡ true
+  writes-among : Write-case b out out′ r → among (r .answer) buffer-numbers ≡ true
   unfolding any-of
   writes-among (refused-board e p q) = rw p
   writes-among (refused-buffer e l p q) = rw p
   writes-among (stored e l p q) = rw p
 
-  writes-as-before : Way b r out out′ → (r .answer ≡ 0 → ⊥) → out′ ≡ out
+  writes-as-before : Write-case b out out′ r → (r .answer ≡ 0 → ⊥) → out′ ≡ out
   writes-as-before (refused-board e p q) n = q
   writes-as-before (refused-buffer e l p q) n = q
   writes-as-before (stored e l p q) n = absurd (n (ap (λ (x : Written). x .answer) p))
 
-  writes-valid : Way b r out out′ → r .answer ≡ 0 → valid (model-of b) ≡ true
+  writes-valid : Write-case b out out′ r → r .answer ≡ 0 → valid (model-of b) ≡ true
   writes-valid (refused-board e p q) z = absurd (omega (arith, sym z ∙ ap (λ (x : Written). x .answer) p))
   writes-valid (refused-buffer e l p q) z = e
   writes-valid (stored e l p q) z = e
@@ -186,19 +186,19 @@ module _ (ws : List ℕ) (r : Reported) (out out′ : List ℕ) where
 
 -- REPLAYS
 module _ (cs : List Call) (k : Log) (v : View) (xs xs′ : List ℕ) (old new : Buffers) where
-  replays-among : (a : ℕ) (t : Bool) → a ≤ 8 → Replays-at a t cs k v xs xs′ old new → among (answer-of v) (buffer-short ∷ card-numbers) ≡ true
+  replays-among : (a : ℕ) (t : Bool) → a ≤ 8 → Replays-at a t cs k xs xs′ old new v → among (answer-of v) (buffer-short ∷ card-numbers) ≡ true
   unfolding Replays-at any-of
   replays-among (suc a) t l r = rw (ap answer-of (r .1 .result)) (or-right (eqb (suc a) buffer-short) (among (suc a) card-numbers) (card-among (suc a) l))
   replays-among zero true l r = rw (ap answer-of (r .1 .result))
   replays-among zero false l r = rw (shown-answer _ v old new (r .1))
 
-  replays-as-before : (a : ℕ) (t : Bool) → Replays-at a t cs k v xs xs′ old new → (answer-of v ≡ 0 → ⊥) → (xs′ ≡ xs) × (new ≡ old)
+  replays-as-before : (a : ℕ) (t : Bool) → Replays-at a t cs k xs xs′ old new v → (answer-of v ≡ 0 → ⊥) → (xs′ ≡ xs) × (new ≡ old)
   unfolding Replays-at
   replays-as-before (suc a) t r n = (r .0, r .1 .buffers)
   replays-as-before zero true r n = (r .0, r .1 .buffers)
   replays-as-before zero false r n = absurd (n (shown-answer _ v old new (r .1)))
 
-  replays-opened : (a : ℕ) (t : Bool) → Replays-at a t cs k v xs xs′ old new → answer-of v ≡ 0 → a ≡ 0
+  replays-opened : (a : ℕ) (t : Bool) → Replays-at a t cs k xs xs′ old new v → answer-of v ≡ 0 → a ≡ 0
   unfolding Replays-at
   replays-opened zero t r e = refl
   replays-opened (suc a) t r e = absurd (omega (arith, sym e ∙ ap answer-of (r .1 .result)))
@@ -231,7 +231,7 @@ demand-1 (by-looking {b = b} {v = v} {old = old} {new = new} p) =
       leaves-valid = looks-at-valid (instance-of b) v old new g t l;
     }
 demand-1 (by-writing {b = b} {r = r} {out = out} {out′ = out′} p) =
-    let w = writes-way b r out out′ (wrote p) in
+    let w = write-cases b r out out′ (wrote p) in
     record {
       listed = writes-among b r out out′ w;
       as-before = writes-as-before b r out out′ w;

@@ -33,9 +33,9 @@ pub data Run : List Command → Board → (answers : List ℕ) → (last : Board
       {c : Command} {cs : List Command} {b : Board} {r : Answered} {xs : List ℕ} {e : Board} → Called c b r → Run cs (r .board) xs e →
       Run (c ∷ cs) b (r .answer ∷ xs) e
   then-look :
-      {cs : List Command} {b : Board} {xs : List ℕ} {e : Board} {v : View} {old new : Buffers} → Looked b v old new → Run cs b xs e → Run cs b xs e
+      {cs : List Command} {b : Board} {xs : List ℕ} {e : Board} {v : View} {old new : Buffers} → Looked b old new v → Run cs b xs e → Run cs b xs e
   then-write :
-      {cs : List Command} {b : Board} {xs : List ℕ} {e : Board} {r : Written} {out out′ : List ℕ} → Wrote b r out out′ → Run cs b xs e → Run cs b xs e
+      {cs : List Command} {b : Board} {xs : List ℕ} {e : Board} {r : Written} {out out′ : List ℕ} → Wrote b out out′ r → Run cs b xs e → Run cs b xs e
 
 pub record Follows-run (cs : List Command) (k : Log) (b : Board) (xs : List ℕ) (e : Board) : Type 0 where
   pub same-answers : xs ≡ log-answers cs k
@@ -62,7 +62,7 @@ run-follows (then-write l rest) k f = run-follows rest k f
 -- feed trees of the card's positions, root and prices under the standing marks, within the standing budget."
 pub record Demand-3 (ws : List ℕ) (cs : List Command) (xs : List ℕ) (v : View) (old new : Buffers) : Type 0 where
   pub answers : xs ≡ log-answers cs (new-log (instance-in ws))
-  pub last-look : Looks-at true (short-for (instance-in ws .n) old) (effective (log-after cs (new-log (instance-in ws)))) v old new
+  pub last-look : Looks-at true (short-for (instance-in ws .n) old) (effective (log-after cs (new-log (instance-in ws)))) old new v
   -- the n times n states in the buffer, read in document 01's words and in both directions: closed exactly when no
   -- fitting arborescence of the effective instance uses the arc, open exactly when some do and some don't, sure exactly
   -- when there is one and all use it
@@ -70,7 +70,7 @@ pub record Demand-3 (ws : List ℕ) (cs : List Command) (xs : List ℕ) (v : Vie
       short-for (instance-in ws .n) old ≡ false →
       States-read (effective (log-after cs (new-log (instance-in ws)))) (take (instance-in ws .n * instance-in ws .n) (new .states))
 
-shown-states : (t : Bool) (s : Instance) (v : View) (old new : Buffers) → Looks-at true t s v old new → t ≡ false → States-read s (take (s .n * s .n) (new .states))
+shown-states : (t : Bool) (s : Instance) (v : View) (old new : Buffers) → Looks-at true t s old new v → t ≡ false → States-read s (take (s .n * s .n) (new .states))
 unfolding Looks-at
 shown-states true s v old new l e = absurd (true≢false e)
 shown-states false s v old new x e =
@@ -79,7 +79,7 @@ shown-states false s v old new x e =
 
 pub demand-3 :
     (ws : List ℕ) (cs : List Command) (o : Answered) (xs : List ℕ) (last : Board) (v : View) (old new : Buffers) → card-refusal ws ≡ 0 →
-    Opened-by ws o → Run cs (o .board) xs last → Looked last v old new → Demand-3 ws cs xs v old new
+    Opened-by ws o → Run cs (o .board) xs last → Looked last old new v → Demand-3 ws cs xs v old new
 demand-3 ws cs o xs last v old new z p run l =
     let s = opened-starts ws o (opened-by p) z in
     let r = run-follows run (new-log (instance-in ws)) (record { is-valid = s .good; tied = s .tied }) in
@@ -87,9 +87,9 @@ demand-3 ws cs o xs last v old new z p run l =
     let t = short-for (instance-in ws .n) old in
     let k = log-after cs (new-log (instance-in ws)) in
     let same = r .follows .tied .same-instance in
-    let looks : Looks-at true t (effective k) v old new =
-    subst (λ (i : Instance). Looks-at true t i v old new) same
-    (subst (λ (n : ℕ). Looks-at true (short-for n old) (instance-of last) v old new) (r .same-n ∙ s .same-n) shown) in
+    let looks : Looks-at true t (effective k) old new v =
+    subst (λ (i : Instance). Looks-at true t i old new v) same
+    (subst (λ (n : ℕ). Looks-at true (short-for n old) (instance-of last) old new v) (r .same-n ∙ s .same-n) shown) in
     let n : effective k .n ≡ instance-in ws .n = sym (ap (λ (i : Instance). i .n) same) ∙ r .same-n ∙ s .same-n in
     record {
       answers = r .same-answers;

@@ -75,21 +75,21 @@ keeps-marks true v s ps p e = record { pins = pinned-used s ps (p .0); bans = ba
 keeps-marks false v s ps p e = absurd (true≢false (sym e))
 
 pub demand-2 :
-    (b : Board) (v : View) (old new : Buffers) → Looked b v old new → valid (model-of b) ≡ true → short-for (b .n) old ≡ false → Demand-2 (instance-of b) v new
+    (b : Board) (v : View) (old new : Buffers) → Looked b old new v → valid (model-of b) ≡ true → short-for (b .n) old ≡ false → Demand-2 (instance-of b) v new
 demand-2 b v old new l g t =
     let s = instance-of b in
     let small = valid-parts (model-of b) g .n-high in
     let x = looks-long b v old new g t (looked l) in
     record {
       tree = x .tree;
-      cuts = x .found;
+      cuts = x .cut-list;
       shown = x .result;
       in-parents = ap (take (s .n)) (x .parents-buffer) ∙ front-take (x .tree) (old .parents) (s .n) (tree-long s v old new small x);
-      in-cuts = ap (take cut-words) (x .cuts-buffer) ∙ front-take (words-of (x .found)) (old .cuts) cut-words (words-long s v old new small x);
+      in-cuts = ap (take cut-words) (x .cuts-buffer) ∙ front-take (words-of (x .cut-list)) (old .cuts) cut-words (words-long s v old new small x);
       right = outcome-reads s;
       tree-shown = x .tree-shown;
       marks-shown = keeps-marks (shows-tree (outcome s)) (total-in (outcome s)) s (x .tree) (x .tree-shown);
       cuts-shown = x .cuts-shown;
-      price = λ w e. ⊎-elim (λ (p : outcome s ≡ Plan w). plan-price (outcome s) s (x .found) w (x .cuts-shown) p) (λ (p : outcome s ≡ Over w). over-price (outcome s) s (x .found) w (x .cuts-shown) p) e;
-      cheapest = no-cheaper (outcome s) s (x .found) (x .cuts-shown);
+      price = λ w e. ⊎-elim (λ (p : outcome s ≡ Plan w). plan-price (outcome s) s (x .cut-list) w (x .cuts-shown) p) (λ (p : outcome s ≡ Over w). over-price (outcome s) s (x .cut-list) w (x .cuts-shown) p) e;
+      cheapest = no-cheaper (outcome s) s (x .cut-list) (x .cuts-shown);
     }

@@ -41,7 +41,7 @@ use Rattle.board.specs.declared.Answered.{Answered}
 use Rattle.planner.specs.Opening.{opened-from}
 use Rattle.planner.proofs.Learnt.{Opened-by, opened-by, Wrote, wrote}
 use Rattle.planner.proofs.OpeningLaws.{opened-starts, opened-answer, opened-instance}
-use Rattle.planner.proofs.WritingLaws.{Way, refused-board, refused-buffer, stored, writes-way}
+use Rattle.planner.proofs.WritingLaws.{Write-case, refused-board, refused-buffer, stored, write-cases}
 use Rattle.demands.proofs.DemandThree.{Run, run-follows}
 
 -- FROM A CARD AND BACK
@@ -58,7 +58,7 @@ written-card ws s r out out′ e y z h p q =
     record { result = p ∙ rw (e, long, ← l); buffer = q ∙ rw (e, long, card-round-trip ws y z) }
 
 pub card-back : {ws : List ℕ} {o : Answered} {r : Written} {out out′ : List ℕ} → are-bytes ws ≡ true → Opened-by ws o → o .answer ≡ 0
-    → Wrote (o .board) r out out′ → length ws ≤ length out → Same-card ws r out out′
+    → Wrote (o .board) out out′ r → length ws ≤ length out → Same-card ws r out out′
 card-back {ws} {o} {r} {out} {out′} y p a w h =
     let e = opened-by p in
     let z = sym (opened-answer ws o e) ∙ a in
@@ -71,13 +71,13 @@ pub record Stored (b : Board) (ws : List ℕ) : Type 0 where
   pub fields : valid-instance (instance-of b) ≡ true
   pub card : ws ≡ card-of (instance-of b)
 
-stored-card : {b : Board} {r : Written} {out out′ : List ℕ} → Wrote b r out out′ → r .answer ≡ 0 → Stored b (take (r .length) out′)
-stored-card {b} {r} {out} {out′} w z = go (writes-way b r out out′ (wrote w))
+stored-card : {b : Board} {r : Written} {out out′ : List ℕ} → Wrote b out out′ r → r .answer ≡ 0 → Stored b (take (r .length) out′)
+stored-card {b} {r} {out} {out′} w z = go (write-cases b r out out′ (wrote w))
   where
     s : Instance
     s = instance-of b
 
-    go : Way b r out out′ → Stored b (take (r .length) out′)
+    go : Write-case b out out′ r → Stored b (take (r .length) out′)
     go (refused-board v p q) = absurd (omega (arith, sym z ∙ ap (λ (x : Written). x .answer) p))
     go (refused-buffer v l p q) = absurd (omega (arith, sym z ∙ ap (λ (x : Written). x .answer) p))
     go (stored v l p q) =
@@ -93,7 +93,7 @@ pub record Same-fields (b : Board) (o : Answered) : Type 0 where
   pub opens : o .answer ≡ 0
   pub same : Same-instance (instance-of (o .board)) (instance-of b)
 
-pub board-back : {b : Board} {r : Written} {out out′ : List ℕ} {o : Answered} → Wrote b r out out′ → r .answer ≡ 0 → Opened-by (take (r .length) out′) o → Same-fields b o
+pub board-back : {b : Board} {r : Written} {out out′ : List ℕ} {o : Answered} → Wrote b out out′ r → r .answer ≡ 0 → Opened-by (take (r .length) out′) o → Same-fields b o
 board-back {b} {r} {out} {out′} {o} w z p =
     let c = stored-card w z in
     let e = reopened b (take (r .length) out′) o c (opened-by p) in
@@ -124,7 +124,7 @@ module _ (ws : List ℕ) (cs : List Command) where
       instance-back (effective after) v (ap (λ (s : Instance). length (s .weights)) same-log-card ∙ weights-long ws) (length-tabulate cells _) off-card
 
 pub run-back : {ws : List ℕ} {o : Answered} {cs : List Command} {xs : List ℕ} {last : Board} {r : Written} {out out′ : List ℕ} {q : Answered} → card-refusal ws ≡ 0
-    → Opened-by ws o → Run cs (o .board) xs last → Wrote last r out out′ → r .answer ≡ 0 → Opened-by (take (r .length) out′) q → instance-of (q .board) ≡ instance-of last
+    → Opened-by ws o → Run cs (o .board) xs last → Wrote last out out′ r → r .answer ≡ 0 → Opened-by (take (r .length) out′) q → instance-of (q .board) ≡ instance-of last
 run-back {ws} {o} {cs} {xs} {last} {r} {out} {out′} {q} z p run w a u =
     let s = opened-starts ws o (opened-by p) z in
     let f = run-follows run (new-log (instance-in ws)) (record { is-valid = s .good; tied = s .tied }) in
@@ -134,7 +134,7 @@ run-back {ws} {o} {cs} {xs} {last} {r} {out} {out′} {q} z p run w a u =
     e .1 ∙ ap (λ (x : Instance). instance-in (card-of x)) same ∙ reached-back ws cs (subst (λ (x : Instance). valid-instance x ≡ true) same (c .fields)) ∙ sym same
 
 -- BOARDS THAT ARE CALLED EQUAL are written alike
-pub same-write : {a b : Board} {r q : Written} {out r′ q′ : List ℕ} → Same-board (model-of a) (model-of b) → Wrote a r out r′ → Wrote b q out q′ → (r ≡ q) × (r′ ≡ q′)
+pub same-write : {a b : Board} {r q : Written} {out r′ q′ : List ℕ} → Same-board (model-of a) (model-of b) → Wrote a out r′ r → Wrote b out q′ q → (r ≡ q) × (r′ ≡ q′)
 unfolding written-to buffer-after
 same-write {a} {b} {r} {q} {out} {r′} {q′} s x y =
     let v = same-valid (model-of a) (model-of b) s in

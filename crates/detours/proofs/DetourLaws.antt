@@ -14,9 +14,9 @@ use Rattle.instance.specs.Instance.{Instance, cell, weight}
 use Rattle.instance.specs.Arborescence.{remaining, parent, uses}
 use Rattle.instance.specs.Matrix.{unmarked}
 use Rattle.instance.proofs.MatrixLaws.{matrix-arc}
-use Rattle.paths.specs.Paths.{Rooted, Descends, Avoids, Way, start, onward}
+use Rattle.paths.specs.Paths.{Rooted, Descends, Avoids, On-path, start, onward}
 use Rattle.paths.specs.Tree.{Matrix-tree}
-use Rattle.paths.proofs.PathLaws.{descends-not, way-descends, root-avoids}
+use Rattle.paths.proofs.PathLaws.{descends-not, path-descends, root-avoids}
 use Rattle.paths.proofs.ExchangeLaws.{exchange, exchange-total, exchange-uses, exchange-two, exchange-two-total, exchange-two-uses}
 use Rattle.paths.proofs.TreeLaws.{tree-rooted}
 use Rattle.detours.specs.Descendants.{Descendants}
@@ -27,15 +27,15 @@ module _ (ps table : List ℕ) (h t : ℕ) where
   pub path-none : Path-least ps table h t no-arc
   path-none = record { at = λ l. absurd (omega arith) }
 
-  pub path-take : (k d : ℕ) → Way ps h t k → k ≢ h → getD table k 0 ≡ d → Path-least ps table h t d
+  pub path-take : (k d : ℕ) → On-path ps h t k → k ≢ h → getD table k 0 ≡ d → Path-least ps table h t d
   path-take k d w e q = record { at = λ l. (k, w, e, q) }
 
 -- whatever lies on the way from a vertex to h is a vertex
-way-within : (n root : ℕ) (ps : List ℕ) (h t v : ℕ) → Rooted n root ps → n ≤ max-vertices → h < n → h ≢ root → t < n → Descends ps h t → Way ps h t v → v < n
-way-within n root ps h t v k small l e b u start = b
-way-within n root ps h t v k small l e b u (onward {v = w} way ne) =
-    let inside = way-within n root ps h t w k small l e b u way in
-    k .below w inside (ne-eqb w root (λ z. descends-not ps h root (rw z at (way-descends ps h t w way u)) (root-avoids n root ps k small h l e)))
+path-within : (n root : ℕ) (ps : List ℕ) (h t v : ℕ) → Rooted n root ps → n ≤ max-vertices → h < n → h ≢ root → t < n → Descends ps h t → On-path ps h t v → v < n
+path-within n root ps h t v k small l e b u start = b
+path-within n root ps h t v k small l e b u (onward {v = w} way ne) =
+    let inside = path-within n root ps h t w k small l e b u way in
+    k .below w inside (ne-eqb w root (λ z. descends-not ps h root (rw z at (path-descends ps h t w way u)) (root-avoids n root ps k small h l e)))
 
 -- THE EXCHANGES
 module _ (n root : ℕ) (m ps : List ℕ) (k : Matrix-tree n root m ps) (h t : ℕ) where
@@ -52,11 +52,11 @@ module _ (n root : ℕ) (m ps : List ℕ) (k : Matrix-tree n root m ps) (h t : �
         exchange =
             λ r _.
             let below = k .matrix-ok .root-below in
-            let e = exchange-total s tree below (k .found) t h r out in
+            let e = exchange-total s tree below (k .arborescence) t h r out in
             record {
               made = set tree h t;
-              found = exchange s tree below (k .found) t h r out;
-              used = eq-eqb (parent (set tree h t) h) t (exchange-uses s tree below (k .found) t h r out);
+              arborescence = exchange s tree below (k .arborescence) t h r out;
+              used = eq-eqb (parent (set tree h t) h) t (exchange-uses s tree below (k .arborescence) t h r out);
               cost = omega arith;
             };
       }
@@ -69,14 +69,14 @@ module _ (n root : ℕ) (m ps : List ℕ) (k : Matrix-tree n root m ps) (h t : �
       arc : remaining s tail v ≡ true
       cost : weight s tail v ≤ weight s (parent tree v) v + d
 
-    step : (v d : ℕ) → Way tree h t v → v ≢ h → d < no-arc → Increase n m tree below v d → Step v d
+    step : (v d : ℕ) → On-path tree h t v → v ≢ h → d < no-arc → Increase m tree below n v d → Step v d
     unfolding unmarked weight
     step v d way ne l i =
         let x = i .tail l in
         let root-in = tree-rooted n root m ps k in
         let small = k .matrix-ok .small in
-        let v-in = way-within n root tree h t v root-in small inside no-root t-inside under way in
-        let v-under = way-descends tree h t v way under in
+        let v-in = path-within n root tree h t v root-in small inside no-root t-inside under way in
+        let v-under = path-descends tree h t v way under in
         let v-root : v ≢ root = λ z. descends-not tree h root (rw z at v-under) (root-avoids n root tree root-in small h inside no-root) in
         let out = b .at (x .0) (x .1) .apart (x .2) in
         let distinct : x .0 ≢ v = λ z. descends-not tree h v v-under (rw z at out) in
@@ -94,24 +94,24 @@ module _ (n root : ℕ) (m ps : List ℕ) (k : Matrix-tree n root m ps) (h t : �
           cost = omega arith;
         }
 
-    pub detour-two : (table : List ℕ) (d : ℕ) → Increases n m tree below n table → Path-least tree table h t d → Detour s tree h t d
+    pub detour-two : (table : List ℕ) (d : ℕ) → Increases m tree below n n table → Path-least tree table h t d → Detour s tree h t d
     unfolding unmarked uses
     detour-two table d i p =
         record {
           exchange =
               λ r l.
               let v = p .at l in
-              let v-in = way-within n root tree h t (v .0) (tree-rooted n root m ps k) (k .matrix-ok .small) inside no-root t-inside under (v .1) in
+              let v-in = path-within n root tree h t (v .0) (tree-rooted n root m ps k) (k .matrix-ok .small) inside no-root t-inside under (v .1) in
               let x = step (v .0) d (v .1) (v .2) l (rw (v .3) at (i .at (v .0) v-in)) in
               let below-root = k .matrix-ok .root-below in
-              let e = exchange-two-total s tree below-root (k .found) t h (x .tail) (v .0) r (x .arc) (v .1) (v .2) under (x .out) in
+              let e = exchange-two-total s tree below-root (k .arborescence) t h (x .tail) (v .0) r (x .arc) (v .1) (v .2) under (x .out) in
               let c = x .cost in
               record {
                 made = set (set tree (v .0) (x .tail)) h t;
-                found = exchange-two s tree below-root (k .found) t h (x .tail) (v .0) r (x .arc) (v .1) (v .2) under (x .out);
+                arborescence = exchange-two s tree below-root (k .arborescence) t h (x .tail) (v .0) r (x .arc) (v .1) (v .2) under (x .out);
                 used =
                     eq-eqb (parent (set (set tree (v .0) (x .tail)) h t) h) t
-                    (exchange-two-uses s tree below-root (k .found) t h (x .tail) (v .0) r (x .arc) (v .1) (v .2) under (x .out));
+                    (exchange-two-uses s tree below-root (k .arborescence) t h (x .tail) (v .0) r (x .arc) (v .1) (v .2) under (x .out));
                 cost = omega arith;
               };
         }

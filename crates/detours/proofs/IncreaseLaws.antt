@@ -12,27 +12,27 @@ use Rattle.instance.specs.Arborescence.{parent}
 use Rattle.detours.specs.Increases.{Least-outside, Increase, Increases}
 
 module _ (m marked : List ℕ) (k : ℕ) where
-  pub outside-none : Least-outside 0 m marked k no-arc
+  pub outside-none : Least-outside m marked 0 k no-arc
   outside-none = record { most = omega arith; tail = λ l. absurd (omega arith) }
 
-  pub outside-pass : (x w : ℕ) → Least-outside x m marked k w → Least-outside (x + 1) m marked k w
+  pub outside-pass : (x w : ℕ) → Least-outside m marked x k w → Least-outside m marked (x + 1) k w
   outside-pass x w o = record { most = o .most; tail = λ l. let t = o .tail l in (t .0, omega (arith, t .1), t .2, t .3) }
 
-  pub outside-take : (x w : ℕ) → w ≤ no-arc → getD marked x 0 ≢ 1 → getD m (cell x k) 0 ≡ w → Least-outside (x + 1) m marked k w
+  pub outside-take : (x w : ℕ) → w ≤ no-arc → getD marked x 0 ≢ 1 → getD m (cell x k) 0 ≡ w → Least-outside m marked (x + 1) k w
   outside-take x w l b e = record { most = l; tail = λ _. (x, omega arith, b, e) }
 
   module _ (n : ℕ) (ps : List ℕ) where
-    pub increase-none : Increase n m ps marked k no-arc
+    pub increase-none : Increase m ps marked n k no-arc
     increase-none = record { tail = λ l. absurd (omega arith) }
 
-    pub increase-some : (least d : ℕ) → Least-outside n m marked k least → least ≢ no-arc → least ≤ getD m (cell (parent ps k) k) 0 + d → Increase n m ps marked k d
+    pub increase-some : (least d : ℕ) → Least-outside m marked n k least → least ≢ no-arc → least ≤ getD m (cell (parent ps k) k) 0 + d → Increase m ps marked n k d
     increase-some least d o e l =
         let b = o .most in
         record { tail = λ _. let t = o .tail (omega arith) in let q = t .3 in (t .0, t .1, t .2, omega arith, omega arith) }
 
-    pub increases-none : (table : List ℕ) → Increases n m ps marked 0 table
-    increases-none table = record { at = filled-none (Increase n m ps marked) table }
+    pub increases-none : (table : List ℕ) → Increases m ps marked n 0 table
+    increases-none table = record { at = filled-none (Increase m ps marked n) table }
 
-    pub increases-more : (table : List ℕ) (d : ℕ) → k < length table → Increases n m ps marked k table → Increase n m ps marked k d
-        → Increases n m ps marked (k + 1) (set table k d)
-    increases-more table d l i q = record { at = filled-more (Increase n m ps marked) table k d l (i .at) q }
+    pub increases-more : (table : List ℕ) (d : ℕ) → k < length table → Increases m ps marked n k table → Increase m ps marked n k d
+        → Increases m ps marked n (k + 1) (set table k d)
+    increases-more table d l i q = record { at = filled-more (Increase m ps marked n) table k d l (i .at) q }

@@ -10,13 +10,13 @@ use Rattle.instance.specs.Instance.{cell}
 use Rattle.instance.specs.Arborescence.{parent}
 
 -- the least weight into k from a tail that is not marked; "no arc" where there is none
-pub record Least-outside (bound : ℕ) (m marked : List ℕ) (k least : ℕ) : Type 0 where
+pub record Least-outside (m marked : List ℕ) (bound k least : ℕ) : Type 0 where
   pub most : least ≤ no-arc
   pub tail : least < no-arc → (x : ℕ) × (x < bound) × (getD marked x 0 ≢ 1) × (getD m (cell x k) 0 ≡ least)
 
 -- d is what such a tail adds to the weight of k's own arc
-pub record Increase (n : ℕ) (m parents marked : List ℕ) (k d : ℕ) : Type 0 where
+pub record Increase (m parents marked : List ℕ) (n k d : ℕ) : Type 0 where
   pub tail : d < no-arc → (x : ℕ) × (x < n) × (getD marked x 0 ≢ 1) × (getD m (cell x k) 0 < no-arc) × (getD m (cell x k) 0 ≤ getD m (cell (parent parents k) k) 0 + d)
 
-pub record Increases (n : ℕ) (m parents marked : List ℕ) (bound : ℕ) (table : List ℕ) : Type 0 where
-  pub at : (k : ℕ) → k < bound → Increase n m parents marked k (getD table k 0)
+pub record Increases (m parents marked : List ℕ) (n bound : ℕ) (table : List ℕ) : Type 0 where
+  pub at : (k : ℕ) → k < bound → Increase m parents marked n k (getD table k 0)

@@ -6,11 +6,12 @@ ghost use Rattle.paths.specs.Tree.{Matrix-tree};
 ghost use Rattle.detours.specs.Increases.{Least-outside, Increase, Increases};
 use instance::limits::CELLS;
 use instance::limits::NO_ARC;
+use instance::limits::VERTICES;
 
 // The least weight into the vertex from a tail that is not marked.
-fn least_outside(m: &[u32; CELLS], marked: &[u8; 32], n: u32, vertex: u32) -> u32
+fn least_outside(m: &[u32; CELLS], marked: &[u8; VERTICES], n: u32, vertex: u32) -> u32
     requires { ⌜ (n ≤ max-vertices) × (vertex < max-vertices) ⌝ }
-    ensures { λ r. ⌜ Least-outside n (now (m .entry)) (now (marked .entry)) vertex r ⌝ }
+    ensures { λ r. ⌜ Least-outside (now (m .entry)) (now (marked .entry)) n vertex r ⌝ }
 {
     let mut least = NO_ARC;
     let mut x: u32 = 0;
@@ -29,14 +30,14 @@ fn least_outside(m: &[u32; CELLS], marked: &[u8; 32], n: u32, vertex: u32) -> u3
 // What such a tail adds to the weight of the vertex's own arc.
 fn increase(
     m: &[u32; CELLS],
-    parents: &[u8; 32],
-    marked: &[u8; 32],
+    parents: &[u8; VERTICES],
+    marked: &[u8; VERTICES],
     n: u32,
     root: u32,
     vertex: u32,
 ) -> u32
     requires { ⌜ Matrix-tree n root (now m) (now parents) × (vertex < n) ⌝ }
-    ensures { λ r. ⌜ Increase n (now (m .entry)) (take n (now (parents .entry))) (now (marked .entry)) vertex r ⌝ }
+    ensures { λ r. ⌜ Increase (now (m .entry)) (take n (now (parents .entry))) (now (marked .entry)) n vertex r ⌝ }
 {
     if vertex == root {
         return NO_ARC;
@@ -58,15 +59,15 @@ fn increase(
 
 pub fn increases(
     m: &[u32; CELLS],
-    parents: &[u8; 32],
-    marked: &[u8; 32],
+    parents: &[u8; VERTICES],
+    marked: &[u8; VERTICES],
     n: u32,
     root: u32,
-) -> [u32; 32]
+) -> [u32; VERTICES]
     requires { ⌜ Matrix-tree n root (now m) (now parents) ⌝ }
-    ensures { λ r. ⌜ Increases n (now (m .entry)) (take n (now (parents .entry))) (now (marked .entry)) n r ⌝ }
+    ensures { λ r. ⌜ Increases (now (m .entry)) (take n (now (parents .entry))) (now (marked .entry)) n n r ⌝ }
 {
-    let mut table = [NO_ARC; 32];
+    let mut table = [NO_ARC; VERTICES];
     let mut k: u32 = 0;
     while k < n {
         table[k as usize] = increase(m, parents, marked, n, root, k);

@@ -17,9 +17,17 @@ use descendants::descendants;
 use increases::increases;
 use instance::limits::CELLS;
 use instance::limits::NO_ARC;
+use instance::limits::VERTICES;
 
 // The least increase on the path from the tail up to the head.
-fn path_least(parents: &[u8; 32], table: &[u32; 32], n: u32, root: u32, head: u32, tail: u32) -> u32
+fn path_least(
+    parents: &[u8; VERTICES],
+    table: &[u32; VERTICES],
+    n: u32,
+    root: u32,
+    head: u32,
+    tail: u32,
+) -> u32
     requires { ⌜ (n ≤ max-vertices) × (length (now parents) ≡ max-vertices) × Rooted n root (take n (now parents)) × (head < n) × (head ≢ root) × (tail < n) × Descends (take n (now parents)) head tail ⌝ }
     ensures { λ r. ⌜ Path-least (take n (now (parents .entry))) (now (table .entry)) head tail r ⌝ }
 {
@@ -36,13 +44,19 @@ fn path_least(parents: &[u8; 32], table: &[u32; 32], n: u32, root: u32, head: u3
 }
 
 // What the arc from each tail to the head adds besides its own weight, when it replaces the arc into the head.
-pub fn detour_costs(m: &[u32; CELLS], parents: &[u8; 32], n: u32, root: u32, head: u32) -> [u32; 32]
+pub fn detour_costs(
+    m: &[u32; CELLS],
+    parents: &[u8; VERTICES],
+    n: u32,
+    root: u32,
+    head: u32,
+) -> [u32; VERTICES]
     requires { ⌜ Matrix-tree n root (now m) (now parents) × (head < n) × (head ≢ root) ⌝ }
     ensures { λ r. ⌜ Detours (unmarked n root (now (m .entry))) (take n (now (parents .entry))) head n r ⌝ }
 {
     let under = descendants(parents, n, root, head);
     let added = increases(m, parents, &under, n, root);
-    let mut table = [0u32; 32];
+    let mut table = [0u32; VERTICES];
     let mut t: u32 = 0;
     while t < n {
         let mut d = 0;

@@ -127,8 +127,8 @@ module _ {ws ls tails heads : List ℕ} {n root left : ℕ} (r : Plannable ws ls
     three = let f = fewer in let t = two-left in let en = r .enough in omega arith
 
     -- THE CONTRACTED GROUP, charged
-    module _ {ws′ cuts cuts′ : List ℕ} {k : ℕ} {found : Bool} {t h k′ s : ℕ} (ch : Charged-group ws ws′ lc n v cuts cuts′ k found t h k′ s) where
-      pub stopped : found ≡ false → (ps : List ℕ) (next : ℕ) → Solved ws ws′ ls n root left cuts cuts′ k false ps next s
+    module _ {ws′ cuts cuts′ : List ℕ} {k : ℕ} {found : Bool} {t h k′ s : ℕ} (ch : Charged-group ws ws′ lc n v k cuts cuts′ found t h k′ s) where
+      pub stopped : found ≡ false → (ps : List ℕ) (next : ℕ) → Solved ws ws′ ls n root left k cuts cuts′ false ps next s
       stopped no-found ps next =
           record {
             size = ch .size;
@@ -201,8 +201,8 @@ module _ {ws ls tails heads : List ℕ} {n root left : ℕ} (r : Plannable ws ls
             }
 
         -- THE CONTRACTED LEVEL, solved
-        module _ {ws″ cuts″ ps : List ℕ} {found′ : Bool} {m s′ : ℕ} (so : Solved ws′ ws″ lc n root (left - 1) cuts′ cuts″ k′ found′ ps m s′) where
-          pub none-below : found′ ≡ false → Solved ws ws″ ls n root left cuts cuts″ k found′ ps m s′
+        module _ {ws″ cuts″ ps : List ℕ} {found′ : Bool} {m s′ : ℕ} (so : Solved ws′ ws″ lc n root (left - 1) k′ cuts′ cuts″ found′ ps m s′) where
+          pub none-below : found′ ≡ false → Solved ws ws″ ls n root left k cuts cuts″ found′ ps m s′
           none-below e =
               record {
                 size = so .size;
@@ -240,7 +240,7 @@ module _ {ws ls tails heads : List ℕ} {n root left : ℕ} (r : Plannable ws ls
                   tree-same n root (cost ws″) (at ls) (at ls) (expanded (at ls) (at tails) (at heads) on (at ls e) (at ps)) (at ps′) root-below (λ u l. refl) (ex .is) cs
                   (expand-tree n root (cost ws″) (at ls) (at tails) (at heads) on v (cycle-at (chosen-lowered lowered (r .chosen))) cs (at ps) coarse-tree e (en .below) (en .on) (en .has))
 
-              solution : Solution ws ws″ ls n root left cuts cuts″ k ps′ m
+              solution : Solution ws ws″ ls n root left k cuts cuts″ ps′ m
               solution =
                   let kk = ch .least in
                   let kk′ = ch .most in
@@ -263,7 +263,7 @@ module _ {ws ls tails heads : List ℕ} {n root left : ℕ} (r : Plannable ws ls
                     root-none = ex .is root root-below ∙ rw (cycle .root-off) (so .solution th .root-none);
                   }
 
-              pub expands : (set : ℕ) → Solved ws ws″ ls n root left cuts cuts″ k true ps′ m set
+              pub expands : (set : ℕ) → Solved ws ws″ ls n root left k cuts cuts″ true ps′ m set
               expands set =
                   record {
                     size = so .size;

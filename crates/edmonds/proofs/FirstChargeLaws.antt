@@ -72,7 +72,7 @@ module _ {ws₀ ws ls tails heads : List ℕ} {n root : ℕ} {cuts₀ cuts : Lis
         frame = b .frame;
       }
 
-  module _ (vn : v < n) (vr : v ≢ root) {ws′ cuts′ : List ℕ} {found : Bool} {t h next s : ℕ} (ch : Charged-group ws ws′ ls n v cuts cuts′ k found t h next s) where
+  module _ (vn : v < n) (vr : v ≢ root) {ws′ cuts′ : List ℕ} {found : Bool} {t h next s : ℕ} (ch : Charged-group ws ws′ ls n v k cuts cuts′ found t h next s) where
     root-off : at ls root ≢ v
     root-off e = vr (sym e ∙ own root (omega arith))
 

@@ -27,7 +27,7 @@ module _ {ws ls tails heads : List ℕ} {n root left : ℕ} (r : Plannable ws ls
   root-below = r .labels .root-below
 
   pub solved-plain : {cuts ps : List ℕ} {k : ℕ} → length cuts ≡ cut-words → No-cycle ls tails n root → Own-arcs ls tails heads n root ps
-      → (set : ℕ) → Solved ws ws ls n root left cuts cuts k true ps k set
+      → (set : ℕ) → Solved ws ws ls n root left k cuts cuts true ps k set
   solved-plain {cuts} {ps} {k} size nc own set =
       let e = no-cuts k cuts in
       let sm = r .small in

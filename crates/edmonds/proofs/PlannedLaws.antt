@@ -10,7 +10,7 @@ use lib.Seq.{getD-take, length-take-le}
 use Rattle.base.proofs.Tests.{test, not-both}
 use Rattle.base.proofs.ListLaws.{default}
 use Rattle.base.proofs.PartLaws.{drop-same}
-use Rattle.instance.specs.Limits.{max-vertices, no-parent, cells, cut-limit, max-cuts, cut-words}
+use Rattle.instance.specs.Limits.{max-vertices, no-parent, cells, cut-limit, max-cuts, cut-words, word-limit}
 use Rattle.instance.specs.Instance.{Instance}
 use Rattle.instance.specs.Arborescence.{parent}
 use Rattle.instance.specs.Cuts.{Cut, cuts-from, cuts-in, values, No-entry}
@@ -49,7 +49,7 @@ module _ (ws₀ : List ℕ) (n root : ℕ) (ok : Matrix-ok n root ws₀) where
       }
 
   pub planned-none : {ws′ cuts cuts′ : List ℕ} {set : ℕ} → length ws′ ≡ cells → length cuts′ ≡ cut-words → Unentered n root ws₀ set
-      → Planned-matrix n root ws₀ ws′ cuts cuts′ (no-arborescence set)
+      → Planned-matrix ws₀ ws′ n root cuts cuts′ (no-arborescence set)
   planned-none a b c =
       record {
         matrix-size = a;
@@ -70,7 +70,7 @@ module _ (ws₀ : List ℕ) (n root : ℕ) (ok : Matrix-ok n root ws₀) where
   -- FOUND
   module _ {ws ls tails heads : List ℕ} {cuts₀ cuts : List ℕ} {k v : ℕ} (own : Own-labels ls) (cuts-size : length cuts₀ ≡ cut-words)
       (b : Begun ws₀ ws ls tails heads n root cuts₀ cuts k v) (end : n ≤ v) (le : v ≤ n) {left : ℕ} (bound : left ≡ n + (2 - n)) where
-    module _ {ws′ cuts′ ps : List ℕ} {found : Bool} {count set : ℕ} (so : Solved ws ws′ ls n root left cuts cuts′ k found ps count set) where
+    module _ {ws′ cuts′ ps : List ℕ} {found : Bool} {count set : ℕ} (so : Solved ws ws′ ls n root left k cuts cuts′ found ps count set) where
       abbrev cs : List Cut
       cs = cuts-from count 0 cuts′
 
@@ -117,7 +117,7 @@ module _ (ws₀ : List ℕ) (n root : ℕ) (ok : Matrix-ok n root ws₀) where
             }
 
         -- the cuts' values can be added
-        pub addable : (count ≤ max-cuts) × (values (cuts-in count cuts′) < 4294967296)
+        pub addable : (count ≤ max-cuts) × (values (cuts-in count cuts′) < word-limit)
         unfolding cuts-in
         addable =
             let small = ok .small in
@@ -126,7 +126,7 @@ module _ (ws₀ : List ℕ) (n root : ℕ) (ok : Matrix-ok n root ws₀) where
             let t = matrix-total-most n root ws₀ ok (take n ps) in
             (omega arith, omega arith)
 
-        tree-planned : Planned-matrix n root ws₀ ws′ cuts₀ cuts′ (concluded true ps count set cuts′)
+        tree-planned : Planned-matrix ws₀ ws′ n root cuts₀ cuts′ (concluded true ps count set cuts′)
         unfolding cuts-in
         tree-planned =
             record {
@@ -148,11 +148,11 @@ module _ (ws₀ : List ℕ) (n root : ℕ) (ok : Matrix-ok n root ws₀) where
               no-cuts = λ x. absurd (not-both true refl x);
             }
 
-      pub planned : Planned-matrix n root ws₀ ws′ cuts₀ cuts′ (concluded found ps count set cuts′)
+      pub planned : Planned-matrix ws₀ ws′ n root cuts₀ cuts′ (concluded found ps count set cuts′)
       planned =
           ⊎-elim (λ (e : found ≡ true). answer (sym e) (tree-planned e))
           (λ (e : found ≡ false). answer (sym e) (planned-none (so .size) (so .cuts-size) (unentered-before (b .lowered) (so .unentered e)))) (test found)
         where
-          answer : {b : Bool} → b ≡ found → Planned-matrix n root ws₀ ws′ cuts₀ cuts′ (concluded b ps count set cuts′)
-              → Planned-matrix n root ws₀ ws′ cuts₀ cuts′ (concluded found ps count set cuts′)
-          answer e = subst (λ (b : Bool). Planned-matrix n root ws₀ ws′ cuts₀ cuts′ (concluded b ps count set cuts′)) e
+          answer : {b : Bool} → b ≡ found → Planned-matrix ws₀ ws′ n root cuts₀ cuts′ (concluded b ps count set cuts′)
+              → Planned-matrix ws₀ ws′ n root cuts₀ cuts′ (concluded found ps count set cuts′)
+          answer e = subst (λ (b : Bool). Planned-matrix ws₀ ws′ n root cuts₀ cuts′ (concluded b ps count set cuts′)) e

@@ -25,7 +25,7 @@ pub record Plannable (ws ls tails heads : List ℕ) (n root left : ℕ) : Type 0
 
 -- A tree of the groups. The cuts of this level and of those below it are at the places from k up to next, and the
 -- matrix holds the reduced costs that they leave.
-pub record Solution (ws ws′ ls : List ℕ) (n root left : ℕ) (cuts cuts′ : List ℕ) (k : ℕ) (ps : List ℕ) (next : ℕ) : Type 0 where
+pub record Solution (ws ws′ ls : List ℕ) (n root left k : ℕ) (cuts cuts′ ps : List ℕ) (next : ℕ) : Type 0 where
   pub parents-size : length ps ≡ max-vertices
   pub tree : Tree n root (cost ws′) (at ls) (cuts-from (next - k) k cuts′) (at ps)
   pub lowered : Lowered n (cost ws) (cost ws′) (cuts-from (next - k) k cuts′)
@@ -36,8 +36,8 @@ pub record Solution (ws ws′ ls : List ℕ) (n root left : ℕ) (cuts cuts′ :
   pub root-none : at ps root ≡ no-parent
 
 -- a tree of the groups, or a set that no arc enters
-pub record Solved (ws ws′ ls : List ℕ) (n root left : ℕ) (cuts cuts′ : List ℕ) (k : ℕ) (found : Bool) (ps : List ℕ) (next set : ℕ) : Type 0 where
+pub record Solved (ws ws′ ls : List ℕ) (n root left k : ℕ) (cuts cuts′ : List ℕ) (found : Bool) (ps : List ℕ) (next set : ℕ) : Type 0 where
   pub size : length ws′ ≡ cells
   pub cuts-size : length cuts′ ≡ cut-words
-  pub solution : found ≡ true → Solution ws ws′ ls n root left cuts cuts′ k ps next
+  pub solution : found ≡ true → Solution ws ws′ ls n root left k cuts cuts′ ps next
   pub unentered : found ≡ false → Unentered n root ws set

@@ -32,7 +32,7 @@ pub record Minimum (s : Instance) (parents : List ℕ) (cs : List Cut) : Type 0 
   pub proved : Proves s cs (total s parents)
 
 -- ws and cuts are the matrix and the buffer of cuts as they come, ws′ and cuts′ as they are left
-pub record Planned-matrix (n root : ℕ) (ws ws′ cuts cuts′ : List ℕ) (r : Planned) : Type 0 where
+pub record Planned-matrix (ws ws′ : List ℕ) (n root : ℕ) (cuts cuts′ : List ℕ) (r : Planned) : Type 0 where
   pub matrix-size : length ws′ ≡ cells
   pub cuts-size : length cuts′ ≡ cut-words
   pub parents-size : length (r .parents) ≡ max-vertices

@@ -17,18 +17,19 @@ use instance::Vertex;
 use instance::limits::CELLS;
 use instance::limits::CUT_WORDS;
 use instance::limits::NO_PARENT;
+use instance::limits::VERTICES;
 
 // A tree of the groups by its parents, with the place of the next cut; or, where there is none, a set that no arc
 // enters.
 pub struct GroupTree {
     pub found: bool,
-    pub parents: [u8; 32],
+    pub parents: [u8; VERTICES],
     pub next: CutIndex,
     pub set: u32,
 }
 
 impl GroupTree {
-    fn tree(parents: [u8; 32], next: CutIndex) -> GroupTree
+    fn tree(parents: [u8; VERTICES], next: CutIndex) -> GroupTree
         ensures { λ r. ⌜ (r .found ≡ true) × (r .parents ≡ parents) × (r .next .0 ≡ next .0) ⌝ }
     {
         GroupTree {
@@ -44,7 +45,7 @@ impl GroupTree {
     {
         GroupTree {
             found: false,
-            parents: [NO_PARENT; 32],
+            parents: [NO_PARENT; VERTICES],
             next: CutIndex(0),
             set,
         }
@@ -52,7 +53,7 @@ impl GroupTree {
 }
 
 // The ends of the chosen arcs, with another one at the group g.
-fn replaced(ends: &[u8; 32], g: Vertex, v: Vertex) -> [u8; 32]
+fn replaced(ends: &[u8; VERTICES], g: Vertex, v: Vertex) -> [u8; VERTICES]
     requires { ⌜ (g .0 < max-vertices) × (v .0 < max-vertices) ⌝ }
     ensures { λ r. ⌜ r ≡ set-at (now (ends .entry)) (g .0) (v .0) ⌝ }
 {
@@ -65,9 +66,9 @@ fn replaced(ends: &[u8; 32], g: Vertex, v: Vertex) -> [u8; 32]
 // Plans groups of which each but the root's has chosen an arc of weight 0.
 pub fn plan_groups(
     w: &mut [u32; CELLS], // the weights, less what was charged so far
-    label: &[u8; 32], // the group of each vertex
-    tails: &[u8; 32], // the tail of the arc that each group has chosen
-    heads: &[u8; 32], // and its head
+    label: &[u8; VERTICES], // the group of each vertex
+    tails: &[u8; VERTICES], // the tail of the arc that each group has chosen
+    heads: &[u8; VERTICES], // and its head
     n: usize, // the number of vertices
     root: Vertex, // one of them
     left: u32, // there are at most so many groups: it falls at each call
@@ -75,7 +76,7 @@ pub fn plan_groups(
     cuts: &mut [u32; CUT_WORDS], // where the cuts go
 ) -> GroupTree
     requires { ⌜ Plannable (now w) (now label) (now tails) (now heads) n (root .0) left × (length (now cuts) ≡ cut-words) × (c .0 + left ≤ max-cuts + 2) ⌝ }
-    ensures { λ r. ⌜ Solved (now (w .entry)) (now (w .exit)) (now (label .entry)) n (root .0) left (now (cuts .entry)) (now (cuts .exit)) (c .0) (r .found) (r .parents) (r .next .0) (r .set) ⌝ }
+    ensures { λ r. ⌜ Solved (now (w .entry)) (now (w .exit)) (now (label .entry)) n (root .0) left (c .0) (now (cuts .entry)) (now (cuts .exit)) (r .found) (r .parents) (r .next .0) (r .set) ⌝ }
 {
     let walked = find_cycle(label, tails, n, root);
     if !walked.found {

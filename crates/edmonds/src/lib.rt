@@ -6,7 +6,7 @@ ghost use mathlib.Core.Path.{_≡_};
 ghost use mathlib.Core.Bool.{true};
 ghost use Prim.Native.Nat.{_+_, _-_, _≤_, _<_};
 ghost use lib.ListN.{length};
-ghost use Rattle.instance.specs.Limits.{max-vertices, cut-words, max-cuts};
+ghost use Rattle.instance.specs.Limits.{max-vertices, cut-words, max-cuts, word-limit};
 ghost use Rattle.instance.specs.Cuts.{cuts-in, values};
 ghost use Rattle.instance.specs.Matrix.{Matrix-ok};
 ghost use Rattle.contraction.specs.Cells.{Own-labels};
@@ -20,6 +20,7 @@ use instance::Vertex;
 use instance::limits::CELLS;
 use instance::limits::CUT_WORDS;
 use instance::limits::NO_PARENT;
+use instance::limits::VERTICES;
 use level::GroupTree;
 use level::plan_groups;
 
@@ -27,7 +28,7 @@ use level::plan_groups;
 // enters.
 pub struct Planned {
     pub found: bool,
-    pub parents: [u8; 32],
+    pub parents: [u8; VERTICES],
     pub total: u32,
     pub count: u32,
     pub set: u32,
@@ -39,7 +40,7 @@ fn shut(set: u32) -> Planned
 {
     Planned {
         found: false,
-        parents: [NO_PARENT; 32],
+        parents: [NO_PARENT; VERTICES],
         total: 0,
         count: 0,
         set,
@@ -47,10 +48,10 @@ fn shut(set: u32) -> Planned
 }
 
 // Each vertex is its own label.
-fn own_labels() -> [u8; 32]
+fn own_labels() -> [u8; VERTICES]
     ensures { λ r. ⌜ Own-labels r ⌝ }
 {
-    let mut label = [0u8; 32];
+    let mut label = [0u8; VERTICES];
     let mut i: usize = 0;
     while i < 32 {
         label[i] = i as u8;
@@ -69,7 +70,7 @@ fn group_bound(n: usize) -> u32
 
 // "All amounts add to the cheapest total."
 fn cut_total(cuts: &[u32; CUT_WORDS], count: u32) -> u32
-    requires { ⌜ (count ≤ max-cuts) × (values (cuts-in count (now cuts)) < 4294967296) ⌝ }
+    requires { ⌜ (count ≤ max-cuts) × (values (cuts-in count (now cuts)) < word-limit) ⌝ }
     ensures { λ r. ⌜ r ≡ values (cuts-in count (now (cuts .entry))) ⌝ }
 {
     let mut sum: u32 = 0;
@@ -83,7 +84,7 @@ fn cut_total(cuts: &[u32; CUT_WORDS], count: u32) -> u32
 
 // What the tree of single vertices comes to.
 fn conclude(tree: GroupTree, cuts: &[u32; CUT_WORDS]) -> Planned
-    requires { ⌜ (tree .found ≡ true → (tree .next .0 ≤ max-cuts) × (values (cuts-in (tree .next .0) (now cuts)) < 4294967296)) ⌝ }
+    requires { ⌜ (tree .found ≡ true → (tree .next .0 ≤ max-cuts) × (values (cuts-in (tree .next .0) (now cuts)) < word-limit)) ⌝ }
     ensures { λ r. ⌜ r ≡ concluded (tree .found) (tree .parents) (tree .next .0) (tree .set) (now (cuts .entry)) ⌝ }
 {
     if !tree.found {
@@ -110,12 +111,12 @@ pub fn plan_matrix(
     cuts: &mut [u32; CUT_WORDS],
 ) -> Planned
     requires { ⌜ Matrix-ok n (root .0) (now w) × (length (now cuts) ≡ cut-words) ⌝ }
-    ensures { λ r. ⌜ Planned-matrix n (root .0) (now (w .entry)) (now (w .exit)) (now (cuts .entry)) (now (cuts .exit)) r ⌝ }
+    ensures { λ r. ⌜ Planned-matrix (now (w .entry)) (now (w .exit)) n (root .0) (now (cuts .entry)) (now (cuts .exit)) r ⌝ }
 {
     let r = root.0;
     let label = own_labels();
-    let mut tails = [NO_PARENT; 32];
-    let mut heads = [NO_PARENT; 32];
+    let mut tails = [NO_PARENT; VERTICES];
+    let mut heads = [NO_PARENT; VERTICES];
     let mut next = CutIndex(0);
     let mut v: usize = 0;
     while v < n {

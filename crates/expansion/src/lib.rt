@@ -8,21 +8,22 @@ ghost use Rattle.contraction.specs.Cells.{Labels-below};
 ghost use Rattle.expansion.specs.Expansion.{Own-arcs, Cycle-entry, Cycle-entered, Expanded, Expansion};
 use instance::Vertex;
 use instance::limits::NO_PARENT;
+use instance::limits::VERTICES;
 
 // Each group's own arc, at the vertex that it enters.
 pub fn own_parents(
-    label: &[u8; 32],
-    tails: &[u8; 32],
-    heads: &[u8; 32],
+    label: &[u8; VERTICES],
+    tails: &[u8; VERTICES],
+    heads: &[u8; VERTICES],
     n: usize,
     root: Vertex,
-) -> [u8; 32]
+) -> [u8; VERTICES]
     requires { ⌜ (n ≤ max-vertices) × (root .0 < n) × Labels-below n (now label) ⌝ }
     ensures { λ r. ⌜ Own-arcs (now (label .entry)) (now (tails .entry)) (now (heads .entry)) n (root .0) r ⌝ }
 {
     let r = root.0 as usize;
     let top = label[r] as usize;
-    let mut out = [NO_PARENT; 32];
+    let mut out = [NO_PARENT; VERTICES];
     let mut v: usize = 0;
     while v < n {
         let g = label[v] as usize;
@@ -39,9 +40,9 @@ pub fn own_parents(
 
 // The vertex at which the arc chosen outside enters the cycle at v.
 fn entry_vertex(
-    label: &[u8; 32],
-    stamp: &[u8; 32],
-    parents: &[u8; 32],
+    label: &[u8; VERTICES],
+    stamp: &[u8; VERTICES],
+    parents: &[u8; VERTICES],
     n: usize,
     v: Vertex,
 ) -> Vertex
@@ -66,14 +67,14 @@ fn entry_vertex(
 
 // Each group of the cycle but the entry's takes its own arc again.
 fn take_arcs(
-    label: &[u8; 32], // the group of each vertex, before the cycle was contracted
-    stamp: &[u8; 32], // when the search came by each group
-    tails: &[u8; 32], // the tail of each group's own arc
-    heads: &[u8; 32], // and its head
+    label: &[u8; VERTICES], // the group of each vertex, before the cycle was contracted
+    stamp: &[u8; VERTICES], // when the search came by each group
+    tails: &[u8; VERTICES], // the tail of each group's own arc
+    heads: &[u8; VERTICES], // and its head
     n: usize, // the number of vertices
     v: Vertex, // a group on the cycle: the others are stamped no earlier
     entry: Vertex, // where the cycle is entered
-    parents: &mut [u8; 32], // the tree of the contracted groups, which becomes one of these groups
+    parents: &mut [u8; VERTICES], // the tree of the contracted groups, which becomes one of these groups
 )
     requires { ⌜ (length (now parents) ≡ max-vertices) × (n ≤ max-vertices) × (v .0 < n) × (entry .0 < n) × Labels-below n (now label) ⌝ }
     ensures { λ _. ⌜ Expanded (now (parents .entry)) (now (label .entry)) (now (stamp .entry)) (now (tails .entry)) (now (heads .entry)) n (v .0) (entry .0) (now (parents .exit)) ⌝ }
@@ -100,13 +101,13 @@ fn take_arcs(
 // Expands the cycle at v: only the arc that the one chosen outside replaces is dropped. The parameters are those of
 // take_arcs.
 pub fn expand_cycle(
-    label: &[u8; 32],
-    stamp: &[u8; 32],
-    tails: &[u8; 32],
-    heads: &[u8; 32],
+    label: &[u8; VERTICES],
+    stamp: &[u8; VERTICES],
+    tails: &[u8; VERTICES],
+    heads: &[u8; VERTICES],
     n: usize,
     v: Vertex,
-    parents: &mut [u8; 32],
+    parents: &mut [u8; VERTICES],
 )
     requires { ⌜ (length (now parents) ≡ max-vertices) × (n ≤ max-vertices) × (v .0 < n) × Labels-below n (now label) × Cycle-entered (now parents) (now label) (now stamp) n (v .0) ⌝ }
     ensures { λ _. ⌜ Expansion (now (parents .entry)) (now (label .entry)) (now (stamp .entry)) (now (tails .entry)) (now (heads .entry)) n (v .0) (now (parents .exit)) ⌝ }

@@ -7,6 +7,7 @@ pub mod ArcLaws
 pub mod ValidLaws
 pub mod SameInstances
 pub mod LimitLaws
+pub mod ArborescenceLaws
 pub mod ReachLaws
 pub mod SetBits
 pub mod CutLaws

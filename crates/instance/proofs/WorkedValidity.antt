@@ -10,18 +10,18 @@ use Rattle.instance.specs.Instance.{Instance, can-be-arc}
 use Rattle.instance.specs.Valid.{cell-ok, cell-valid, header-valid, valid-instance}
 use Rattle.instance.proofs.WorkedCases.{arc, filled, instance-of, instance-q}
 
-pub record Judged : Type 0 where
+pub record Validity : Type 0 where
   pub of : Instance
   pub is : Bool
 
-abbrev judged : Instance → Bool → Judged
+abbrev judged : Instance → Bool → Validity
 judged s v = record { of = s; is = v }
 
 -- two vertices and one arc of that weight and mark
 abbrev one-arc : (weight mark : ℕ) → Instance
 one-arc w m = instance-of 2 0 5 (arc 0 1 w ∷ []) (arc 0 1 m ∷ [])
 
-unfoldable pub instances : List Judged
+unfoldable pub instances : List Validity
 instances =
     judged (instance-q 16 (arc 2 1 pinned ∷ arc 0 1 banned ∷ [])) true
     -- "1 to 32 positions", and a root among them

@@ -49,3 +49,7 @@ max-cuts = 61
 
 abbrev pub cut-words : ℕ
 cut-words = 122
+
+-- a number below it fits a 32-bit word
+abbrev pub word-limit : ℕ
+word-limit = 4294967296

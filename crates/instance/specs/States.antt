@@ -33,13 +33,13 @@ outcome-at b (some v) = cond (leb v b) (Plan v) (Over v)
 unfoldable pub outcome : Instance → Outcome
 outcome s = outcome-at (s .budget) (cheapest s)
 
--- the bound that the states compare totals with
-abbrev pub bound : Instance → ℕ
-bound s = s .budget
+-- what a total may be at most for the states: today the budget
+abbrev pub total-limit : Instance → ℕ
+total-limit s = s .budget
 
 -- a fitting arborescence (document 01: a feed tree within budget)
 unfoldable pub fits : Instance → (parents : List ℕ) → Bool
-fits s ps = is-arborescence s ps && leb (total s ps) (bound s)
+fits s ps = is-arborescence s ps && leb (total s ps) (total-limit s)
 
 unfoldable pub fitting : Instance → List (List ℕ)
 fitting s = select (fits s) (candidates s)

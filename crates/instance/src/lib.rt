@@ -1,9 +1,7 @@
-// The problem in the program's terms: document 01's limits and refusals, vertices, cuts, marks and outcomes, and the
-// checks of an instance's fields. What the words mean is defined in specs/.
-pub mod arc; // arc.rt: where an arc can be, and where one is
+// The problem in the program's terms: document 01's limits and refusals, vertices, cuts, marks and outcomes. What the
+// words mean is defined in specs/.
 pub mod limits; // limits.rt: the numbers of document 01
 pub mod refusals; // refusals.rt: the refusals of document 01
-pub mod valid; // valid.rt: whether the fields of an instance are in range
 
 ghost use mathlib.Core.Path.{_≡_};
 ghost use Rattle.instance.specs.Marks.{mark-number};

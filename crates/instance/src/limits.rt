@@ -2,6 +2,9 @@
 
 pub const MAX_VERTICES: u32 = 32;
 
+// A place for each vertex in an array.
+pub const VERTICES: usize = 32;
+
 pub const MAX_WEIGHT: u32 = 1_000_000;
 
 // A weight that means that there is no arc.

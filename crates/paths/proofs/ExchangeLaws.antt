@@ -16,9 +16,9 @@ use Rattle.instance.specs.Instance.{Instance, weight}
 use Rattle.instance.specs.Arborescence.{remaining, parent, reaches, is-arborescence, total}
 use Rattle.instance.proofs.ArcLaws.{remaining-ends}
 use Rattle.instance.proofs.ReachLaws.{enough}
-use Rattle.theory.proofs.ArborescenceLaws.{parents-size, root-parent, joined, make-arborescence}
-use Rattle.paths.specs.Paths.{Rooted, Descends, Avoids, Way, start, onward}
-use Rattle.paths.proofs.PathLaws.{avoids-up, avoids-same, avoids-above, way-descends, parent-other, parent-same, path-changed, reach-root}
+use Rattle.instance.proofs.ArborescenceLaws.{parents-size, root-parent, joined, make-arborescence}
+use Rattle.paths.specs.Paths.{Rooted, Descends, Avoids, On-path, start, onward}
+use Rattle.paths.proofs.PathLaws.{avoids-up, avoids-same, avoids-above, path-descends, parent-other, parent-same, path-changed, reach-root}
 
 module _ (s : Instance) (ps : List ℕ) (root-below : s .root < s .n) (a : is-arborescence s ps ≡ true) where
   reach : (v : ℕ) → v < s .n → reaches (s .n) (s .root) ps v ≡ true
@@ -79,12 +79,12 @@ module _ (s : Instance) (ps : List ℕ) (root-below : s .root < s .n) (a : is-ar
 
 -- TWO ARCS
 module _ (s : Instance) (ps : List ℕ) (root-below : s .root < s .n) (a : is-arborescence s ps ≡ true) (t h x k : ℕ)
-    (r : remaining s t h ≡ true) (r₂ : remaining s x k ≡ true) (way : Way ps h t k) (apart : k ≢ h) (under : Descends ps h t) (out : Avoids ps h x) where
+    (r : remaining s t h ≡ true) (r₂ : remaining s x k ≡ true) (way : On-path ps h t k) (apart : k ≢ h) (under : Descends ps h t) (out : Avoids ps h x) where
   abbrev first : List ℕ
   first = set ps k x
 
   clear : Avoids ps k x
-  clear = avoids-above ps h k x out (way-descends ps h t k way under)
+  clear = avoids-above ps h k x out (path-descends ps h t k way under)
 
   first-in : is-arborescence s first ≡ true
   first-in = exchange s ps root-below a x k r₂ clear
@@ -93,7 +93,7 @@ module _ (s : Instance) (ps : List ℕ) (root-below : s .root < s .n) (a : is-ar
   k-out : Avoids first h k
   k-out = avoids-up first h k apart (rw (exchange-uses s ps root-below a x k r₂ clear) (avoids-same ps k x h x clear out))
 
-  way-out : (v : ℕ) → Way ps h t v → Avoids first h v → Avoids first h t
+  way-out : (v : ℕ) → On-path ps h t v → Avoids first h v → Avoids first h t
   way-out v start b = b
   way-out v (onward {v = u} w e) b = way-out u w (at (ℕ-discrete u k))
     where

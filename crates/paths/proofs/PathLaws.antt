@@ -15,7 +15,7 @@ use Rattle.base.proofs.Tests.{test, not-both, or-false-right, or-cases, or-left
 use Rattle.base.proofs.SumLaws.{sum-shift}
 use Rattle.instance.specs.Limits.{max-vertices, no-parent}
 use Rattle.instance.specs.Arborescence.{parent, reaches}
-use Rattle.paths.specs.Paths.{Rooted, Descends, Avoids, Way, start, onward}
+use Rattle.paths.specs.Paths.{Rooted, Descends, Avoids, On-path, start, onward}
 
 -- ONE STEP
 module _ (ps : List ℕ) (h v : ℕ) where
@@ -68,9 +68,9 @@ avoids-above ps h k v a b j =
     (test (reaches j k ps v))
 
 -- whatever lies on the way from a descendant of h is one too
-pub way-descends : (ps : List ℕ) (h t v : ℕ) → Way ps h t v → Descends ps h t → Descends ps h v
-way-descends ps h t v start b = b
-way-descends ps h t v (onward {v = u} w e) b = descends-on ps h u e (way-descends ps h t u w b)
+pub path-descends : (ps : List ℕ) (h t v : ℕ) → On-path ps h t v → Descends ps h t → Descends ps h v
+path-descends ps h t v start b = b
+path-descends ps h t v (onward {v = u} w e) b = descends-on ps h u e (path-descends ps h t u w b)
 
 -- THE END OF A PATH
 module _ (n root : ℕ) (ps : List ℕ) where

@@ -35,7 +35,7 @@ module _ (n root v : ℕ) (ps : List ℕ) (small : n ≤ max-vertices) (places :
 module _ (n root : ℕ) (m ps : List ℕ) (k : Matrix-tree n root m ps) where
   pub tree-rooted : Rooted n root (take n ps)
   unfolding unmarked
-  tree-rooted = rooted (unmarked n root m) (take n ps) (k .matrix-ok .root-below) (k .found)
+  tree-rooted = rooted (unmarked n root m) (take n ps) (k .matrix-ok .root-below) (k .arborescence)
 
   module _ (v : ℕ) (l : v < n) (e : v ≢ root) where
     pub tail-below : getD ps v 0 < n

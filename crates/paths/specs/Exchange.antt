@@ -10,6 +10,6 @@ use Rattle.instance.specs.Arborescence.{parent, is-arborescence, total, uses}
 -- the head.
 pub record Exchange (s : Instance) (parents : List ℕ) (t h d : ℕ) : Type 0 where
   pub made : List ℕ
-  pub found : is-arborescence s made ≡ true
+  pub arborescence : is-arborescence s made ≡ true
   pub used : uses made t h ≡ true
   pub cost : total s made + weight s (parent parents h) h ≤ total s parents + weight s t h + d

@@ -12,4 +12,4 @@ use Rattle.instance.specs.Matrix.{unmarked, Matrix-ok}
 pub record Matrix-tree (n root : ℕ) (m parents : List ℕ) : Type 0 where
   pub matrix-ok : Matrix-ok n root m
   pub places : length parents ≡ max-vertices
-  pub found : is-arborescence (unmarked n root m) (take n parents) ≡ true
+  pub arborescence : is-arborescence (unmarked n root m) (take n parents) ≡ true

@@ -60,15 +60,15 @@ since-then a b =
     }
 
 -- A LOOK THAT SHOWS: what it shows is as long as the places that it fills
-pub shown-answer : (s : Instance) (v : View) (old new : Buffers) → Shows s v old new → answer-of v ≡ 0
+pub shown-answer : (s : Instance) (v : View) (old new : Buffers) → Shows s old new v → answer-of v ≡ 0
 shown-answer s v old new x = ap answer-of (x .result)
 
-module _ (s : Instance) (v : View) (old new : Buffers) (small : s .n ≤ max-vertices) (x : Shows s v old new) where
+module _ (s : Instance) (v : View) (old new : Buffers) (small : s .n ≤ max-vertices) (x : Shows s old new v) where
   pub tree-long : length (x .tree) ≡ s .n
   tree-long = parents-length (shows-tree (outcome s)) (total-in (outcome s)) s (x .tree) (x .tree-shown)
 
-  pub words-long : length (words-of (x .found)) ≡ cut-words
-  words-long = words-length (outcome s) s (x .found) small (x .cuts-shown)
+  pub words-long : length (words-of (x .cut-list)) ≡ cut-words
+  words-long = words-length (outcome s) s (x .cut-list) small (x .cuts-shown)
 
   shown-since : Rooms (s .n) (length (old .parents)) (length (old .states)) (length (old .cuts)) → Since (s .n) old new
   shown-since r =
@@ -76,24 +76,24 @@ module _ (s : Instance) (v : View) (old new : Buffers) (small : s .n ≤ max-ver
       record {
         parents-long = ap length (x .parents-buffer) ∙ front-length (x .tree) (old .parents) (omega (arith, tree-long, r .for-parents));
         states-long = ap length (x .states-buffer) ∙ front-length (states s) (old .states) (omega (arith, size, r .for-states));
-        cuts-long = ap length (x .cuts-buffer) ∙ front-length (words-of (x .found)) (old .cuts) (omega (arith, words-long, r .for-cuts));
+        cuts-long = ap length (x .cuts-buffer) ∙ front-length (words-of (x .cut-list)) (old .cuts) (omega (arith, words-long, r .for-cuts));
         parents-after = ap (drop (s .n)) (x .parents-buffer) ∙ front-drop (x .tree) (old .parents) (s .n) tree-long;
         states-after = ap (drop (s .n * s .n)) (x .states-buffer) ∙ front-drop (states s) (old .states) (s .n * s .n) size;
-        cuts-after = ap (drop cut-words) (x .cuts-buffer) ∙ front-drop (words-of (x .found)) (old .cuts) cut-words words-long;
+        cuts-after = ap (drop cut-words) (x .cuts-buffer) ∙ front-drop (words-of (x .cut-list)) (old .cuts) cut-words words-long;
       }
 
 -- what a look at a valid board says
-pub looks-valid : (b : Board) (v : View) (old new : Buffers) → valid (model-of b) ≡ true → Looks b v old new →
-    Looks-at true (short-for (b .n) old) (instance-of b) v old new
+pub looks-valid : (b : Board) (v : View) (old new : Buffers) → valid (model-of b) ≡ true → Looks b old new v →
+    Looks-at true (short-for (b .n) old) (instance-of b) old new v
 unfolding Looks
-looks-valid b v old new g l = subst (λ (x : Bool). Looks-at x (short-for (b .n) old) (instance-of b) v old new) g l
+looks-valid b v old new g l = subst (λ (x : Bool). Looks-at x (short-for (b .n) old) (instance-of b) old new v) g l
 
-pub looks-long : (b : Board) (v : View) (old new : Buffers) → valid (model-of b) ≡ true → short-for (b .n) old ≡ false → Looks b v old new → Shows (instance-of b) v old new
+pub looks-long : (b : Board) (v : View) (old new : Buffers) → valid (model-of b) ≡ true → short-for (b .n) old ≡ false → Looks b old new v → Shows (instance-of b) old new v
 unfolding Looks-at
-looks-long b v old new g t l = subst (λ (x : Bool). Looks-at true x (instance-of b) v old new) t (looks-valid b v old new g l)
+looks-long b v old new g t l = subst (λ (x : Bool). Looks-at true x (instance-of b) old new v) t (looks-valid b v old new g l)
 
 -- ONE CALL
-pub record Call-step (e : Call) (b : Board) (k : Log) (r : Answered) (old new : Buffers) : Type 0 where
+pub record Call-step (e : Call) (b : Board) (k : Log) (old new : Buffers) (r : Answered) : Type 0 where
   pub answer : r .answer ≡ log-call e k .answer
   pub tied : Tied (model-of (r .board)) (log-call e k .log)
   pub good : valid (model-of (r .board)) ≡ true
@@ -109,7 +109,7 @@ module _ (b : Board) (k : Log) (g : valid (model-of b) ≡ true) (y : Tied (mode
         rw (call-board c b r a ∙ ap (λ (d : Result). d .board) q) (s .tied),
       )
 
-  pub call-step : (e : Call) (r : Answered) (old new : Buffers) → short-for (b .n) old ≡ false → Makes e b r old new → Call-step e b k r old new
+  pub call-step : (e : Call) (r : Answered) (old new : Buffers) → short-for (b .n) old ≡ false → Makes e b old new r → Call-step e b k old new r
   unfolding Makes log-call unnoted
   call-step (command c) r old new t m =
       let s = command-step c r (m .0) in

@@ -30,32 +30,32 @@ pub data Opened-by : (card : List ℕ) → Answered → Type 0 where
       (κs : Lfts 1) (a : Dens κs open-kinds.ps) (o : Answered) (e : AtExit (endedOf 1 open-kinds.ps open-kinds.r) κs) → open-reads.Learnt κs a o e →
       Opened-by (now (a .0)) o
 
-pub data Looked : Board → View → (old new : Buffers) → Type 0 where
+pub data Looked : Board → (old new : Buffers) → View → Type 0 where
   by-look :
       (κs : Lfts 3) (a : Dens κs look-kinds.ps) (v : View) (e : AtExit (endedOf 3 look-kinds.ps look-kinds.r) κs) → look-reads.Learnt κs a v e →
-      Looked (a .0) v (buffers (now (a .1 .0)) (now (a .1 .1 .0)) (now (a .1 .1 .1 .0))) (buffers (now (e .1 .0)) (now (e .1 .1 .0)) (now (e .1 .1 .1 .0)))
+      Looked (a .0) (buffers (now (a .1 .0)) (now (a .1 .1 .0)) (now (a .1 .1 .1 .0))) (buffers (now (e .1 .0)) (now (e .1 .1 .0)) (now (e .1 .1 .1 .0))) v
 
-pub data Wrote : Board → Written → (out out′ : List ℕ) → Type 0 where
+pub data Wrote : Board → (out out′ : List ℕ) → Written → Type 0 where
   by-write :
       (κs : Lfts 1) (a : Dens κs write-kinds.ps) (r : Written) (e : AtExit (endedOf 1 write-kinds.ps write-kinds.r) κs) → write-reads.Learnt κs a r e →
-      Wrote (a .0) r (now (a .1 .0)) (now (e .1 .0))
+      Wrote (a .0) (now (a .1 .0)) (now (e .1 .0)) r
 
 pub opened-by : {ws : List ℕ} {o : Answered} → Opened-by ws o → o ≡ opened-from ws
 opened-by (by-open κs a o e l) = l
 
-pub looked : {b : Board} {v : View} {old new : Buffers} → Looked b v old new → Looks b v old new
+pub looked : {b : Board} {v : View} {old new : Buffers} → Looked b old new v → Looks b old new v
 looked (by-look κs a v e l) = l
 
-pub wrote : {b : Board} {r : Written} {out out′ : List ℕ} → Wrote b r out out′ → Writes b r out out′
+pub wrote : {b : Board} {r : Written} {out out′ : List ℕ} → Wrote b out out′ r → Writes b out out′ r
 wrote (by-write κs a r e l) = l
 
-pub data Replayed : (card kinds firsts seconds : List ℕ) → View → (answers answers′ : List ℕ) → (old new : Buffers) → Type 0 where
+pub data Replayed : (card kinds firsts seconds : List ℕ) → (answers answers′ : List ℕ) → (old new : Buffers) → View → Type 0 where
   by-replay :
       (κs : Lfts 8) (a : Dens κs replay-kinds.ps) (v : View) (e : AtExit (endedOf 8 replay-kinds.ps replay-kinds.r) κs) → replay-reads.Learnt κs a v e →
-      Replayed (now (a .0)) (now (a .1 .0)) (now (a .1 .1 .0)) (now (a .1 .1 .1 .0)) v (now (a .1 .1 .1 .1 .0)) (now (e .1 .1 .1 .1 .0))
+      Replayed (now (a .0)) (now (a .1 .0)) (now (a .1 .1 .0)) (now (a .1 .1 .1 .0)) (now (a .1 .1 .1 .1 .0)) (now (e .1 .1 .1 .1 .0))
       (buffers (now (a .1 .1 .1 .1 .1 .0)) (now (a .1 .1 .1 .1 .1 .1 .0)) (now (a .1 .1 .1 .1 .1 .1 .1 .0)))
-      (buffers (now (e .1 .1 .1 .1 .1 .0)) (now (e .1 .1 .1 .1 .1 .1 .0)) (now (e .1 .1 .1 .1 .1 .1 .1 .0)))
+      (buffers (now (e .1 .1 .1 .1 .1 .0)) (now (e .1 .1 .1 .1 .1 .1 .0)) (now (e .1 .1 .1 .1 .1 .1 .1 .0))) v
 
 pub replayed :
-    {ws ks fs gs : List ℕ} {v : View} {xs xs′ : List ℕ} {old new : Buffers} → Replayed ws ks fs gs v xs xs′ old new → Replays ws ks fs gs v xs xs′ old new
+    {ws ks fs gs : List ℕ} {v : View} {xs xs′ : List ℕ} {old new : Buffers} → Replayed ws ks fs gs xs xs′ old new v → Replays ws ks fs gs xs xs′ old new v
 replayed (by-replay κs a v e l) = l

@@ -26,12 +26,12 @@ use Rattle.planner.specs.Displaying.{Displays}
 -- THE LOOK SHOWS WHAT WAS FOUND
 pub shows :
     (s : Instance) (r : Survey) (old new : Buffers) → Surveys s r → Displays r (s .weights) (s .n) (s .root) old new →
-    states-by (s .n) (s .root) (r .used) (s .weights) ≡ states s →
-    Shows s (Shown (r .outcome) (r .pairs)) old new
+    states-by (r .used) (s .weights) (s .n) (s .root) ≡ states s →
+    Shows s old new (Shown (r .outcome) (r .pairs))
 shows s r old new f d right =
     record {
       tree = take (s .n) (r .parents);
-      found = f .found;
+      cut-list = f .cut-list;
       result = λ i. Shown (f .result i) (f .counted i);
       tree-shown = f .parents-found;
       cuts-shown = f .cuts-found;
@@ -41,15 +41,15 @@ shows s r old new f d right =
     }
 
 -- THE THREE WAYS of a look
-pub looks-invalid : (b : Board) (x : Buffers) → valid (model-of b) ≡ false → Looks b (Refused invalid-board) x x
+pub looks-invalid : (b : Board) (x : Buffers) → valid (model-of b) ≡ false → Looks b x x (Refused invalid-board)
 unfolding Looks Looks-at
 looks-invalid b x e = rw e (record { result = refl; buffers = refl })
 
-pub looks-short : (b : Board) (x : Buffers) → valid (model-of b) ≡ true → short-for (b .n) x ≡ true → Looks b (Refused buffer-short) x x
+pub looks-short : (b : Board) (x : Buffers) → valid (model-of b) ≡ true → short-for (b .n) x ≡ true → Looks b x x (Refused buffer-short)
 unfolding Looks Looks-at
 looks-short b x e t = rw (e, t) (record { result = refl; buffers = refl })
 
-pub looks-shown : (b : Board) (v : View) (old new : Buffers) → valid (model-of b) ≡ true → short-for (b .n) old ≡ false → Shows (instance-of b) v old new → Looks b v old new
+pub looks-shown : (b : Board) (v : View) (old new : Buffers) → valid (model-of b) ≡ true → short-for (b .n) old ≡ false → Shows (instance-of b) old new v → Looks b old new v
 unfolding Looks Looks-at
 looks-shown b v old new e t x = rw (e, t) x
 

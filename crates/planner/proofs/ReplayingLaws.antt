@@ -92,13 +92,13 @@ fitting k f s a e =
     }
 
 -- a card that does not open, and lists or buffers that are too short
-pub not-opened : (ws ks fs gs xs : List ℕ) (old : Buffers) (v : View) (a : ℕ) → card-refusal ws ≡ a → (a ≡ 0 → ⊥) → v ≡ Refused a → Replays ws ks fs gs v xs xs old old
+pub not-opened : (ws ks fs gs xs : List ℕ) (old : Buffers) (v : View) (a : ℕ) → card-refusal ws ≡ a → (a ≡ 0 → ⊥) → v ≡ Refused a → Replays ws ks fs gs xs xs old old v
 unfolding Replays Replays-at
 not-opened ws ks fs gs xs old v zero e n r = absurd (n refl)
 not-opened ws ks fs gs xs old v (suc a) e n r = rw e (refl, record { result = r; buffers = refl })
 
 too-short-at : (t : Bool) (ws ks fs gs xs : List ℕ) (old : Buffers) (v : View) → t ≡ true → v ≡ Refused buffer-short →
-    Replays-at 0 t (calls ks fs gs) (new-log (instance-in ws)) v xs xs old old
+    Replays-at 0 t (calls ks fs gs) (new-log (instance-in ws)) xs xs old old v
 unfolding Replays-at
 too-short-at t ws ks fs gs xs old v e r = rw e (refl, record { result = r; buffers = refl })
 
@@ -106,11 +106,11 @@ module _ (ws ks fs gs xs : List ℕ) (old : Buffers) (v : View) (z : card-refusa
   abbrev unfit-lists : Bool
   unfit-lists = unfit (length ks) (length fs) (length gs) (length xs)
 
-  pub not-fitting : unfit-lists ≡ true → Replays ws ks fs gs v xs xs old old
+  pub not-fitting : unfit-lists ≡ true → Replays ws ks fs gs xs xs old old v
   unfolding Replays
   not-fitting e = rw z (too-short-at (unfit-lists || short-for (instance-in ws .n) old) ws ks fs gs xs old v (rw e) r)
 
-  pub not-long : (n : ℕ) → n ≡ instance-in ws .n → short-for n old ≡ true → Replays ws ks fs gs v xs xs old old
+  pub not-long : (n : ℕ) → n ≡ instance-in ws .n → short-for n old ≡ true → Replays ws ks fs gs xs xs old old v
   unfolding Replays
   not-long n q e =
       rw z
@@ -118,23 +118,23 @@ module _ (ws ks fs gs xs : List ℕ) (old : Buffers) (v : View) (z : card-refusa
       (or-right unfit-lists (short-for (instance-in ws .n) old) (ap (λ (m : ℕ). short-for m old) (sym q) ∙ e)) r)
 
 -- THE LAST LOOK is one from the buffers as they were before the calls
-shows-since : (s : Instance) (v : View) (old mid new : Buffers) → s .n ≤ max-vertices → Since (s .n) old mid → Shows s v mid new → Shows s v old new
+shows-since : (s : Instance) (v : View) (old mid new : Buffers) → s .n ≤ max-vertices → Since (s .n) old mid → Shows s mid new v → Shows s old new v
 shows-since s v old mid new small e x =
     let same : (k : ℕ) (l a b : List ℕ) → length l ≡ k → drop k a ≡ drop k b → in-front l a ≡ in-front l b =
     λ k l a b n q. sym (front-is l a k n) ∙ ap (λ (r : List ℕ). l ++ r) q ∙ front-is l b k n in
     record {
       tree = x .tree;
-      found = x .found;
+      cut-list = x .cut-list;
       result = x .result;
       tree-shown = x .tree-shown;
       cuts-shown = x .cuts-shown;
       parents-buffer = x .parents-buffer ∙ same (s .n) (x .tree) (mid .parents) (old .parents) (tree-long s v mid new small x) (e .parents-after);
       states-buffer = x .states-buffer ∙ same (s .n * s .n) (states s) (mid .states) (old .states) (states-read s .size) (e .states-after);
-      cuts-buffer = x .cuts-buffer ∙ same cut-words (words-of (x .found)) (mid .cuts) (old .cuts) (words-long s v mid new small x) (e .cuts-after);
+      cuts-buffer = x .cuts-buffer ∙ same cut-words (words-of (x .cut-list)) (mid .cuts) (old .cuts) (words-long s v mid new small x) (e .cuts-after);
     }
 
 finish : (cs : List Call) (k : Log) (v : View) (xs₀ xs : List ℕ) (old new : Buffers) → xs ≡ in-front (call-answers cs k) xs₀ →
-    Shows (effective (calls-after cs k)) v old new → Replays-at 0 false cs k v xs₀ xs old new
+    Shows (effective (calls-after cs k)) old new v → Replays-at 0 false cs k xs₀ xs old new v
 unfolding Replays-at
 finish cs k v xs₀ xs old new a x = (a, x)
 
@@ -169,12 +169,12 @@ module _ (ws ks fs gs xs₀ : List ℕ) (old : Buffers) where
 
   -- one call more
   pub again : (b : Board) (i : ℕ) (xs : List ℕ) (new next : Buffers) (d : Answered) → i < length ks → Going ws ks fs gs xs₀ old b i xs new →
-      Makes (call (getD ks i 0) (getD fs i 0) (getD gs i 0)) b d new next → Going ws ks fs gs xs₀ old (d .board) (i + 1) (set xs i (d .answer)) next
+      Makes (call (getD ks i 0) (getD fs i 0) (getD gs i 0)) b new next d → Going ws ks fs gs xs₀ old (d .board) (i + 1) (set xs i (d .answer)) next
   unfolding call-answers calls-after
   again b i xs new next d h g m =
       let e = call (getD ks i 0) (getD fs i 0) (getD gs i 0) in
       let q : short-for (b .n) new ≡ false = ap (λ (n : ℕ). short-for n new) (g .same-n) ∙ same-short (instance-in ws .n) old new (g .since) ∙ g .long in
-      let s : Call-step e b (g .log) d new next = call-step b (g .log) (g .good) (g .tied) e d new next q m in
+      let s : Call-step e b (g .log) new next d = call-step b (g .log) (g .good) (g .tied) e d new next q m in
       let sp = split ks fs gs i h (g .firsts) (g .seconds) in
       let k = log-call e (g .log) .log in
       subst (λ (j : ℕ). Going ws ks fs gs xs₀ old (d .board) j (set xs i (d .answer)) next) (sym (add-one i))
@@ -213,7 +213,7 @@ module _ (ws ks fs gs xs₀ : List ℕ) (old : Buffers) where
   length-calls (k ∷ ks) (f ∷ fs) (g ∷ gs) p q = ap suc (length-calls ks fs gs (omega arith) (omega arith))
 
   module _ (b : Board) (i : ℕ) (xs : List ℕ) (mid new : Buffers) (v : View) (h : length ks ≤ i) (g : Going ws ks fs gs xs₀ old b i xs mid)
-      (l : Looks b v mid new) where
+      (l : Looks b mid new v) where
     all-made : i ≡ length (calls ks fs gs)
     all-made = omega (arith, g .within, length-calls ks fs gs (g .firsts) (g .seconds))
 
@@ -233,14 +233,14 @@ module _ (ws ks fs gs xs₀ : List ℕ) (old : Buffers) where
     shown-of : instance-of b ≡ effective (calls-after (calls ks fs gs) start)
     shown-of = g .tied .same-instance ∙ ap effective log-made
 
-    shown : Shows (instance-of b) v old new
+    shown : Shows (instance-of b) old new v
     shown =
         let q : short-for (b .n) mid ≡ false = ap (λ (n : ℕ). short-for n mid) (g .same-n) ∙ same-short (instance-in ws .n) old mid (g .since) ∙ g .long in
         shows-since (instance-of b) v old mid new (valid-parts (model-of b) (g .good) .n-high) (subst (λ (n : ℕ). Since n old mid) (sym (g .same-n)) (g .since))
         (looks-long b v mid new (g .good) q l)
 
-    pub ended : card-refusal ws ≡ 0 → Replays ws ks fs gs v xs₀ xs old new
+    pub ended : card-refusal ws ≡ 0 → Replays ws ks fs gs xs₀ xs old new v
     unfolding Replays
     ended z =
         rw (z, or-both-false (unfit (length ks) (length fs) (length gs) (length xs₀)) (short-for (instance-in ws .n) old) (fit ks fs gs xs₀ (g .firsts) (g .seconds) (g .room)) (g .long))
-        (finish (calls ks fs gs) start v xs₀ xs old new answers-made (subst (λ (s : Instance). Shows s v old new) shown-of shown))
+        (finish (calls ks fs gs) start v xs₀ xs old new answers-made (subst (λ (s : Instance). Shows s old new v) shown-of shown))

@@ -10,5 +10,5 @@ use Rattle.planner.specs.Looking.{Buffers}
 
 pub record Displays (r : Survey) (weights : List ℕ) (n root : ℕ) (old new : Buffers) : Type 0 where
   pub parents : new .parents ≡ in-front (take n (r .parents)) (old .parents)
-  pub states : new .states ≡ in-front (states-by n root (r .used) weights) (old .states)
+  pub states : new .states ≡ in-front (states-by (r .used) weights n root) (old .states)
   pub cuts : new .cuts ≡ in-front (r .cuts) (old .cuts)

@@ -42,29 +42,29 @@ too-short n a b c = ltb a n || (ltb b (n * n) || ltb c cut-words)
 abbrev pub short-for : (n : ℕ) → Buffers → Bool
 short-for n x = too-short n (length (x .parents)) (length (x .states)) (length (x .cuts))
 
--- A look at an instance: the result, and the buffers before and after. "plan with its total; over with the cheapest
+-- A look at an instance: the buffers before and after, and the result. "plan with its total; over with the cheapest
 -- total; none"; "the number of pairs is in the result"; "the first n bytes", "the first n times n bytes, feeder by
 -- feeder", "the first 122 words", and "bytes and words after those keep their contents".
-pub record Shows (s : Instance) (r : View) (old new : Buffers) : Type 0 where
+pub record Shows (s : Instance) (old new : Buffers) (r : View) : Type 0 where
   pub tree : List ℕ
-  pub found : List Cut
-  pub result : r ≡ Shown (outcome s) (length found)
+  pub cut-list : List Cut
+  pub result : r ≡ Shown (outcome s) (length cut-list)
   pub tree-shown : Parents-shown (outcome s) s tree
-  pub cuts-shown : Cuts-shown (outcome s) s found
+  pub cuts-shown : Cuts-shown (outcome s) s cut-list
   pub parents-buffer : new .parents ≡ in-front tree (old .parents)
   pub states-buffer : new .states ≡ in-front (states s) (old .states)
-  pub cuts-buffer : new .cuts ≡ in-front (words-of found) (old .cuts)
+  pub cuts-buffer : new .cuts ≡ in-front (words-of cut-list) (old .cuts)
 
 -- a refusal: "board and buffers as before"
-pub record Untouched (answer : ℕ) (r : View) (old new : Buffers) : Type 0 where
+pub record Untouched (answer : ℕ) (old new : Buffers) (r : View) : Type 0 where
   pub result : r ≡ Refused answer
   pub buffers : new ≡ old
 
 -- "On a board, 15 comes first; then .. 14 for looks and writes."
-unfoldable pub Looks-at : (valid short : Bool) → Instance → View → (old new : Buffers) → Type 0
-Looks-at false short s r old new = Untouched invalid-board r old new
-Looks-at true true s r old new = Untouched buffer-short r old new
-Looks-at true false s r old new = Shows s r old new
+unfoldable pub Looks-at : (valid short : Bool) → Instance → (old new : Buffers) → View → Type 0
+Looks-at false short s old new r = Untouched invalid-board old new r
+Looks-at true true s old new r = Untouched buffer-short old new r
+Looks-at true false s old new r = Shows s old new r
 
-unfoldable pub Looks : Board → View → (old new : Buffers) → Type 0
-Looks b r old new = Looks-at (valid (model-of b)) (short-for (b .n) old) (instance-of b) r old new
+unfoldable pub Looks : Board → (old new : Buffers) → View → Type 0
+Looks b old new r = Looks-at (valid (model-of b)) (short-for (b .n) old) (instance-of b) old new r

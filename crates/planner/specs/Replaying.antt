@@ -60,10 +60,10 @@ calls-after [] k = k
 calls-after (c ∷ cs) k = calls-after cs (log-call c k .log)
 
 -- ONE CALL on a board: the answer, the board that is left, and the buffers of a look
-unfoldable pub Makes : Call → Board → Answered → (old new : Buffers) → Type 0
-Makes (command c) b r old new = Answers (answered c (model-of b)) b r × (new ≡ old)
-Makes look b r old new = (v : View) × (r .answer ≡ answer-of v) × (r .board ≡ b) × Looks b v old new
-Makes write b r old new = (r .answer ≡ cond (valid (model-of b)) 0 invalid-board) × (r .board ≡ b) × (new ≡ old)
+unfoldable pub Makes : Call → Board → (old new : Buffers) → Answered → Type 0
+Makes (command c) b old new r = Answers (answered c (model-of b)) b r × (new ≡ old)
+Makes look b old new r = (v : View) × (r .answer ≡ answer-of v) × (r .board ≡ b) × Looks b old new v
+Makes write b old new r = (r .answer ≡ cond (valid (model-of b)) 0 invalid-board) × (r .board ≡ b) × (new ≡ old)
 
 -- THE WHOLE LIST on a freshly opened card, and a look at the end
 -- fewer numbers than kinds, or no room for the answers
@@ -73,12 +73,12 @@ unfit k f s a = ltb f k || (ltb s k || ltb a k)
 -- A card that does not open leaves everything as it was, and so does "a lent buffer too short" (14): a list of numbers,
 -- the answers, or one of the look's three. Else every call is made, its answer is the log's, and the last look shows
 -- the effective instance.
-unfoldable pub Replays-at : (answer : ℕ) → (short : Bool) → List Call → Log → View → (answers answers′ : List ℕ) → (old new : Buffers) → Type 0
-Replays-at (suc a) short cs k r xs xs′ old new = (xs′ ≡ xs) × Untouched (suc a) r old new
-Replays-at zero true cs k r xs xs′ old new = (xs′ ≡ xs) × Untouched buffer-short r old new
-Replays-at zero false cs k r xs xs′ old new = (xs′ ≡ in-front (call-answers cs k) xs) × Shows (effective (calls-after cs k)) r old new
+unfoldable pub Replays-at : (answer : ℕ) → (short : Bool) → List Call → Log → (answers answers′ : List ℕ) → (old new : Buffers) → View → Type 0
+Replays-at (suc a) short cs k xs xs′ old new r = (xs′ ≡ xs) × Untouched (suc a) old new r
+Replays-at zero true cs k xs xs′ old new r = (xs′ ≡ xs) × Untouched buffer-short old new r
+Replays-at zero false cs k xs xs′ old new r = (xs′ ≡ in-front (call-answers cs k) xs) × Shows (effective (calls-after cs k)) old new r
 
-unfoldable pub Replays : (card kinds firsts seconds : List ℕ) → View → (answers answers′ : List ℕ) → (old new : Buffers) → Type 0
-Replays ws ks fs gs r xs xs′ old new =
+unfoldable pub Replays : (card kinds firsts seconds : List ℕ) → (answers answers′ : List ℕ) → (old new : Buffers) → View → Type 0
+Replays ws ks fs gs xs xs′ old new r =
     Replays-at (card-refusal ws) (unfit (length ks) (length fs) (length gs) (length xs) || short-for (instance-in ws .n) old) (calls ks fs gs)
-    (new-log (instance-in ws)) r xs xs′ old new
+    (new-log (instance-in ws)) xs xs′ old new r

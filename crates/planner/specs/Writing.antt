@@ -12,6 +12,6 @@ use Rattle.board.specs.declared.Board.{Board}
 
 -- "15 comes first .. 14 for looks and writes"; "returns the needed length, and touches only the needed bytes":
 -- `written-to` and `buffer-after` are the card's own equations
-pub record Writes (b : Board) (r : Written) (out out′ : List ℕ) : Type 0 where
+pub record Writes (b : Board) (out out′ : List ℕ) (r : Written) : Type 0 where
   pub result : r ≡ cond (valid (model-of b)) (written-to (instance-of b) out) (record { answer = invalid-board; length = 0 })
   pub buffer : out′ ≡ cond (valid (model-of b)) (buffer-after (instance-of b) out) out

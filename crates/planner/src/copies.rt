@@ -5,8 +5,9 @@ ghost use lib.ListN.{length, take};
 ghost use Rattle.base.specs.Lists.{in-front};
 ghost use Rattle.instance.specs.Limits.{max-vertices, cut-words};
 use instance::limits::CUT_WORDS;
+use instance::limits::VERTICES;
 
-pub fn copy_bytes(from: &[u8; 32], count: usize, out: &mut [u8])
+pub fn copy_bytes(from: &[u8; VERTICES], count: usize, out: &mut [u8])
     requires { ⌜ (count ≤ max-vertices) × (count ≤ length (now out)) × (length (now from) ≡ max-vertices) ⌝ }
     ensures { λ _. ⌜ now (out .exit) ≡ in-front (take count (now (from .entry))) (now (out .entry)) ⌝ }
 {

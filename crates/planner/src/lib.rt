@@ -2,6 +2,7 @@
 // requires anything of its caller: whatever is handed in gets an answer, and after a refusal the board and all buffers
 // are as they were.
 mod copies; // copies.rt: copies into the caller's buffers
+mod displaying; // displaying.rt: what planning found, copied there
 mod looking; // looking.rt: a look at a board
 mod opening; // opening.rt: a board from a card
 mod replaying; // replaying.rt: a list of calls, one after the other

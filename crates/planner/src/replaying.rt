@@ -22,6 +22,15 @@ use instance::Mark;
 use instance::Vertex;
 use instance::refusals::BUFFER_SHORT;
 
+// The kinds of a call: a take-back is 4, and any number above a look's is a write.
+const PIN: u8 = 0;
+
+const BAN: u8 = 1;
+
+const CLEAR: u8 = 2;
+
+const BUDGET: u8 = 3;
+
 const LOOK: u8 = 5;
 
 fn view_answer(v: View) -> u32
@@ -38,16 +47,16 @@ fn command_at(kind: u8, first: u32, second: u32) -> Command
     requires { ⌜ kind < 5 ⌝ }
     ensures { λ r. ⌜ calls.command (command-of r) ≡ call kind first second ⌝ }
 {
-    if kind == 0 {
+    if kind == PIN {
         return Command::SetMark(Mark::Pinned, Vertex(first), Vertex(second));
     }
-    if kind == 1 {
+    if kind == BAN {
         return Command::SetMark(Mark::Banned, Vertex(first), Vertex(second));
     }
-    if kind == 2 {
+    if kind == CLEAR {
         return Command::SetMark(Mark::Free, Vertex(first), Vertex(second));
     }
-    if kind == 3 {
+    if kind == BUDGET {
         return Command::SetBudget(first);
     }
     Command::TakeBack
@@ -72,7 +81,7 @@ fn make_call(
     states: &mut [u8],
     cuts: &mut [u32],
 ) -> Answered
-    ensures { λ r. ⌜ Makes (call kind first second) b r (buffers (now (parents .entry)) (now (states .entry)) (now (cuts .entry))) (buffers (now (parents .exit)) (now (states .exit)) (now (cuts .exit))) ⌝ }
+    ensures { λ r. ⌜ Makes (call kind first second) b (buffers (now (parents .entry)) (now (states .entry)) (now (cuts .entry))) (buffers (now (parents .exit)) (now (states .exit)) (now (cuts .exit))) r ⌝ }
 {
     if kind < LOOK {
         let command = command_at(kind, first, second);
@@ -114,7 +123,7 @@ pub fn replay(
     states: &mut [u8],
     cuts: &mut [u32],
 ) -> View
-    ensures { λ r. ⌜ Replays (now (bytes .entry)) (now (kinds .entry)) (now (firsts .entry)) (now (seconds .entry)) r (now (answers .entry)) (now (answers .exit)) (buffers (now (parents .entry)) (now (states .entry)) (now (cuts .entry))) (buffers (now (parents .exit)) (now (states .exit)) (now (cuts .exit))) ⌝ }
+    ensures { λ r. ⌜ Replays (now (bytes .entry)) (now (kinds .entry)) (now (firsts .entry)) (now (seconds .entry)) (now (answers .entry)) (now (answers .exit)) (buffers (now (parents .entry)) (now (states .entry)) (now (cuts .entry))) (buffers (now (parents .exit)) (now (states .exit)) (now (cuts .exit))) r ⌝ }
 {
     let opened = open_card(bytes);
     let answer = opened.answer;

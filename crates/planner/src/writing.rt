@@ -5,7 +5,7 @@ use card::write::Written;
 use instance::refusals::INVALID_BOARD;
 
 pub fn write_card(b: Board, out: &mut [u8]) -> Written
-    ensures { λ r. ⌜ Writes b r (now (out .entry)) (now (out .exit)) ⌝ }
+    ensures { λ r. ⌜ Writes b (now (out .entry)) (now (out .exit)) r ⌝ }
 {
     if !board::valid::is_valid(b) {
         return Written {

@@ -13,7 +13,7 @@ use Rattle.instance.specs.Instance.{Instance}
 use Rattle.instance.specs.Arborescence.{is-pinned}
 
 abbrev pub no-pin : ℕ
-no-pin = 32
+no-pin = max-vertices
 
 abbrev pub several-pins : ℕ
 several-pins = 33

@@ -11,7 +11,7 @@ ghost use Rattle.instance.specs.Limits.{max-vertices, no-arc, banned, cells};
 ghost use Rattle.instance.specs.Instance.{instance-with};
 ghost use Rattle.instance.specs.Matrix.{matrix};
 ghost use Rattle.remaining.specs.Pins.{allows};
-use instance::arc::can_be_arc;
+use checks::arc::can_be_arc;
 use instance::limits::BANNED;
 use instance::limits::CELLS;
 use instance::limits::NO_ARC;

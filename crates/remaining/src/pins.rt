@@ -6,14 +6,16 @@ ghost use Rattle.instance.specs.Limits.{max-vertices, cells};
 ghost use Rattle.instance.specs.Instance.{instance-with};
 ghost use Rattle.instance.specs.Arborescence.{is-pinned as pinned-arc};
 ghost use Rattle.remaining.specs.Pins.{Pins, Pin-table};
-use instance::arc::is_arc;
+use checks::arc::is_arc;
 use instance::limits::CELLS;
+use instance::limits::MAX_VERTICES;
 use instance::limits::PINNED;
+use instance::limits::VERTICES;
 
 // Pins into a head: a tail, or one of these.
-pub const NO_PIN: u32 = 32;
+pub const NO_PIN: u32 = MAX_VERTICES;
 
-const SEVERAL_PINS: u32 = 33;
+const SEVERAL_PINS: u32 = MAX_VERTICES + 1;
 
 fn is_pinned<'a>(
     weights: &'a [u32; CELLS],
@@ -64,11 +66,11 @@ pub fn pin_table<'a>(
     marks: &'a [u8; CELLS],
     n: u32,
     root: u32,
-) -> [u32; 32]
+) -> [u32; VERTICES]
     requires { ⌜ (n ≤ max-vertices) × (length (now weights) ≡ cells) × (length (now marks) ≡ cells) ⌝ }
     ensures { λ r. ⌜ Pin-table (instance-with n root 0 (now (weights .entry)) (now (marks .entry))) n r ⌝ }
 {
-    let mut table = [NO_PIN; 32];
+    let mut table = [NO_PIN; VERTICES];
     let mut head: u32 = 0;
     while head < n {
         table[head as usize] = pins_into(weights, marks, n, root, head);

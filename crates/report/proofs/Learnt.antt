@@ -11,10 +11,10 @@ use Rattle.report.specs.Reports.{Reports}
 use Rattle.report.proofs.reports.report.Reads as report-reads
 use Rattle.report.proofs.reports.report.Kinds as report-kinds
 
-pub data Reported-by : (card : List ℕ) → Reported → (out out′ : List ℕ) → Type 0 where
+pub data Reported-by : (card out out′ : List ℕ) → Reported → Type 0 where
   by-report :
       (κs : Lfts 2) (a : Dens κs report-kinds.ps) (r : Reported) (e : AtExit (endedOf 2 report-kinds.ps report-kinds.r) κs) → report-reads.Learnt κs a r e →
-      Reported-by (now (a .0)) r (now (a .1 .0)) (now (e .1 .0))
+      Reported-by (now (a .0)) (now (a .1 .0)) (now (e .1 .0)) r
 
-pub reported-by : {ws : List ℕ} {r : Reported} {out out′ : List ℕ} → Reported-by ws r out out′ → Reports ws out out′ r
+pub reported-by : {ws : List ℕ} {r : Reported} {out out′ : List ℕ} → Reported-by ws out out′ r → Reports ws out out′ r
 reported-by (by-report κs a r e l) = l

@@ -90,7 +90,7 @@ module _
     (long-parents : max-vertices ≤ length (old .parents))
     (long-states : cells ≤ length (old .states))
     (long-cuts : cut-words ≤ length (old .cuts))
-    (looked : Looks b v old new)
+    (looked : Looks b old new v)
   where
     abbrev S : Instance
     S = instance-of b
@@ -101,7 +101,7 @@ module _
     small : b .n ≤ max-vertices
     small = valid-small S valid-S
 
-    shows : Shows S v old new
+    shows : Shows S old new v
     shows =
         looks-long b v old new good
         (enough (b .n) (length (old .parents)) (length (old .states)) (length (old .cuts)) small long-parents long-states long-cuts)

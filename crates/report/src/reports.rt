@@ -11,6 +11,7 @@ use crate::Reported;
 use board::Board;
 use instance::limits::CELLS;
 use instance::limits::CUT_WORDS;
+use instance::limits::VERTICES;
 use instance::refusals::BUFFER_SHORT;
 use planner::View;
 use planner::look;
@@ -30,7 +31,7 @@ fn report_board(b: Board, out: &mut [u8]) -> usize
     let budget = b.budget;
     // a copy of the weights alone: a board that is read after the look would be kept whole beside the look's own
     let weights = b.weights;
-    let mut parents = [0u8; 32];
+    let mut parents = [0u8; VERTICES];
     let mut states = [0u8; CELLS];
     let mut cuts = [0u32; CUT_WORDS];
     let view = look(b, &mut parents, &mut states, &mut cuts);

@@ -18,7 +18,7 @@ use Rattle.instance.specs.States.{total-in, shows-tree, outcome, states}
 use Rattle.instance.specs.Valid.{valid-instance}
 use Rattle.instance.proofs.ArcLaws.{arc-ends, remaining-arc}
 use Rattle.instance.proofs.ValidLaws.{valid-small, valid-root, valid-budget}
-use Rattle.theory.proofs.ArborescenceLaws.{joined}
+use Rattle.instance.proofs.ArborescenceLaws.{joined}
 use Rattle.theory.proofs.StateLaws.{states-read}
 use Rattle.theory.proofs.OutcomeLaws.{outcome-reads}
 use Rattle.theory.proofs.TotalLaws.{weight-most, least-most}

@@ -1,30 +1,30 @@
 -- No shorter buffer would do: a valid instance whose text, with its own outcome and the parents of its only
 -- arborescence, is `max-text` bytes long. It is a star: 32 vertices with the root 31, a budget of 31,000,000, and the
 -- arcs 31→v at the dearest price. They are its only arcs, so that they make its only arborescence, of total 31,000,000.
--- Its states need not be known: each is one digit. Assumes nothing.
+-- Its states need not be known: each is one digit. All its 1,024 cells are as a card's are, so that it is the very
+-- instance of its own card (`longest-printed` of crate report). Assumes nothing.
 use mathlib.Core.Path.{_≡_, refl, sym, _∙_, subst}
-use mathlib.Core.Bool.{Bool, true, false, cond}
-use mathlib.Core.List.{List, []}
-use Prim.Native.Nat.{ℕ, _+_, _/_, _%_, _≤_, _<_}
+use mathlib.Core.Bool.{Bool, true, false, _&&_, not, cond}
+use mathlib.Core.List.{List}
+use Prim.Native.Nat.{ℕ, zero, suc, _+_, _/_, _%_, _≤_, _<_}
 use native.Mathlib.Omega.{arith}
 use borrow.Author.Tests.{eqb-true, eqb-false, eq-eqb, ne-eqb, lt-ltb}
 use lib.Dec.{eqb}
-use lib.ListN.{length}
+use lib.ListN.{length, getD, replicate}
 use Rattle.base.specs.Bounded.{all-below, sum-below}
 use Rattle.base.specs.Lists.{tabulate-from, tabulate}
-use Rattle.base.proofs.Tests.{not-both, is-true}
-use Rattle.base.proofs.BoundedLaws.{all-at, all-intro}
+use Rattle.base.proofs.Tests.{not-both, is-true, and-false-right}
+use Rattle.base.proofs.BoundedLaws.{all-at, all-intro, any-false}
 use Rattle.base.proofs.ListLaws.{length-tabulate, getD-tabulate, tabulate-is}
-use Rattle.instance.specs.Limits.{max-vertices, max-weight, no-arc, max-budget, no-parent, cells}
+use Rattle.instance.specs.Limits.{max-vertices, max-weight, no-arc, max-budget, free, no-parent, cells}
 use Rattle.instance.specs.Instance.{Instance, cell, weight, mark, can-be-arc, is-arc}
 use Rattle.instance.specs.Arborescence.{is-pinned, other-pinned, remaining, parent, reaches, is-arborescence, total}
-use Rattle.instance.specs.Matrix.{unmarked}
 use Rattle.instance.specs.declared.Outcome.the-variants.{Plan}
 use Rattle.instance.specs.States.{outcome, states}
 use Rattle.instance.specs.Valid.{cell-ok, cell-valid, header-valid, valid-instance}
-use Rattle.instance.proofs.ArcLaws.{arc-ends, arc-weight, remaining-arc, unmarked-remaining}
+use Rattle.instance.proofs.ArcLaws.{arc-ends, arc-weight, remaining-arc}
 use Rattle.theory.specs.Readings.{Least-total}
-use Rattle.theory.proofs.ArborescenceLaws.{parents-size, root-parent, joined, make-arborescence}
+use Rattle.instance.proofs.ArborescenceLaws.{parents-size, root-parent, joined, make-arborescence}
 use Rattle.theory.proofs.OutcomeLaws.{outcome-reads}
 use Rattle.text.specs.Decimal.{decimal-in, decimal}
 use Rattle.text.specs.Lines.{codes}
@@ -35,12 +35,15 @@ use Rattle.report_text.specs.Whole.{report-text, max-text}
 use Rattle.report_text.proofs.RowLaws.{rows-longest}
 use Rattle.report_text.proofs.LengthLaws.{parts-length, state-digits}
 
--- the root's row has the dearest price (31→31 can never be an arc), every other cell no arc; no arc is marked
-abbrev star-cell : ℕ → ℕ
-star-cell i = cond (eqb (i / 32) 31) max-weight no-arc
+-- an arc from the root has the dearest price, and there is no other arc; none is marked
+abbrev star-weight-of : (tail head : ℕ) → ℕ
+star-weight-of t h = cond (eqb t 31 && can-be-arc max-vertices 31 t h) max-weight no-arc
+
+abbrev pub star-cell : ℕ → ℕ
+star-cell i = star-weight-of (i / 32) (i % 32)
 
 unfoldable pub star : Instance
-star = record { n = max-vertices; root = 31; budget = max-budget; weights = tabulate cells star-cell; marks = [] }
+star = record { n = max-vertices; root = 31; budget = max-budget; weights = tabulate cells star-cell; marks = replicate cells free }
 
 -- the root is the parent of every other vertex
 abbrev star-parent : ℕ → ℕ
@@ -49,18 +52,30 @@ star-parent v = cond (eqb v 31) no-parent 31
 unfoldable pub star-parents : List ℕ
 star-parents = tabulate max-vertices star-parent
 
-star-weight : (t h : ℕ) → t < max-vertices → h < max-vertices → weight star t h ≡ cond (eqb t 31) max-weight no-arc
+star-weight : (t h : ℕ) → t < max-vertices → h < max-vertices → weight star t h ≡ star-weight-of t h
 unfolding star weight
 star-weight t h lt lh =
     let e : cell t h / 32 ≡ t = omega arith in
-    getD-tabulate cells star-cell (cell t h) no-arc (omega arith) ∙ rw e
+    let f : cell t h % 32 ≡ h = omega arith in
+    getD-tabulate cells star-cell (cell t h) no-arc (omega arith) ∙ rw (e, f)
+
+pub all-free : (k i : ℕ) → getD (replicate k free) i free ≡ free
+all-free zero i = refl
+all-free (suc k) zero = refl
+all-free (suc k) (suc i) = all-free k i
+
+star-mark : (t h : ℕ) → mark star t h ≡ free
+unfolding star mark
+star-mark t h = all-free cells (cell t h)
 
 -- VALID
 pub star-valid : valid-instance star ≡ true
 unfolding star valid-instance header-valid cell-valid cell-ok
-star-valid = all-intro cells (cell-valid star) (λ i l. rw (getD-tabulate cells star-cell i no-arc l) (go (can-be-arc max-vertices 31 (i / 32) (i % 32)) (eqb (i / 32) 31)))
+star-valid =
+    all-intro cells (cell-valid star)
+    (λ i l. rw (getD-tabulate cells star-cell i no-arc l, all-free cells i) (go (can-be-arc max-vertices 31 (i / 32) (i % 32)) (eqb (i / 32) 31)))
   where
-    go : (a b : Bool) → cond a (cell-ok (cond b max-weight no-arc) 0) true ≡ true
+    go : (a b : Bool) → cond a (cell-ok (cond (b && a) max-weight no-arc) free) true ≡ true
     go true true = refl
     go true false = refl
     go false b = refl
@@ -75,15 +90,17 @@ star-tail t h a =
     let w = star-weight t h (ends .tail-below) (ends .head-below) in
     eqb-true t 31 (is-true (eqb t 31) (λ f. not-both (eqb (weight star t h) no-arc) (eq-eqb (weight star t h) no-arc (w ∙ rw f)) (arc-weight star t h arc)))
 
-star-remaining : (t h : ℕ) → remaining star t h ≡ is-arc star t h
-unfolding star unmarked remaining other-pinned is-pinned is-arc mark weight
-star-remaining t h = unmarked-remaining max-vertices 31 (tabulate cells star-cell) t h
+star-free : (t h : ℕ) → other-pinned star t h ≡ false
+unfolding other-pinned is-pinned
+star-free t h =
+    any-false (star .n) (λ g. not (eqb g t) && is-pinned star g h)
+    (λ g l. and-false-right (not (eqb g t)) (is-pinned star g h) (rw (star-mark g h) (and-false-right (is-arc star g h) false refl)))
 
 star-arc : (h : ℕ) → h < max-vertices → eqb h 31 ≡ false → remaining star 31 h ≡ true
-unfolding star is-arc can-be-arc
+unfolding star remaining is-arc can-be-arc
 star-arc h l e =
     let from-root = ne-eqb 31 h (λ q. eqb-false h 31 e (sym q)) in
-    star-remaining 31 h ∙ rw (lt-ltb h max-vertices l, e, from-root, star-weight 31 h (omega arith) l)
+    rw (star-mark 31 h, star-free 31 h, star-weight 31 h (omega arith) l, lt-ltb h max-vertices l, e, from-root)
 
 parent-is : (v : ℕ) → v < max-vertices → parent star-parents v ≡ star-parent v
 unfolding star-parents
@@ -103,7 +120,7 @@ star-tree =
       reach = all-at max-vertices (reaches max-vertices 31 star-parents) v l all-reach;
     })
 
-star-only : (ps : List ℕ) → is-arborescence star ps ≡ true → ps ≡ star-parents
+pub star-only : (ps : List ℕ) → is-arborescence star ps ≡ true → ps ≡ star-parents
 unfolding star star-parents
 star-only ps a = tabulate-is max-vertices ps star-parent no-parent (parents-size star ps a) (λ v l. go v l (eqb v 31) refl)
   where
@@ -112,7 +129,7 @@ star-only ps a = tabulate-is max-vertices ps star-parent no-parent (parents-size
     go v l false e = star-tail (parent ps v) v (joined star ps a v l e .arc)
 
 pub star-total : total star star-parents ≡ max-budget
-unfolding total sum-below weight star star-parents tabulate tabulate-from
+unfolding total sum-below weight can-be-arc star star-parents tabulate tabulate-from
 star-total = refl
 
 pub star-outcome : outcome star ≡ Plan max-budget
@@ -123,7 +140,7 @@ star-outcome = outcome-reads star .plans max-budget .1 (least, omega arith)
     least =
         record {
           parents = star-parents;
-          found = star-tree;
+          arborescence = star-tree;
           attained = star-total;
           least = λ ps a. subst (λ (qs : List ℕ). max-budget ≤ total star qs) (sym (star-only ps a)) (omega (arith, star-total));
         }
@@ -134,7 +151,7 @@ unfolding header-line outcome-line codes decimal decimal-in
 star-heading = refl
 
 star-feeds : length (feed-lines (star .weights) star-parents max-vertices 31 (Plan max-budget)) ≡ 920
-unfolding feed-lines feed-at feed-line join-below codes decimal decimal-in star star-parents tabulate tabulate-from
+unfolding feed-lines feed-at feed-line join-below codes decimal decimal-in can-be-arc star star-parents tabulate tabulate-from
 star-feeds = refl
 
 pub longest : length (report-text star (outcome star) star-parents) ≡ max-text

@@ -1,4 +1,4 @@
--- A row is written in four steps: its label and number, a blank, its states and the line feed. The rows go by the first
+-- A row is written in four steps: its label and number, a space, its states and the line feed. The rows go by the first
 -- n times n states, whatever the list holds behind them, and how long they are is known where each state is one digit.
 -- Assumes nothing.
 use mathlib.Core.Path.{_≡_, refl, sym, ap, _∙_}
@@ -35,30 +35,30 @@ module _ (ss : List ℕ) (n t : ℕ) {old : List ℕ} {at : ℕ} (room : Room (r
   unfolding row-line
   with-states = room-first (line-feed ∷ []) room
 
-  with-blank : Room (labelled (codes "row ") t ++ (space ∷ [])) old at
-  with-blank = room-first (row-states ss n t) with-states
+  with-space : Room (labelled (codes "row ") t ++ (space ∷ [])) old at
+  with-space = room-first (row-states ss n t) with-states
 
   pub row-room : Room (labelled (codes "row ") t) old at
-  row-room = room-first (space ∷ []) with-blank
+  row-room = room-first (space ∷ []) with-space
 
   module _ {mid : List ℕ} {m : ℕ} (a : Puts (labelled (codes "row ") t) old at mid m) where
-    pub blank-room : m < length mid
-    blank-room = byte-room a space with-blank
+    pub space-room : m < length mid
+    space-room = byte-room a space with-space
 
-    blank : Puts (labelled (codes "row ") t ++ (space ∷ [])) old at (set mid m space) (m + 1)
-    blank = puts-byte a space with-blank
+    spaced : Puts (labelled (codes "row ") t ++ (space ∷ [])) old at (set mid m space) (m + 1)
+    spaced = puts-byte a space with-space
 
     pub states-room : Room (row-states ss n t) (set mid m space) (m + 1)
-    states-room = puts-room blank (row-states ss n t) with-states
+    states-room = puts-room spaced (row-states ss n t) with-states
 
     module _ {last : List ℕ} {r : ℕ} (b : Puts (row-states ss n t) (set mid m space) (m + 1) last r) where
       pub end-room : r < length last
       unfolding row-line
-      end-room = byte-room (puts-then blank with-states b) line-feed room
+      end-room = byte-room (puts-then spaced with-states b) line-feed room
 
       pub row-put : Puts (row-line ss n t) old at (set last r line-feed) (r + 1)
       unfolding row-line
-      row-put = puts-byte (puts-then blank with-states b) line-feed room
+      row-put = puts-byte (puts-then spaced with-states b) line-feed room
 
 -- THE FIRST n TIMES n STATES
 pub rows-same : (ss : List ℕ) (n : ℕ) → row-lines ss n ≡ row-lines (take (n * n) ss) n

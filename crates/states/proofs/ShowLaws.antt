@@ -26,18 +26,18 @@ use Rattle.states.specs.Show.{Counts, state-by, states-by}
 
 -- COUNTS
 module _ (n : ℕ) (used : List ℕ) where
-  pub counts-none : (counts : List ℕ) → Counts n used 0 counts
+  pub counts-none : (counts : List ℕ) → Counts used n 0 counts
   counts-none counts = record { at = filled-none (λ h v. v ≡ count-below n (λ g. is-used used g h)) counts }
 
-  pub counts-more : (counts : List ℕ) (h v : ℕ) → h < length counts → Counts n used h counts → v ≡ count-below n (λ g. is-used used g h)
-      → Counts n used (h + 1) (set counts h v)
+  pub counts-more : (counts : List ℕ) (h v : ℕ) → h < length counts → Counts used n h counts → v ≡ count-below n (λ g. is-used used g h)
+      → Counts used n (h + 1) (set counts h v)
   counts-more counts h v l k e = record { at = filled-more (λ h v. v ≡ count-below n (λ g. is-used used g h)) counts h v l (k .at) e }
 
 -- the state by a count is the state by the table
 pub state-counted : (n root : ℕ) (used weights : List ℕ) (t h : ℕ)
     → cond (can-be-arc n root t h && not (eqb (getD weights (cell t h) 0) no-arc))
     (cond (is-used used t h) (cond (eqb (count-below n (λ g. is-used used g h)) 1) 3 2) 1) 0
-    ≡ state-by n root used weights t h
+    ≡ state-by used weights n root t h
 unfolding state-by
 state-counted n root used weights t h = at (can-be-arc n root t h) refl (is-used used t h) refl
   where
@@ -60,7 +60,7 @@ module _ (s : Instance) (small : s .n ≤ max-vertices) (size : length (s .weigh
   says : (t h : ℕ) → t < s .n → h < s .n → is-used used t h ≡ usable s t h
   says t h l m = k .exact t h l m ∙ matrix-usable s small t h
 
-  cell-shown : (t h : ℕ) → t < s .n → h < s .n → state-by (s .n) (s .root) used (s .weights) t h ≡ state s t h
+  cell-shown : (t h : ℕ) → t < s .n → h < s .n → state-by used (s .weights) (s .n) (s .root) t h ≡ state s t h
   unfolding state-by is-arc
   cell-shown t h l m =
       rw (
@@ -70,10 +70,10 @@ module _ (s : Instance) (small : s .n ≤ max-vertices) (size : length (s .weigh
       )
       (sym (state-usable s t h))
 
-  pub states-shown : states-by (s .n) (s .root) used (s .weights) ≡ states s
+  pub states-shown : states-by used (s .weights) (s .n) (s .root) ≡ states s
   unfolding states state
   states-shown =
-      let g : ℕ → ℕ = λ i. state-by (s .n) (s .root) used (s .weights) (i / s .n) (i % s .n) in
+      let g : ℕ → ℕ = λ i. state-by used (s .weights) (s .n) (s .root) (i / s .n) (i % s .n) in
       tabulate-is (s .n * s .n) (tabulate (s .n * s .n) g) (λ i. state s (i / s .n) (i % s .n)) 0 (length-tabulate (s .n * s .n) g)
       (λ i l.
       getD-tabulate (s .n * s .n) g i 0 l ∙ cell-shown (i / s .n) (i % s .n) (grid-row (s .n) i l) (grid-column (s .n) i l))

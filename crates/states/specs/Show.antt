@@ -12,15 +12,15 @@ use Rattle.instance.specs.Instance.{cell, can-be-arc}
 use Rattle.usable.specs.Table.{is-used}
 
 -- the number of used arcs into each head below a bound
-pub record Counts (n : ℕ) (used : List ℕ) (bound : ℕ) (counts : List ℕ) : Type 0 where
+pub record Counts (used : List ℕ) (n : ℕ) (bound : ℕ) (counts : List ℕ) : Type 0 where
   pub at : (h : ℕ) → h < bound → getD counts h 0 ≡ count-below n (λ g. is-used used g h)
 
 -- the state of a cell by a table: 0 no arc, 1 not used, 3 the only used one into its head, 2 one of several
-unfoldable pub state-by : (n root : ℕ) → (used weights : List ℕ) → (tail head : ℕ) → ℕ
-state-by n r us ws t h =
+unfoldable pub state-by : (used weights : List ℕ) → (n root : ℕ) → (tail head : ℕ) → ℕ
+state-by us ws n r t h =
     cond (can-be-arc n r t h && not (eqb (getD ws (cell t h) 0) no-arc))
     (cond (is-used us t h) (cond (any-below n (λ g. not (eqb g t) && is-used us g h)) 2 3) 1) 0
 
 -- "n times n bytes, feeder by feeder"
-abbrev pub states-by : (n root : ℕ) → (used weights : List ℕ) → List ℕ
-states-by n r us ws = tabulate (n * n) (λ i. state-by n r us ws (i / n) (i % n))
+abbrev pub states-by : (used weights : List ℕ) → (n root : ℕ) → List ℕ
+states-by us ws n r = tabulate (n * n) (λ i. state-by us ws n r (i / n) (i % n))

@@ -10,9 +10,19 @@ ghost use Rattle.base.specs.Lists.{in-front};
 ghost use Rattle.instance.specs.Limits.{max-vertices, no-arc};
 ghost use Rattle.usable.specs.Table.{is-used};
 ghost use Rattle.states.specs.Show.{Counts, states-by};
-use instance::arc::can_be_arc;
+use checks::arc::can_be_arc;
 use instance::limits::CELLS;
 use instance::limits::NO_ARC;
+use instance::limits::VERTICES;
+
+// The states of a cell: "0 not a link", "1 closed", "2 open", "3 sure".
+const ABSENT: u8 = 0;
+
+const EXCLUDED: u8 = 1;
+
+const OPTIONAL: u8 = 2;
+
+const MANDATORY: u8 = 3;
 
 fn used_into(used: &[u8; CELLS], n: u32, head: u32) -> u32
     requires { ⌜ (n ≤ max-vertices) × (head < max-vertices) ⌝ }
@@ -29,11 +39,11 @@ fn used_into(used: &[u8; CELLS], n: u32, head: u32) -> u32
     count
 }
 
-fn counts_into(used: &[u8; CELLS], n: u32) -> [u32; 32]
+fn counts_into(used: &[u8; CELLS], n: u32) -> [u32; VERTICES]
     requires { ⌜ n ≤ max-vertices ⌝ }
-    ensures { λ r. ⌜ Counts n (now (used .entry)) n r ⌝ }
+    ensures { λ r. ⌜ Counts (now (used .entry)) n n r ⌝ }
 {
-    let mut counts = [0u32; 32];
+    let mut counts = [0u32; VERTICES];
     let mut head: u32 = 0;
     while head < n {
         counts[head as usize] = used_into(used, n, head);
@@ -48,24 +58,24 @@ fn state_of(possible: bool, weight: u32, used: u8, count: u32) -> u8
     ensures { λ r. ⌜ r ≡ cond (possible && not (eqb weight no-arc)) (cond (eqb used 1) (cond (eqb count 1) 3 2) 1) 0 ⌝ }
 {
     if !possible {
-        return 0;
+        return ABSENT;
     }
     if weight == NO_ARC {
-        return 0;
+        return ABSENT;
     }
     if used != 1 {
-        return 1;
+        return EXCLUDED;
     }
     if count == 1 {
-        return 3;
+        return MANDATORY;
     }
-    2
+    OPTIONAL
 }
 
 // The n times n states, tail by tail, at the front of the caller's buffer.
 pub fn write_states(used: &[u8; CELLS], weights: &[u32; CELLS], n: u32, root: u32, out: &mut [u8])
     requires { ⌜ (n ≤ max-vertices) × (n * n ≤ length (now out)) ⌝ }
-    ensures { λ _. ⌜ now (out .exit) ≡ in-front (states-by n root (now (used .entry)) (now (weights .entry))) (now (out .entry)) ⌝ }
+    ensures { λ _. ⌜ now (out .exit) ≡ in-front (states-by (now (used .entry)) (now (weights .entry)) n root) (now (out .entry)) ⌝ }
 {
     let counts = counts_into(used, n);
     let total = n * n;

@@ -10,7 +10,7 @@ use Rattle.instance.specs.Instance.{Instance}
 use Rattle.instance.specs.Cuts.{Cut, pair-words, words-of}
 use Rattle.instance.specs.declared.Outcome.{Outcome}
 use Rattle.instance.specs.declared.Outcome.the-variants.{Plan, Over, NoTree}
-use Rattle.theory.proofs.ArborescenceLaws.{parents-size}
+use Rattle.instance.proofs.ArborescenceLaws.{parents-size}
 use Rattle.survey.specs.Survey.{Parents-by, Cuts-shown}
 
 pub parents-length : (b : Bool) (v : ℕ) (s : Instance) (ps : List ℕ) → Parents-by b v s ps → length ps ≡ s .n

@@ -6,7 +6,7 @@ use mathlib.Core.List.{List, [], _∷_}
 use Prim.Native.Nat.{ℕ, _*_, _≤_, _<_}
 use native.Mathlib.Omega.{arith}
 use lib.Dec.{leb}
-use lib.ListN.{set, take, replicate}
+use lib.ListN.{length, set, take, replicate}
 use borrow.Author.Tests.{le-leb, lt-leb, leb-true, leb-false}
 use Rattle.instance.specs.Limits.{max-vertices, no-parent, cells, cut-words}
 use Rattle.instance.specs.Instance.{Instance}
@@ -17,6 +17,7 @@ use Rattle.instance.specs.declared.Outcome.{Outcome}
 use Rattle.instance.specs.declared.Outcome.the-variants.{Plan, Over, NoTree}
 use Rattle.instance.specs.States.{shows-tree, outcome-at, outcome}
 use Rattle.base.proofs.PartLaws.{drop-replicate, take-replicate}
+use Rattle.instance.proofs.CutLaws.{cuts-length}
 use Rattle.theory.proofs.Restriction.{matrix-arborescence, matrix-total, matrix-proves, matrix-no-entry}
 use Rattle.theory.proofs.Optimality.{proved-plan, proved-over, shut-outcome}
 use Rattle.edmonds.specs.declared.Planned.{Planned}
@@ -24,7 +25,7 @@ use Rattle.edmonds.specs.Planned.{Planned-matrix}
 use Rattle.usable.specs.Table.{Usable-table}
 use Rattle.usable.proofs.TableLaws.{over-table, shut-table}
 use Rattle.survey.specs.Survey.{Parents-by, Cuts-shown, Surveys}
-use Rattle.survey.proofs.WordLaws.{length-cuts-in, words-again}
+use Rattle.survey.proofs.WordLaws.{words-again}
 
 -- WHAT THE TEST OF THE TOTAL TELLS
 module _ (v b : ℕ) where
@@ -54,7 +55,7 @@ module _ (v b : ℕ) where
 
 -- WHAT PLANNING THE MATRIX OF AN INSTANCE TELLS OF IT
 module _ (s : Instance) (small : s .n ≤ max-vertices) (reduced words : List ℕ) (r : Planned)
-    (p : Planned-matrix (s .n) (s .root) (matrix s) reduced (replicate cut-words 0) words r) where
+    (p : Planned-matrix (matrix s) reduced (s .n) (s .root) (replicate cut-words 0) words r) where
   abbrev left : Instance
   left = unmarked (s .n) (s .root) (matrix s)
 
@@ -77,9 +78,13 @@ module _ (s : Instance) (small : s .n ≤ max-vertices) (reduced words : List �
     adds : values cs ≡ total s ps
     adds = proves .adds ∙ same
 
+    cut-count : length cs ≡ r .count
+    unfolding cuts-in
+    cut-count = cuts-length (r .count) 0 words
+
     found-words : words ≡ words-of cs
     found-words =
-        words-again (r .count) words (omega (arith, proves .few, length-cuts-in (r .count) words, p .cuts-size))
+        words-again (r .count) words (omega (arith, proves .few, cut-count, p .cuts-size))
         (p .rest f ∙ drop-replicate (2 * r .count) cut-words 0)
 
     module _ (o : Outcome) (q : o ≡ outcome-at (s .budget) (some (r .total))) where
@@ -94,8 +99,8 @@ module _ (s : Instance) (small : s .n ≤ max-vertices) (reduced words : List �
             result = q ∙ over-at (r .total) (s .budget) past ∙ sym is;
             places = refl;
             parents-found = rw is (take-replicate (s .n) max-vertices no-parent small);
-            found = cs;
-            counted = sym (length-cuts-in (r .count) words);
+            cut-list = cs;
+            counted = sym cut-count;
             cuts-found = rw is proves;
             words = found-words;
             table =
@@ -114,8 +119,8 @@ module _ (s : Instance) (small : s .n ≤ max-vertices) (reduced words : List �
             result = q ∙ plan-at (r .total) (s .budget) within ∙ sym is;
             places = p .parents-size;
             parents-found = rw is (found-tree, sym same);
-            found = cs;
-            counted = sym (length-cuts-in (r .count) words);
+            cut-list = cs;
+            counted = sym cut-count;
             cuts-found = rw is proves;
             words = found-words;
             table = table;
@@ -133,7 +138,7 @@ module _ (s : Instance) (small : s .n ≤ max-vertices) (reduced words : List �
         result = sym is;
         places = refl;
         parents-found = rw is (take-replicate (s .n) max-vertices no-parent small);
-        found = x ∷ [];
+        cut-list = x ∷ [];
         counted = refl;
         cuts-found = rw is (x, refl, e);
         words = refl;

@@ -10,10 +10,6 @@ use Rattle.instance.specs.Limits.{cut-words}
 use Rattle.instance.specs.Cuts.{cuts-from, cuts-in, pair-words, words-of}
 use Rattle.instance.proofs.CutLaws.{cuts-length}
 
-pub length-cuts-in : (k : ℕ) (ws : List ℕ) → length (cuts-in k ws) ≡ k
-unfolding cuts-in
-length-cuts-in k ws = cuts-length k 0 ws
-
 -- the pairs from place i on are the words from 2 i on
 pairs-at : (k i : ℕ) (ws : List ℕ) → 2 * (i + k) ≤ length ws → pair-words (cuts-from k i ws) ≡ take (2 * k) (drop (2 * i) ws)
 unfolding cuts-from pair-words

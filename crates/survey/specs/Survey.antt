@@ -35,8 +35,8 @@ pub record Surveys (s : Instance) (r : Survey) : Type 0 where
   pub result : r .outcome ≡ outcome s
   pub places : length (r .parents) ≡ max-vertices
   pub parents-found : Parents-shown (outcome s) s (take (s .n) (r .parents))
-  pub found : List Cut
-  pub counted : r .pairs ≡ length found
-  pub cuts-found : Cuts-shown (outcome s) s found
-  pub words : r .cuts ≡ words-of found
+  pub cut-list : List Cut
+  pub counted : r .pairs ≡ length cut-list
+  pub cuts-found : Cuts-shown (outcome s) s cut-list
+  pub words : r .cuts ≡ words-of cut-list
   pub table : Usable-table (matrix-instance (s .n) (s .root) (s .budget) (matrix s)) (r .used)

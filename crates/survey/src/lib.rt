@@ -15,6 +15,7 @@ use instance::Vertex;
 use instance::limits::CELLS;
 use instance::limits::CUT_WORDS;
 use instance::limits::NO_PARENT;
+use instance::limits::VERTICES;
 use instance::shows_tree;
 use remaining::remaining_matrix;
 use usable::usable_arcs;
@@ -23,7 +24,7 @@ use usable::usable_arcs;
 // words, and 1 at each arc that some arborescence within budget uses.
 pub struct Survey {
     pub outcome: Outcome,
-    pub parents: [u8; 32],
+    pub parents: [u8; VERTICES],
     pub pairs: u32,
     pub cuts: [u32; CUT_WORDS],
     pub used: [u8; CELLS],
@@ -39,12 +40,12 @@ fn outcome_at(budget: u32, total: u32) -> Outcome
 }
 
 // No tree is shown, and no arc is usable.
-fn blank(outcome: Outcome, pairs: u32, cuts: [u32; CUT_WORDS]) -> Survey
+fn without_tree(outcome: Outcome, pairs: u32, cuts: [u32; CUT_WORDS]) -> Survey
     ensures { λ r. ⌜ r ≡ record { outcome = outcome; parents = replicate max-vertices no-parent; pairs = pairs; cuts = cuts; used = replicate cells 0 } ⌝ }
 {
     Survey {
         outcome,
-        parents: [NO_PARENT; 32],
+        parents: [NO_PARENT; VERTICES],
         pairs,
         cuts,
         used: [0u8; CELLS],
@@ -57,7 +58,7 @@ fn no_tree(set: u32) -> Survey
 {
     let mut cuts = [0u32; CUT_WORDS];
     cuts[0] = set;
-    blank(Outcome::NoTree, 1, cuts)
+    without_tree(Outcome::NoTree, 1, cuts)
 }
 
 pub fn plan_instance<'a>(
@@ -82,7 +83,7 @@ pub fn plan_instance<'a>(
     let pairs = p.count;
     let outcome = outcome_at(budget, total);
     if !shows_tree(outcome) {
-        return blank(outcome, pairs, cuts);
+        return without_tree(outcome, pairs, cuts);
     }
     let used = usable_arcs(&m, &reduced, &parents, n, root, total, budget);
     Survey {

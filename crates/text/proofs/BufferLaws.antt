@@ -50,10 +50,10 @@ placed-byte old at b h =
 
 -- ROOM
 pub room-first : {old s : List ℕ} {at : ℕ} (t : List ℕ) → Room (s ++ t) old at → Room s old at
-room-first {old} {s} {at} t h = let e = length-append s t in record { fits = omega arith }
+room-first {old} {s} {at} t h = let e = length-append s t in record { long-enough = omega arith }
 
 pub room-whole : (text old : List ℕ) → length text ≤ length old → Room text old 0
-room-whole text old h = record { fits = omega arith }
+room-whole text old h = record { long-enough = omega arith }
 
 -- NOTHING, ONE BYTE, A TEXT MORE, ONE BYTE MORE
 pub puts-none : (old : List ℕ) (at : ℕ) → Puts [] old at old at
@@ -68,8 +68,8 @@ module _ {old mid s : List ℕ} {at m : ℕ} (a : Puts s old at mid m) where
   pub puts-room : (t : List ℕ) → Room (s ++ t) old at → Room t mid m
   puts-room t room =
       let e = length-append s t in
-      let n = ap length (a .buffer) ∙ placed-length s old at (room-first {s = s} t room .fits) in
-      record { fits = omega (arith, a .place) }
+      let n = ap length (a .buffer) ∙ placed-length s old at (room-first {s = s} t room .long-enough) in
+      record { long-enough = omega (arith, a .place) }
 
   pub puts-then : {new t : List ℕ} {r : ℕ} → Room (s ++ t) old at → Puts t mid m new r → Puts (s ++ t) old at new r
   puts-then {new} {t} {r} room b =
@@ -77,7 +77,7 @@ module _ {old mid s : List ℕ} {at m : ℕ} (a : Puts s old at mid m) where
       record {
         buffer =
             b .buffer ∙ ap (λ (l : List ℕ). placed t l m) (a .buffer) ∙ ap (placed t (placed s old at)) (a .place)
-            ∙ placed-append s t old at (room-first {s = s} t room .fits);
+            ∙ placed-append s t old at (room-first {s = s} t room .long-enough);
         place = omega (arith, a .place, b .place);
       }
 
@@ -96,7 +96,7 @@ module _ {old mid : List ℕ} {at m : ℕ} (l : List ℕ) (i : ℕ) (a : Puts (t
   pub copied-next : i < length l → Room l old at → Puts (take (i + 1) l) old at (set mid m (getD l i 0)) (m + 1)
   copied-next h room =
       let r : at + length (take i l ++ (getD l i 0 ∷ [])) ≤ length old = rw (length-append, length-take) (omega arith) in
-      rw (add-one i, take-suc l i 0 h) (puts-byte a (getD l i 0) (record { fits = r }))
+      rw (add-one i, take-suc l i 0 h) (puts-byte a (getD l i 0) (record { long-enough = r }))
 
 -- FROM THE BEGINNING ON
 pub puts-filled : {text old new : List ℕ} {r : ℕ} → Puts text old 0 new r → Filled text old new r

@@ -36,8 +36,8 @@ module _ (g : ℕ → List ℕ) where
     part : Room (join-below k g ++ g k) old at
     part =
         let l = sum-longer (λ i. length (g i)) (k + 1) n (omega arith) in
-        let fits : at + length (join-below (k + 1) g) ≤ length old = omega (arith, room .fits, join-length (k + 1), join-length n) in
-        let r : Room (join-below (k + 1) g) old at = record { fits = fits } in
+        let fits : at + length (join-below (k + 1) g) ≤ length old = omega (arith, room .long-enough, join-length (k + 1), join-length n) in
+        let r : Room (join-below (k + 1) g) old at = record { long-enough = fits } in
         rw (join-more k) at r
 
     -- there is room for the next, and it makes one more

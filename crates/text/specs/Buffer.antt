@@ -10,7 +10,7 @@ use Rattle.base.specs.Lists.{in-front}
 
 -- a buffer has room for a text from `at` on
 pub record Room (text buffer : List ℕ) (at : ℕ) : Type 0 where
-  pub fits : at + length text ≤ length buffer
+  pub long-enough : at + length text ≤ length buffer
 
 -- a buffer with a text in the place of its own bytes from `at` on
 unfoldable pub placed : (text old : List ℕ) → (at : ℕ) → List ℕ

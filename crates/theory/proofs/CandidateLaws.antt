@@ -19,7 +19,7 @@ use Rattle.instance.specs.Instance.{Instance}
 use Rattle.instance.specs.Arborescence.{parent, is-arborescence}
 use Rattle.instance.specs.Candidates.{prefixed, choices, candidates-from, candidates}
 use Rattle.instance.proofs.ArcLaws.{remaining-ends}
-use Rattle.theory.proofs.ArborescenceLaws.{parents-size, root-parent, joined}
+use Rattle.instance.proofs.ArborescenceLaws.{parents-size, root-parent, joined}
 
 -- a list with one of the numbers in front
 any-prefixed : (q : List ℕ → Bool) (xs : List ℕ) (ls : List (List ℕ)) (x : ℕ)

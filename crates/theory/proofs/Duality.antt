@@ -23,9 +23,9 @@ use Rattle.base.proofs.CondLaws.{cond-add, cond-le}
 use Rattle.instance.specs.Instance.{Instance, weight}
 use Rattle.instance.specs.Arborescence.{remaining, parent, reaches, is-arborescence, total, uses}
 use Rattle.instance.specs.Cuts.{Cut, inside, enters, charged, values, set-ok, sets-ok, Feasible, reduced-cost, No-entry}
-use Rattle.instance.specs.States.{bound, fits}
+use Rattle.instance.specs.States.{total-limit, fits}
 use Rattle.instance.proofs.ArcLaws.{remaining-ends}
-use Rattle.theory.proofs.ArborescenceLaws.{joined}
+use Rattle.instance.proofs.ArborescenceLaws.{joined}
 use Rattle.theory.proofs.StateLaws.{fits-arborescence, fits-total}
 
 -- a set below 2 ^ n that is not empty has a member below n
@@ -138,7 +138,7 @@ module _ (s : Instance) (ps : List ℕ) (a : is-arborescence s ps ≡ true) wher
 
 -- A REDUCED COST PAST THE BOUND EXCLUDES: "If total plus reduced price exceeds the budget, the link is closed"
 pub reduced-excludes : (s : Instance) (cs : List Cut) (t h : ℕ) → Feasible s cs → remaining s t h ≡ true
-    → bound s < values cs + reduced-cost s cs t h → (ps : List ℕ) → fits s ps ≡ true → uses ps t h ≡ false
+    → total-limit s < values cs + reduced-cost s cs t h → (ps : List ℕ) → fits s ps ≡ true → uses ps t h ≡ false
 unfolding uses
 reduced-excludes s cs t h f r past ps fit =
     let end = remaining-ends s t h r in

@@ -1,5 +1,4 @@
 -- What is proved about the problem. Assumes nothing.
-pub mod ArborescenceLaws
 pub mod MarkLaws
 pub mod CandidateLaws
 pub mod StateLaws

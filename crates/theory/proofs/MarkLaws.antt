@@ -11,7 +11,7 @@ use Rattle.instance.specs.Limits.{pinned, banned}
 use Rattle.instance.specs.Instance.{Instance, mark, is-arc}
 use Rattle.instance.specs.Arborescence.{is-pinned, other-pinned, remaining, parent, is-arborescence, uses}
 use Rattle.instance.proofs.ArcLaws.{arc-ends}
-use Rattle.theory.proofs.ArborescenceLaws.{joined, uses-remains}
+use Rattle.instance.proofs.ArborescenceLaws.{joined, uses-remains}
 
 -- what a remaining arc is, beside an arc
 module _ (s : Instance) (t h : ℕ) (e : remaining s t h ≡ true) where

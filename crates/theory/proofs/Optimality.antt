@@ -20,7 +20,7 @@ module _ (s : Instance) where
   -- AN ARBORESCENCE THAT CUTS PROVE
   module _ (ps : List ℕ) (cs : List Cut) (a : is-arborescence s ps ≡ true) (f : Feasible s cs) (e : values cs ≡ total s ps) where
     pub proved-least : Least-total s (total s ps)
-    proved-least = record { parents = ps; found = a; attained = refl; least = λ qs b. let w = weak-duality s qs b cs f in omega arith }
+    proved-least = record { parents = ps; arborescence = a; attained = refl; least = λ qs b. let w = weak-duality s qs b cs f in omega arith }
 
     pub proved-plan : total s ps ≤ s .budget → outcome s ≡ Plan (total s ps)
     proved-plan l = outcome-reads s .plans (total s ps) .1 (proved-least, l)

@@ -81,7 +81,7 @@ module _ (s : Instance) where
       let w = any-selected s (is-arborescence s) all-are (λ ps. eqb (total s ps) v) .0 (e .0) in
       record {
         parents = w .0;
-        found = w .1;
+        arborescence = w .1;
         attained = eqb-true (total s (w .0)) v (w .2);
         least = λ ps a. leb-true v (total s ps) (all-selected s (is-arborescence s) all-are (λ qs. leb v (total s qs)) .0 (e .1) ps a);
       }
@@ -92,10 +92,10 @@ module _ (s : Instance) where
 
   pub least-once : (v w : ℕ) → Least-total s v → Least-total s w → v ≡ w
   least-once v w a b =
-      le-antisymm (rw (b .attained) at (a .least (b .parents) (b .found))) (rw (a .attained) at (b .least (a .parents) (a .found)))
+      le-antisymm (rw (b .attained) at (a .least (b .parents) (b .arborescence))) (rw (a .attained) at (b .least (a .parents) (a .arborescence)))
 
   pub least-some : (v : ℕ) → Least-total s v → No-arborescence s → ⊥
-  least-some v a no-one = not-both (is-arborescence s (a .parents)) (a .found) (no-one (a .parents))
+  least-some v a no-one = not-both (is-arborescence s (a .parents)) (a .arborescence) (no-one (a .parents))
 
 -- THE OUTCOME
 -- no outcome is two of these

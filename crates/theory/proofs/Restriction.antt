@@ -18,7 +18,7 @@ use Rattle.instance.specs.Cuts.{Cut, Proves, No-entry}
 use Rattle.instance.specs.Matrix.{matrix-where, matrix, unmarked}
 use Rattle.theory.specs.Usable.{restricted}
 use Rattle.instance.proofs.ArcLaws.{arc-ends, arc-weight, remaining-arc, remaining-ends, unmarked-remaining}
-use Rattle.theory.proofs.ArborescenceLaws.{parents-size, root-parent, joined, make-arborescence}
+use Rattle.instance.proofs.ArborescenceLaws.{parents-size, root-parent, joined, make-arborescence}
 use Rattle.theory.proofs.SameArcs.{Same-arcs, same-back, same-arborescence, same-total, same-proves, same-no-entry}
 
 module _ (s : Instance) (q : ℕ → ℕ → Bool) (small : s .n ≤ 32) where

@@ -12,7 +12,7 @@ use Rattle.instance.specs.Limits.{cut-limit}
 use Rattle.instance.specs.Instance.{Instance, weight}
 use Rattle.instance.specs.Arborescence.{remaining, parent, is-arborescence, total}
 use Rattle.instance.specs.Cuts.{Cut, charged, set-ok, sets-ok, Feasible, Proves, No-entry}
-use Rattle.theory.proofs.ArborescenceLaws.{parents-size, root-parent, joined, make-arborescence}
+use Rattle.instance.proofs.ArborescenceLaws.{parents-size, root-parent, joined, make-arborescence}
 
 pub record Same-arcs (a b : Instance) : Type 0 where
   pub vertices : a .n ≡ b .n

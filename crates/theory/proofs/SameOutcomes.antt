@@ -49,8 +49,8 @@ module _ (a b : Instance) (e : Same-instance a b) where
   least-there v l =
       record {
         parents = l .parents;
-        found = there (l .parents) (l .found);
-        attained = sym (totals (l .parents) (l .found)) ∙ l .attained;
+        arborescence = there (l .parents) (l .arborescence);
+        attained = sym (totals (l .parents) (l .arborescence)) ∙ l .attained;
         least = λ ps x. subst (λ (w : ℕ). v ≤ w) (totals ps (back ps x)) (l .least ps (back ps x));
       }
 

@@ -17,7 +17,7 @@ use Rattle.base.proofs.ListLaws.{length-tabulate, getD-tabulate, tabulate-is}
 use Rattle.base.proofs.GridLaws.{grid-row, grid-column}
 use Rattle.instance.specs.Instance.{Instance, is-arc}
 use Rattle.instance.specs.Arborescence.{is-arborescence, total, uses}
-use Rattle.instance.specs.States.{bound, fits, fitting, state-over, state, states}
+use Rattle.instance.specs.States.{total-limit, fits, fitting, state-over, state, states}
 use Rattle.theory.specs.Readings.{Some-uses, Some-avoids, None-uses, All-use, State-reads, States-read}
 use Rattle.theory.proofs.CandidateLaws.{any-selected, all-selected, one-fails, none-passes}
 
@@ -25,15 +25,15 @@ use Rattle.theory.proofs.CandidateLaws.{any-selected, all-selected, one
 module _ (s : Instance) (ps : List ℕ) where
   pub fits-arborescence : fits s ps ≡ true → is-arborescence s ps ≡ true
   unfolding fits
-  fits-arborescence e = and-left (is-arborescence s ps) (leb (total s ps) (bound s)) e
+  fits-arborescence e = and-left (is-arborescence s ps) (leb (total s ps) (total-limit s)) e
 
-  pub fits-total : fits s ps ≡ true → total s ps ≤ bound s
+  pub fits-total : fits s ps ≡ true → total s ps ≤ total-limit s
   unfolding fits
-  fits-total e = leb-true (total s ps) (bound s) (and-right (is-arborescence s ps) (leb (total s ps) (bound s)) e)
+  fits-total e = leb-true (total s ps) (total-limit s) (and-right (is-arborescence s ps) (leb (total s ps) (total-limit s)) e)
 
-  pub make-fits : is-arborescence s ps ≡ true → total s ps ≤ bound s → fits s ps ≡ true
+  pub make-fits : is-arborescence s ps ≡ true → total s ps ≤ total-limit s → fits s ps ≡ true
   unfolding fits
-  make-fits a l = and-both (is-arborescence s ps) (leb (total s ps) (bound s)) a (le-leb (total s ps) (bound s) l)
+  make-fits a l = and-both (is-arborescence s ps) (leb (total s ps) (total-limit s)) a (le-leb (total s ps) (total-limit s) l)
 
 -- ONE CELL
 module _ (s : Instance) (t h : ℕ) where

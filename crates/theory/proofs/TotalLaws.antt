@@ -17,7 +17,7 @@ use Rattle.instance.specs.Valid.{valid-instance}
 use Rattle.instance.proofs.ArcLaws.{remaining-arc}
 use Rattle.instance.proofs.ValidLaws.{valid-small, valid-root, valid-cells, arc-in-range}
 use Rattle.theory.specs.Readings.{Least-total}
-use Rattle.theory.proofs.ArborescenceLaws.{joined}
+use Rattle.instance.proofs.ArborescenceLaws.{joined}
 
 -- the dearest price at each of 32 vertices
 dearest : sum-below max-vertices (λ v. max-weight) ≡ 32000000
@@ -50,4 +50,4 @@ module _ (s : Instance) (valid : valid-instance s ≡ true) where
       at-root = rw (eq-eqb (s .root) (s .root) refl)
 
   pub least-most : (v : ℕ) → Least-total s v → v ≤ max-budget
-  least-most v l = subst (λ (t : ℕ). t ≤ max-budget) (l .attained) (total-most (l .parents) (l .found))
+  least-most v l = subst (λ (t : ℕ). t ≤ max-budget) (l .attained) (total-most (l .parents) (l .arborescence))

@@ -14,11 +14,11 @@ use Rattle.base.proofs.BoundedLaws.{any-intro, any-found}
 use Rattle.instance.specs.Instance.{Instance, is-arc}
 use Rattle.instance.specs.Arborescence.{remaining, parent, uses}
 use Rattle.instance.specs.Cuts.{Cut, values, Feasible, reduced-cost}
-use Rattle.instance.specs.States.{bound, fits, fitting, state-over, state}
+use Rattle.instance.specs.States.{total-limit, fits, fitting, state-over, state}
 use Rattle.theory.specs.Readings.{Some-uses, None-uses, All-use}
 use Rattle.theory.specs.Usable.{usable}
 use Rattle.instance.proofs.ArcLaws.{arc-ends, remaining-ends}
-use Rattle.theory.proofs.ArborescenceLaws.{joined, uses-one, uses-parent, uses-remains}
+use Rattle.instance.proofs.ArborescenceLaws.{joined, uses-one, uses-parent, uses-remains}
 use Rattle.theory.proofs.CandidateLaws.{any-selected, all-selected, none-passes}
 use Rattle.theory.proofs.StateLaws.{fits-arborescence, state-reads}
 use Rattle.theory.proofs.Duality.{reduced-excludes}
@@ -45,7 +45,7 @@ module _ (s : Instance) (t h : ℕ) where
   lost-unusable l e r = is-false (usable s t h) (λ u. not-both (remaining s t h) (usable-remains l e u) r)
 
   -- a reduced cost past the bound
-  pub reduced-unusable : (cs : List Cut) → Feasible s cs → remaining s t h ≡ true → bound s < values cs + reduced-cost s cs t h → usable s t h ≡ false
+  pub reduced-unusable : (cs : List Cut) → Feasible s cs → remaining s t h ≡ true → total-limit s < values cs + reduced-cost s cs t h → usable s t h ≡ false
   reduced-unusable cs f r past = usable-none .1 (reduced-excludes s cs t h f r past)
 
 module _ (s : Instance) (t h : ℕ) (x : is-arc s t h ≡ true) where

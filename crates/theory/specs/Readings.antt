@@ -45,7 +45,7 @@ pub record States-read (s : Instance) (vs : List ℕ) : Type 0 where
 -- v is the cheapest total: an arborescence has it, and none has less
 pub record Least-total (s : Instance) (v : ℕ) : Type 0 where
   pub parents : List ℕ
-  pub found : is-arborescence s parents ≡ true
+  pub arborescence : is-arborescence s parents ≡ true
   pub attained : total s parents ≡ v
   pub least : (ps : List ℕ) → is-arborescence s ps ≡ true → v ≤ total s ps
 

@@ -16,13 +16,13 @@ use Rattle.edmonds.specs.Planned.{Planned-matrix}
 use Rattle.edmonds.proofs.ReducedLaws.{reduced-arc}
 use Rattle.usable.specs.Fitting.{Fitting-plan}
 
-pub planned-fitting : (n root : ℕ) (m m′ cuts cuts′ : List ℕ) (p : Planned) (b : ℕ) → Matrix-ok n root m → Planned-matrix n root m m′ cuts cuts′ p
+pub planned-fitting : (n root : ℕ) (m m′ cuts cuts′ : List ℕ) (p : Planned) (b : ℕ) → Matrix-ok n root m → Planned-matrix m m′ n root cuts cuts′ p
     → p .found ≡ true → p .total ≤ b → b ≤ max-budget → Fitting-plan n root m m′ (p .parents) (p .total) b
 planned-fitting n root m m′ cuts cuts′ p b ok k e l most =
     let least = k .minimum e in
     let cs = cuts-in (p .count) cuts′ in
     record {
-      tree = record { matrix-ok = ok; places = k .parents-size; found = least .arborescence };
+      tree = record { matrix-ok = ok; places = k .parents-size; arborescence = least .arborescence };
       is-total = k .is-total e;
       costs =
           record {

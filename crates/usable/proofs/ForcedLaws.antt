@@ -37,7 +37,7 @@ stays-in false b e = refl
 
 -- TAKING OUT THE HEAD'S OTHER ARCS
 module _ (t₀ h₀ : ℕ) (m : List ℕ) where
-  pub forced-none : length m ≡ cells → Forced-matrix 0 t₀ h₀ m m
+  pub forced-none : length m ≡ cells → Forced-matrix m m 0 t₀ h₀
   forced-none e = record { size = e; at = λ i l. rw (le-ltb (i / 32) 0 (omega arith)) }
 
   -- one tail more changes its own cell alone, and the forced one's not even
@@ -53,10 +53,10 @@ module _ (t₀ h₀ : ℕ) (m : List ℕ) where
           let out = and-false-right (eqb h h₀) false refl in
           rw (eq-eqb t t₀ (z ∙ e), out, and-false-right (ltb t (g + 1)) false refl, and-false-right (ltb t g) false refl)
 
-  pub forced-pass : (g : ℕ) (w : List ℕ) → g ≡ t₀ → Forced-matrix g t₀ h₀ m w → Forced-matrix (g + 1) t₀ h₀ m w
+  pub forced-pass : (g : ℕ) (w : List ℕ) → g ≡ t₀ → Forced-matrix m w g t₀ h₀ → Forced-matrix m w (g + 1) t₀ h₀
   forced-pass g w e k = record { size = k .size; at = λ i l. rw (more-forced g (i / 32) (i % 32) e) (k .at i l) }
 
-  pub forced-more : (g : ℕ) (w : List ℕ) → g ≢ t₀ → g < max-vertices → h₀ < max-vertices → Forced-matrix g t₀ h₀ m w → Forced-matrix (g + 1) t₀ h₀ m (set w (cell g h₀) no-arc)
+  pub forced-more : (g : ℕ) (w : List ℕ) → g ≢ t₀ → g < max-vertices → h₀ < max-vertices → Forced-matrix m w g t₀ h₀ → Forced-matrix m (set w (cell g h₀) no-arc) (g + 1) t₀ h₀
   forced-more g w e l b k = record { size = simp length-set (k .size); at = λ i c. cases i c (ℕ-discrete i (cell g h₀)) }
     where
       own : (i : ℕ) → i ≡ cell g h₀ → taken-out (g + 1) t₀ h₀ (i / 32) (i % 32) ≡ true
@@ -78,7 +78,7 @@ module _ (t₀ h₀ : ℕ) (m : List ℕ) where
       cases i c (no z) = rw (getD-set-other w (cell g h₀) i no-arc 0 z, other i z (ℕ-discrete (i / 32) g)) (k .at i c)
 
 -- WHAT REMAINS
-module _ (n root : ℕ) (m w : List ℕ) (t₀ h₀ : ℕ) (ok : Matrix-ok n root m) (f : Forced-matrix n t₀ h₀ m w) where
+module _ (n root : ℕ) (m w : List ℕ) (t₀ h₀ : ℕ) (ok : Matrix-ok n root m) (f : Forced-matrix m w n t₀ h₀) where
   abbrev whole : Instance
   whole = unmarked n root m
 
@@ -172,11 +172,11 @@ module _ (n root : ℕ) (m w : List ℕ) (t₀ h₀ : ℕ) (ok : Matrix-ok n roo
         let on = restricted whole (forced t₀ h₀) in
         same-total left on forced-same qs a ∙ restricted-total whole (forced t₀ h₀) (ok .small) qs (same-arborescence left on forced-same qs a)
 
-    pub planned-forced : (w′ cuts cuts′ : List ℕ) (p : Planned) → Planned-matrix n root w w′ cuts cuts′ p → Forced-plan n root m t₀ h₀ p
+    pub planned-forced : (w′ cuts cuts′ : List ℕ) (p : Planned) → Planned-matrix w w′ n root cuts cuts′ p → Forced-plan m n root t₀ h₀ p
     planned-forced w′ cuts cuts′ p k =
         let ps = take n (p .parents) in
         record {
-          tree = λ e. record { matrix-ok = ok; places = k .parents-size; found = forced-uses ps .0 (k .minimum e .arborescence) .0 };
+          tree = λ e. record { matrix-ok = ok; places = k .parents-size; arborescence = forced-uses ps .0 (k .minimum e .arborescence) .0 };
           used = λ e. forced-uses ps .0 (k .minimum e .arborescence) .1;
           is-total = λ e. k .is-total e ∙ forced-total ps (k .minimum e .arborescence);
           least =

@@ -58,7 +58,7 @@ module _ (s : Instance) where
         keep u v x (no z) = rw (getD-set-other used (cell t h) (cell u v) 1 0 z) x
 
   -- A TREE ADDED, all of whose arcs are usable
-  module _ (n root : ℕ) (ps before after : List ℕ) (e : Tree-added n root ps before after) (k : Sound s before) where
+  module _ (n root : ℕ) (ps before after : List ℕ) (e : Tree-added ps n root before after) (k : Sound s before) where
     cell-added : (t h : ℕ) → t < max-vertices → h < max-vertices → getD after (cell t h) 0 ≡ cond (in-tree n root ps t h) 1 (getD before (cell t h) 0)
     cell-added t h l m =
         let d : cell t h / 32 ≡ t = omega arith in

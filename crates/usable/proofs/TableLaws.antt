@@ -49,15 +49,15 @@ module _ (root : ℕ) (ps : List ℕ) where
   before-own v t = rw (le-ltb v v (omega arith))
 
 module _ (root : ℕ) (ps before : List ℕ) where
-  pub add-none : Tree-added 0 root ps before before
+  pub add-none : Tree-added ps 0 root before before
   unfolding in-tree
   add-none = record { size = refl; at = λ i l. rw (le-ltb (i % 32) 0 (omega arith)) }
 
-  pub add-root : (v : ℕ) (after : List ℕ) → v ≡ root → Tree-added v root ps before after → Tree-added (v + 1) root ps before after
+  pub add-root : (v : ℕ) (after : List ℕ) → v ≡ root → Tree-added ps v root before after → Tree-added ps (v + 1) root before after
   add-root v after e k = record { size = k .size; at = λ i l. rw (more-root root ps v (i / 32) (i % 32) e) (k .at i l) }
 
-  pub add-more : (v p : ℕ) (after : List ℕ) → v ≢ root → p ≡ parent ps v → p < max-vertices → v < max-vertices → length before ≡ cells → Tree-added v root ps before after
-      → Tree-added (v + 1) root ps before (set after (cell p v) 1)
+  pub add-more : (v p : ℕ) (after : List ℕ) → v ≢ root → p ≡ parent ps v → p < max-vertices → v < max-vertices → length before ≡ cells → Tree-added ps v root before after
+      → Tree-added ps (v + 1) root before (set after (cell p v) 1)
   add-more v p after e q l m size k = record { size = simp length-set (k .size); at = λ i b. cases i b (ℕ-discrete i (cell p v)) }
     where
       there : length after ≡ cells

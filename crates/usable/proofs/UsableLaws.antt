@@ -18,7 +18,7 @@ use Rattle.instance.specs.States.{fits}
 use Rattle.instance.proofs.ArcLaws.{arc-ends, arc-weight, unmarked-remaining}
 use Rattle.instance.proofs.MatrixLaws.{weight-read, matrix-arc}
 use Rattle.theory.specs.Usable.{usable}
-use Rattle.theory.proofs.ArborescenceLaws.{root-parent}
+use Rattle.instance.proofs.ArborescenceLaws.{root-parent}
 use Rattle.theory.proofs.StateLaws.{fits-arborescence, fits-total, make-fits}
 use Rattle.theory.proofs.SameArcs.{same-back, same-feasible}
 use Rattle.theory.proofs.Usable.{usable-some, usable-none, lost-unusable, reduced-unusable}
@@ -49,7 +49,7 @@ reduced-most n root v m reduced t h k r = let e = k .costs t h r in omega arith
 -- what an exchange of arcs offers, where rest is the total without the arc into the head
 pub detour-bound : (s : Instance) (ps : List ℕ) (t h rest d : ℕ) → Detour s ps h t d → rest + weight s (parent ps h) h ≡ total s ps → Upper-bound s t h rest d
 detour-bound s ps t h rest d k e =
-    record { tree = λ r l. let x = k .exchange r l in let c = x .cost in (x .made, x .found, x .used, omega arith) }
+    record { tree = λ r l. let x = k .exchange r l in let c = x .cost in (x .made, x .arborescence, x .used, omega arith) }
 
 module _ (n root b : ℕ) (m : List ℕ) where
   abbrev s : Instance
@@ -104,10 +104,10 @@ module _ (n root b : ℕ) (m : List ℕ) where
         reduced-unusable s t h (k .cuts) (same-feasible on s (same-back s on (matrix-instance-same n root b m)) (k .cuts) (k .feasible)) (matrix-instance-remaining n root b m t h ∙ r) (omega arith)
 
     -- by planning
-    pub unusable-shut : (p : Planned) → Forced-plan n root m t h p → p .found ≡ false → usable s t h ≡ false
+    pub unusable-shut : (p : Planned) → Forced-plan m n root t h p → p .found ≡ false → usable s t h ≡ false
     unusable-shut p k e = usable-none s t h .1 (λ qs f. k .shut e qs (matrix-instance-arborescence n root b m qs .0 (fits-arborescence s qs f)))
 
-    pub unusable-dear : (p : Planned) → Forced-plan n root m t h p → p .found ≡ true → b < p .total → usable s t h ≡ false
+    pub unusable-dear : (p : Planned) → Forced-plan m n root t h p → p .found ≡ true → b < p .total → usable s t h ≡ false
     unusable-dear p k z past =
         usable-none s t h .1
         (λ qs f.

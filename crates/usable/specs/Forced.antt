@@ -16,12 +16,12 @@ use Rattle.edmonds.specs.declared.Planned.{Planned}
 abbrev pub taken-out : (bound tail₀ head₀ tail head : ℕ) → Bool
 taken-out b t₀ h₀ t h = ltb t b && (eqb h h₀ && not (eqb t t₀))
 
-pub record Forced-matrix (bound tail₀ head₀ : ℕ) (m w : List ℕ) : Type 0 where
+pub record Forced-matrix (m w : List ℕ) (bound tail₀ head₀ : ℕ) : Type 0 where
   pub size : length w ≡ cells
   pub at : (i : ℕ) → i < cells → getD w i 0 ≡ cond (taken-out bound tail₀ head₀ (i / 32) (i % 32)) no-arc (getD m i 0)
 
 -- the least total with the arc, or that no arborescence uses it
-pub record Forced-plan (n root : ℕ) (m : List ℕ) (t h : ℕ) (r : Planned) : Type 0 where
+pub record Forced-plan (m : List ℕ) (n root t h : ℕ) (r : Planned) : Type 0 where
   pub tree : r .found ≡ true → Matrix-tree n root m (r .parents)
   pub used : r .found ≡ true → uses (take n (r .parents)) t h ≡ true
   pub is-total : r .found ≡ true → r .total ≡ total (unmarked n root m) (take n (r .parents))

@@ -23,6 +23,6 @@ unfoldable pub in-tree : (bound root : ℕ) → (parents : List ℕ) → (tail h
 in-tree b r ps t h = (ltb h b && not (eqb h r)) && uses ps t h
 
 -- they are added to a table
-pub record Tree-added (bound root : ℕ) (parents before after : List ℕ) : Type 0 where
+pub record Tree-added (parents : List ℕ) (bound root : ℕ) (before after : List ℕ) : Type 0 where
   pub size : length after ≡ length before
   pub at : (i : ℕ) → i < cells → getD after i 0 ≡ cond (in-tree bound root parents (i / 32) (i % 32)) 1 (getD before i 0)

@@ -17,7 +17,7 @@ use instance::limits::NO_ARC;
 // Takes the other arcs into the head out of the matrix.
 fn force_arc(w: &mut [u32; CELLS], n: u32, tail: u32, head: u32)
     requires { ⌜ (n ≤ max-vertices) × (head < max-vertices) × (length (now w) ≡ cells) ⌝ }
-    ensures { λ _. ⌜ Forced-matrix n tail head (now (w .entry)) (now (w .exit)) ⌝ }
+    ensures { λ _. ⌜ Forced-matrix (now (w .entry)) (now (w .exit)) n tail head ⌝ }
 {
     let mut g: u32 = 0;
     while g < n {
@@ -31,7 +31,7 @@ fn force_arc(w: &mut [u32; CELLS], n: u32, tail: u32, head: u32)
 // A cheapest arborescence that uses the arc. Nobody needs its cuts.
 pub fn plan_with(m: &[u32; CELLS], n: u32, root: u32, tail: u32, head: u32) -> Planned
     requires { ⌜ Matrix-ok n root (now m) × (remaining (unmarked n root (now m)) tail head ≡ true) ⌝ }
-    ensures { λ r. ⌜ Forced-plan n root (now (m .entry)) tail head r ⌝ }
+    ensures { λ r. ⌜ Forced-plan (now (m .entry)) n root tail head r ⌝ }
 {
     let mut w = *m;
     force_arc(&mut w, n, tail, head);

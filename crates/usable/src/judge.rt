@@ -12,6 +12,7 @@ use super::table::add_tree;
 use detours::detour_costs;
 use instance::limits::CELLS;
 use instance::limits::NO_ARC;
+use instance::limits::VERTICES;
 
 // Plans with the arc, and adds the tree that is found if it fits.
 fn judge_by_planning(
@@ -91,7 +92,7 @@ fn judge_arc(
 pub fn judge_head(
     m: &[u32; CELLS],
     reduced: &[u32; CELLS],
-    parents: &[u8; 32],
+    parents: &[u8; VERTICES],
     n: u32,
     root: u32,
     total: u32,

@@ -9,6 +9,7 @@ ghost use Rattle.instance.specs.Matrix.{matrix-instance};
 ghost use Rattle.usable.specs.Table.{Usable-table};
 ghost use Rattle.usable.specs.Fitting.{Fitting-plan};
 use instance::limits::CELLS;
+use instance::limits::VERTICES;
 use judge::judge_head;
 use table::add_tree;
 
@@ -16,7 +17,7 @@ use table::add_tree;
 pub fn usable_arcs(
     m: &[u32; CELLS], // the weights of the remaining arcs
     reduced: &[u32; CELLS], // their reduced costs, which planning leaves
-    parents: &[u8; 32], // a cheapest arborescence
+    parents: &[u8; VERTICES], // a cheapest arborescence
     n: u32, // the number of vertices
     root: u32, // one of them
     total: u32, // the cheapest total

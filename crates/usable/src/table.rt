@@ -6,11 +6,12 @@ ghost use Rattle.instance.specs.Limits.{max-vertices, cells};
 ghost use Rattle.paths.specs.Paths.{Rooted};
 ghost use Rattle.usable.specs.Table.{Tree-added};
 use instance::limits::CELLS;
+use instance::limits::VERTICES;
 
 // Adds each arc of the tree.
-pub fn add_tree(parents: &[u8; 32], n: u32, root: u32, used: &mut [u8; CELLS])
+pub fn add_tree(parents: &[u8; VERTICES], n: u32, root: u32, used: &mut [u8; CELLS])
     requires { ⌜ (n ≤ max-vertices) × (length (now parents) ≡ max-vertices) × Rooted n root (take n (now parents)) × (length (now used) ≡ cells) ⌝ }
-    ensures { λ _. ⌜ Tree-added n root (take n (now (parents .entry))) (now (used .entry)) (now (used .exit)) ⌝ }
+    ensures { λ _. ⌜ Tree-added (take n (now (parents .entry))) n root (now (used .entry)) (now (used .exit)) ⌝ }
 {
     let mut v: u32 = 0;
     while v < n {

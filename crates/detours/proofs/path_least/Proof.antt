@@ -5,7 +5,7 @@ use mathlib.Core.Logic.{⊎-elim, _≢_}
 use Prim.Native.Nat.{_<_}
 use native.Mathlib.Omega.{arith}
 use lib.ListN.{take}
-use Rattle.paths.specs.Paths.{Descends, Way, start, onward}
+use Rattle.paths.specs.Paths.{Descends, On-path, start, onward}
 use Rattle.detours.specs.Detours.{Path-least}
 use Rattle.paths.proofs.TreeLaws.{parent-read, rooted-tail, step-falls}
 use Rattle.paths.proofs.PathLaws.{depth, root-avoids, descends-on, descends-not}
@@ -15,7 +15,7 @@ use Rattle.detours.proofs.path_least.Tie as tie
 
 abbrev Inv-loop : tie.InvT-loop
 Inv-loop parents table n root head tail least₀ v₀ least v =
-    (v < n) × Descends (take n parents) head v × Way (take n parents) head tail v × Path-least (take n parents) table head tail least
+    (v < n) × Descends (take n parents) head v × On-path (take n parents) head tail v × Path-least (take n parents) table head tail least
 
 abbrev μ-loop : tie.MeasureT-loop
 μ-loop parents table n root head tail least₀ v₀ least v = depth n root (take n parents) v

@@ -41,11 +41,11 @@ start-of c = c .before .before .before .before
 
 planned :
     (c : tie.After-plan-matrix) →
-    Planned-matrix (inst (start-of c) .n) (inst (start-of c) .root) (matrix (inst (start-of c))) (c .plan-matrix .last .0) (replicate cut-words 0)
+    Planned-matrix (matrix (inst (start-of c))) (c .plan-matrix .last .0) (inst (start-of c) .n) (inst (start-of c) .root) (replicate cut-words 0)
     (c .plan-matrix .last .1 .1 .1 .0) (c .plan-matrix .result)
 planned c =
     subst
-    (λ (m : List ℕ). Planned-matrix (inst (start-of c) .n) (inst (start-of c) .root) m (c .plan-matrix .last .0) (replicate cut-words 0)
+    (λ (m : List ℕ). Planned-matrix m (c .plan-matrix .last .0) (inst (start-of c) .n) (inst (start-of c) .root) (replicate cut-words 0)
     (c .plan-matrix .last .1 .1 .1 .0) (c .plan-matrix .result))
     (made-is (c .before .before .before)) (c .plan-matrix .ensures)
 
@@ -80,8 +80,8 @@ outcome-at-requires c κs = search needs
 shows-tree-requires : tie.Need-shows-tree-requires
 shows-tree-requires c κs = search needs
 
-blank-requires : tie.Need-blank-requires
-blank-requires c κs = search needs
+without-tree-requires : tie.Need-without-tree-requires
+without-tree-requires c κs = search needs
 
 returns-2 : tie.Need-returns-2
 returns-2 c =
@@ -90,7 +90,7 @@ returns-2 c =
     let p = plan-of o in
     let s = inst (start-of p) in
     let hidden = sym (a .shows-tree .ensures) ∙ not-true (a .shows-tree .result) (c .before .if2 .taken) in
-    subst (Surveys s) (sym (c .blank .ensures))
+    subst (Surveys s) (sym (c .without-tree .ensures))
     (over-survey s (ok (start-of p) .small) _ _ (p .plan-matrix .result) (planned p) (found o) (o .outcome-at .result) (o .outcome-at .ensures) hidden)
 
 -- WITHIN BUDGET
@@ -130,7 +130,7 @@ plan-instance-spec =
     returns
     outcome-at-requires
     shows-tree-requires
-    blank-requires
+    without-tree-requires
     returns-2
     usable-arcs-requires
     returns-3)

@@ -35,7 +35,7 @@ loop-holds c =
       omega arith,
       all-none _ _
           (sound-added _ (a .n) (a .root) ps (replicate cells 0) _ (c .add-tree .ensures) (sound-none _)
-          (λ t h u. usable-tree (a .n) (a .root) (a .limit) (a .m .now) t h ps (k .found) (omega arith) u)),
+          (λ t h u. usable-tree (a .n) (a .root) (a .limit) (a .m .now) t h ps (k .arborescence) (omega arith) u)),
     )
 
 judge-head-requires : tie.Need-judge-head-requires Inv-loop μ-loop

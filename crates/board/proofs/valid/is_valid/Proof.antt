@@ -10,7 +10,7 @@ use Rattle.commands.specs.Model.{with-budget}
 use Rattle.board.specs.ModelOf.{instance-of, model-of}
 use Rattle.board.specs.declared.Board.{Board}
 use Rattle.commands.proofs.ValidLaws.{cells-valid-of}
-use Rattle.commands.proofs.ValidLaws.{header-n-high, bad-header, bad-cell, bad-count, only-records}
+use Rattle.commands.proofs.ValidLaws.{header-n-high, header-invalid, cell-invalid, count-invalid, only-records}
 use Rattle.board.proofs.ModelOfLaws.{length-history}
 use Rattle.board.proofs.valid.is_valid.Statement.{statement}
 use Rattle.board.proofs.valid.is_valid.Tie as tie
@@ -31,7 +31,7 @@ header-valid-requires : tie.Need-header-valid-requires
 header-valid-requires c κs = search needs
 
 returns : tie.Need-returns
-returns c = bad-header (model-of (c .before .before .args .t1)) (sym (c .before .header-valid .ensures) ∙ not-true _ (c .if1 .taken))
+returns c = header-invalid (model-of (c .before .before .args .t1)) (sym (c .before .header-valid .ensures) ∙ not-true _ (c .if1 .taken))
 
 cells-valid-requires : tie.Need-cells-valid-requires
 cells-valid-requires c κs = search needs
@@ -41,13 +41,13 @@ unfolding with-budget
 returns-2 c =
     let e = c .before .before .before .before .before in
     let b = board e in
-    bad-cell (model-of b) (header-ok e) (sym (cells-valid-of (instance-of b) 0) ∙ sym (c .before .cells-valid .ensures) ∙ not-true _ (c .if2 .taken))
+    cell-invalid (model-of b) (header-ok e) (sym (cells-valid-of (instance-of b) 0) ∙ sym (c .before .cells-valid .ensures) ∙ not-true _ (c .if2 .taken))
 
 returns-3 : tie.Need-returns-3
 returns-3 c =
     let e = c .before .before .before .before .before .before in
     let b = board e in
-    bad-count (model-of b) (header-ok e) (cells-ok (c .before)) (rw (length-history (b .count) (b .records)) (c .if3 .taken))
+    count-invalid (model-of b) (header-ok e) (cells-ok (c .before)) (rw (length-history (b .count) (b .records)) (c .if3 .taken))
 
 records-valid-requires : tie.Need-records-valid-requires
 records-valid-requires c κs =

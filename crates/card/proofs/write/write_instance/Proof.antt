@@ -7,7 +7,7 @@ use borrow.Author.Tests.{lt-ltb}
 use borrow.Author.Needs.{needs}
 use Rattle.base.proofs.AllOfLaws.{all-of-intro}
 use Rattle.card_format.specs.Card.{bytes-needed}
-use Rattle.card.proofs.WriteLaws.{too-short, header-room, cells-room, filling-room, all-written}
+use Rattle.card.proofs.WriteLaws.{short-refused, header-room, cells-room, filling-room, all-written}
 use Rattle.card.proofs.write.write_instance.Statement.{statement}
 use Rattle.card.proofs.write.write_instance.Tie as tie
 
@@ -18,7 +18,7 @@ returns : tie.Need-returns
 returns c =
     let s = c .before .before .before in
     let a = s .args in
-    too-short _ (a .out .now) (rw (← c .before .needed-length .ensures) (c .if1 .taken))
+    short-refused _ (a .out .now) (rw (← c .before .needed-length .ensures) (c .if1 .taken))
 
 put-header-requires : tie.Need-put-header-requires
 put-header-requires c κs =

@@ -10,7 +10,7 @@ use Rattle.detours.proofs.increases.increases.Statement.{statement}
 use Rattle.detours.proofs.increases.increases.Tie as tie
 
 abbrev Inv-loop : tie.InvT-loop
-Inv-loop m parents marked n root table₀ k₀ table k = (k ≤ n) × (length table ≡ max-vertices) × Increases n m (take n parents) marked k table
+Inv-loop m parents marked n root table₀ k₀ table k = (k ≤ n) × (length table ≡ max-vertices) × Increases m (take n parents) marked n k table
 
 abbrev μ-loop : tie.MeasureT-loop
 μ-loop m parents marked n root table₀ k₀ table k = n - k

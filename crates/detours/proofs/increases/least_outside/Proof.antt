@@ -9,7 +9,7 @@ use Rattle.detours.proofs.increases.least_outside.Statement.{statement}
 use Rattle.detours.proofs.increases.least_outside.Tie as tie
 
 abbrev Inv-loop : tie.InvT-loop
-Inv-loop m marked n vertex least₀ x₀ least x = (x ≤ n) × Least-outside x m marked vertex least
+Inv-loop m marked n vertex least₀ x₀ least x = (x ≤ n) × Least-outside m marked x vertex least
 
 abbrev μ-loop : tie.MeasureT-loop
 μ-loop m marked n vertex least₀ x₀ least x = n - x

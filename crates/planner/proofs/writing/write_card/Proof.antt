@@ -21,7 +21,7 @@ write-instance-requires : tie.Need-write-instance-requires
 write-instance-requires c κs =
     let k = c .before .before .before .before in
     let v = valid-parts (model-of (k .before .before .before .args .t1)) (sym (k .before .is-valid .ensures) ∙ not-false (k .before .is-valid .result) (k .if1 .left)) in
-    (v .n-low, v .n-high, v .root-in, search needs, search needs)
+    (v .n-low, v .n-high, v .root-below, search needs, search needs)
 
 same-length : tie.Need-same-length
 same-length c = search needs

@@ -3,7 +3,7 @@ use mathlib.Core.Path.{_∙_}
 use native.Mathlib.Omega.{arith}
 use lib.ListN.{length-set}
 use Rattle.text.specs.Lines.{codes}
-use Rattle.report_text.proofs.RowLaws.{row-in, row-start, row-room, blank-room, states-room, end-room, row-put}
+use Rattle.report_text.proofs.RowLaws.{row-in, row-start, row-room, space-room, states-room, end-room, row-put}
 use borrow.Author.Needs.{needs}
 use Rattle.report_text.proofs.rows.put_row.Statement.{statement}
 use Rattle.report_text.proofs.rows.put_row.Tie as tie
@@ -17,7 +17,7 @@ put-labelled-requires c κs = row-room _ _ _ (c .before .before .before .before 
 
 slice-write-out : tie.Need-slice-write-out
 unfolding codes
-slice-write-out c = blank-room _ _ _ (c .before .before .before .before .before .before .before .pre .1 .1 .1) (c .before .before .put-labelled .ensures)
+slice-write-out c = space-room _ _ _ (c .before .before .before .before .before .before .before .pre .1 .1 .1) (c .before .before .put-labelled .ensures)
 
 mul-put-states : tie.Need-mul-put-states
 mul-put-states c =
@@ -28,7 +28,7 @@ add-put-states : tie.Need-add-put-states
 unfolding codes
 add-put-states c =
     let start = c .before .before .before .before .before .before .before .before in
-    let h = blank-room _ _ _ (start .pre .1 .1 .1) (c .before .before .before .put-labelled .ensures) in
+    let h = space-room _ _ _ (start .pre .1 .1 .1) (c .before .before .before .put-labelled .ensures) in
     omega (arith, start .good .1 .1 .1 .0 .0, c .before .before .before .put-labelled .kept .1 .1 .0)
 
 put-states-requires : tie.Need-put-states-requires

@@ -10,7 +10,7 @@ use Rattle.states.proofs.show.counts_into.Statement.{statement}
 use Rattle.states.proofs.show.counts_into.Tie as tie
 
 abbrev Inv-loop : tie.InvT-loop
-Inv-loop used n counts₀ head₀ counts head = (head ≤ n) × (length counts ≡ max-vertices) × Counts n used head counts
+Inv-loop used n counts₀ head₀ counts head = (head ≤ n) × (length counts ≡ max-vertices) × Counts used n head counts
 
 abbrev μ-loop : tie.MeasureT-loop
 μ-loop used n counts₀ head₀ counts head = n - head

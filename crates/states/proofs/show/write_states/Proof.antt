@@ -16,7 +16,7 @@ use Rattle.states.proofs.show.write_states.Tie as tie
 
 abbrev Inv-loop : tie.InvT-loop
 Inv-loop used weights n root out₀ counts total k₀ out k =
-    (k ≤ total) × (length out ≡ length out₀) × (out ≡ tabulate k (λ i. state-by n root used weights (i / n) (i % n)) ++ drop k out₀)
+    (k ≤ total) × (length out ≡ length out₀) × (out ≡ tabulate k (λ i. state-by used weights n root (i / n) (i % n)) ++ drop k out₀)
 
 abbrev μ-loop : tie.MeasureT-loop
 μ-loop used weights n root out₀ counts total k₀ out k = total - k
@@ -119,7 +119,7 @@ returns : tie.Need-returns Inv-loop μ-loop
 returns c =
     let a = c .before .before .before .before .args in
     let e : c .before .loop .k ≡ a .n * a .n = omega arith in
-    let g : ℕ → ℕ = λ i. state-by (a .n) (a .root) (a .used .now) (a .weights .now) (i / a .n) (i % a .n) in
+    let g : ℕ → ℕ = λ i. state-by (a .used .now) (a .weights .now) (a .n) (a .root) (i / a .n) (i % a .n) in
     (rw e at (c .before .loop .inv .2)) ∙ front-is (tabulate (a .n * a .n) g) (a .out .now) (a .n * a .n) (length-tabulate (a .n * a .n) g)
 
 pub write-states-spec : {M : Type 1} → statement M

@@ -29,7 +29,7 @@ put-decimal-below t =
 -- one digit
 few : (t : ℕ) (c : put-decimal-lts.Then1 (put-decimal-below t, put-decimal.Post) (put-decimal-at t) put-decimal.Post)
     → c .before .before .args .at < length (c .before .before .args .out .now)
-few t c = let l = length-few (c .before .before .args .v) (omega arith) in omega (arith, c .before .before .pre .1 .fits)
+few t c = let l = length-few (c .before .before .args .v) (omega arith) in omega (arith, c .before .before .pre .1 .long-enough)
 
 put-decimal-cast-out : (t : ℕ) → put-decimal-lts.Need-cast-out (put-decimal-below t, put-decimal.Post) (put-decimal-at t) put-decimal.Post
 put-decimal-cast-out t c = omega arith
@@ -63,7 +63,7 @@ last v {old} {mid} {at} {m} h b room w =
 put-decimal-put-decimal-requires : (t : ℕ) → put-decimal-lts.Need-put-decimal-requires (put-decimal-below t, put-decimal.Post) (put-decimal-at t) put-decimal.Post
 put-decimal-put-decimal-requires t c κs =
     let e = length-more (c .before .before .before .args .v) (c .before .if1 .left) (in-32 (c .before .before .before .fits .v .fits)) in
-    (omega arith, record { fits = omega (arith, c .before .before .before .pre .1 .fits) })
+    (omega arith, record { long-enough = omega (arith, c .before .before .before .pre .1 .long-enough) })
 
 put-decimal-cast-out-2 : (t : ℕ) → put-decimal-lts.Need-cast-out-2 (put-decimal-below t, put-decimal.Post) (put-decimal-at t) put-decimal.Post
 put-decimal-cast-out-2 t c = omega arith

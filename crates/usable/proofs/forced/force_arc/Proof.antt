@@ -9,7 +9,7 @@ use Rattle.usable.proofs.forced.force_arc.Statement.{statement}
 use Rattle.usable.proofs.forced.force_arc.Tie as tie
 
 abbrev Inv-loop : tie.InvT-loop
-Inv-loop w₀ n tail head g₀ w g = (g ≤ n) × Forced-matrix g tail head w₀ w
+Inv-loop w₀ n tail head g₀ w g = (g ≤ n) × Forced-matrix w₀ w g tail head
 
 abbrev μ-loop : tie.MeasureT-loop
 μ-loop w₀ n tail head g₀ w g = n - g

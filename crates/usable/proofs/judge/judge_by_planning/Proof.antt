@@ -63,7 +63,7 @@ returns-3 c =
     let within = c .before .before .before .before .if2 .left in
     let fits : total (unmarked (a .n) (a .root) (a .m .now)) ps ≤ a .limit = omega arith in
     judged-added _ (a .n) (a .root) ps (a .used .now) _ (c .add-tree .ensures) (b .pre .2)
-    (λ t h u. usable-tree (a .n) (a .root) (a .limit) (a .m .now) t h ps (k .found) fits u) (a .tail) (a .head) (omega (arith, l .tail-below))
+    (λ t h u. usable-tree (a .n) (a .root) (a .limit) (a .m .now) t h ps (k .arborescence) fits u) (a .tail) (a .head) (omega (arith, l .tail-below))
     (omega (arith, l .head-below)) (l .head-below) (eqb-false _ _ (l .not-root)) (p .plan-with .ensures .used (found e))
 
 pub judge-by-planning-spec : {M : Type 1} → statement M

@@ -11,7 +11,7 @@ use Rattle.usable.proofs.table.add_tree.Statement.{statement}
 use Rattle.usable.proofs.table.add_tree.Tie as tie
 
 abbrev Inv-loop : tie.InvT-loop
-Inv-loop parents n root used₀ v₀ used v = (v ≤ n) × Tree-added v root (take n parents) used₀ used
+Inv-loop parents n root used₀ v₀ used v = (v ≤ n) × Tree-added (take n parents) v root used₀ used
 
 abbrev μ-loop : tie.MeasureT-loop
 μ-loop parents n root used₀ v₀ used v = n - v

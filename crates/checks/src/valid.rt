@@ -3,17 +3,17 @@ ghost use mathlib.Core.Path.{_≡_};
 ghost use Prim.Native.Nat.{_<_};
 ghost use lib.ListN.{length};
 ghost use Rattle.base.specs.Bounded.{all-below};
 ghost use Rattle.instance.specs.Limits.{cells};
 ghost use Rattle.instance.specs.Instance.{instance-with};
 ghost use Rattle.instance.specs.Valid.{cell-ok, cell-valid, header-valid};
 use crate::arc::can_be_arc;
-use crate::limits::BANNED;
-use crate::limits::CELLS;
-use crate::limits::FREE;
-use crate::limits::MAX_BUDGET;
-use crate::limits::MAX_VERTICES;
-use crate::limits::MAX_WEIGHT;
-use crate::limits::NO_ARC;
+use instance::limits::BANNED;
+use instance::limits::CELLS;
+use instance::limits::FREE;
+use instance::limits::MAX_BUDGET;
+use instance::limits::MAX_VERTICES;
+use instance::limits::MAX_WEIGHT;
+use instance::limits::NO_ARC;
 
 fn cell_ok(weight: u32, mark: u8) -> bool
     ensures { λ r. ⌜ r ≡ cell-ok weight mark ⌝ }

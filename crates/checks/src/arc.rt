@@ -2,11 +2,11 @@
 ghost use mathlib.Core.Path.{_≡_};
 ghost use Prim.Native.Nat.{_≤_};
 ghost use lib.ListN.{length};
 ghost use Rattle.instance.specs.Limits.{max-vertices, cells};
 ghost use Rattle.instance.specs.Instance.{can-be-arc, is-arc};
 ghost use Rattle.instance.specs.Matrix.{unmarked};
-use crate::limits::CELLS;
-use crate::limits::NO_ARC;
+use instance::limits::CELLS;
+use instance::limits::NO_ARC;
 
 // Whether there can be an arc from tail to head.
 pub fn can_be_arc(n: u32, root: u32, tail: u32, head: u32) -> bool

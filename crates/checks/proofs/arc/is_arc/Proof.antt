@@ -2,10 +2,10 @@
 use mathlib.Core.Path.{sym, _∙_}
 use native.Mathlib.Omega.{arith}
 use borrow.Author.Needs.{needs}
 use Rattle.instance.proofs.ArcLaws.{ends}
 use Rattle.instance.proofs.ArcLaws.{arc-cell, arc-read, arc-not}
-use Rattle.instance.proofs.arc.is_arc.Statement.{statement}
-use Rattle.instance.proofs.arc.is_arc.Tie as tie
+use Rattle.checks.proofs.arc.is_arc.Statement.{statement}
+use Rattle.checks.proofs.arc.is_arc.Tie as tie
 
 can-be-arc-requires : tie.Need-can-be-arc-requires
 can-be-arc-requires c κs = search needs

@@ -1,8 +1,8 @@
 -- Each way out answers with the tests that led there. Assumes nothing.
 use borrow.Author.Tests.{lt-ltb, le-ltb, eq-eqb, ne-eqb}
 use Rattle.instance.specs.Instance.{can-be-arc}
-use Rattle.instance.proofs.arc.can_be_arc.Statement.{statement}
-use Rattle.instance.proofs.arc.can_be_arc.Tie as tie
+use Rattle.checks.proofs.arc.can_be_arc.Statement.{statement}
+use Rattle.checks.proofs.arc.can_be_arc.Tie as tie
 
 returns : tie.Need-returns
 unfolding can-be-arc

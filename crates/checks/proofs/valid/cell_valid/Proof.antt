@@ -2,10 +2,10 @@
 use mathlib.Core.Path.{sym, _∙_}
 use native.Mathlib.Omega.{arith}
 use borrow.Author.Needs.{needs}
 use Rattle.instance.specs.Instance.{instance-with}
 use Rattle.instance.proofs.ValidLaws.{cell-read, cell-passed}
-use Rattle.instance.proofs.valid.cell_valid.Statement.{statement}
-use Rattle.instance.proofs.valid.cell_valid.Tie as tie
+use Rattle.checks.proofs.valid.cell_valid.Statement.{statement}
+use Rattle.checks.proofs.valid.cell_valid.Tie as tie
 
 cast-can-be-arc : tie.Need-cast-can-be-arc
 cast-can-be-arc c = search needs

@@ -1,8 +1,8 @@
 -- `cell_ok` is the definition, test by test. Assumes nothing.
 use borrow.Author.Tests.{le-leb, lt-leb, eq-eqb, ne-eqb}
 use Rattle.instance.specs.Valid.{cell-ok}
-use Rattle.instance.proofs.valid.cell_ok.Statement.{statement}
-use Rattle.instance.proofs.valid.cell_ok.Tie as tie
+use Rattle.checks.proofs.valid.cell_ok.Statement.{statement}
+use Rattle.checks.proofs.valid.cell_ok.Tie as tie
 
 returns : tie.Need-returns
 unfolding cell-ok

@@ -5,10 +5,10 @@ use native.Mathlib.Omega.{arith}
 use borrow.Author.Tests.{not-true, not-false}
 use Rattle.base.specs.Bounded.{all-below}
 use Rattle.base.proofs.BoundedLaws.{all-none, all-fail, all-pass}
 use Rattle.instance.specs.Valid.{cell-valid}
 use Rattle.instance.specs.Instance.{instance-with}
-use Rattle.instance.proofs.valid.cells_valid.Statement.{statement}
-use Rattle.instance.proofs.valid.cells_valid.Tie as tie
+use Rattle.checks.proofs.valid.cells_valid.Statement.{statement}
+use Rattle.checks.proofs.valid.cells_valid.Tie as tie
 
 abbrev Inv-loop : tie.InvT-loop
 Inv-loop weights marks n root k₀ k =

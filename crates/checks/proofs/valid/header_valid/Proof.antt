@@ -1,8 +1,8 @@
 -- `header_valid` is the definition, test by test. Assumes nothing.
 use borrow.Author.Tests.{lt-ltb, le-ltb, le-leb, lt-leb}
 use Rattle.instance.specs.Valid.{header-valid}
-use Rattle.instance.proofs.valid.header_valid.Statement.{statement}
-use Rattle.instance.proofs.valid.header_valid.Tie as tie
+use Rattle.checks.proofs.valid.header_valid.Statement.{statement}
+use Rattle.checks.proofs.valid.header_valid.Tie as tie
 
 returns : tie.Need-returns
 unfolding header-valid

@@ -1,0 +1,49 @@
+-- The longest text is one that the call prints: the card of the star of crate report_text opens as the star itself, and
+-- every report on it into a buffer that is long enough is `max-text` bytes long. So no smaller need than `max-text`
+-- would do for this call. Assumes nothing.
+use mathlib.Core.Path.{_≡_, refl, sym, _∙_, ap, subst}
+use mathlib.Core.Bool.{Bool, true, false, _&&_, cond}
+use mathlib.Core.List.{List}
+use Prim.Native.Nat.{ℕ, _/_, _%_, _≤_, _<_}
+use borrow.Author.Tests.{eq-eqb, le-ltb}
+use lib.Dec.{ltb, eqb}
+use lib.ListN.{length, length-replicate}
+use Rattle.base.proofs.Tests.{and-false-right}
+use Rattle.base.proofs.ListLaws.{length-tabulate, getD-tabulate}
+use Rattle.instance.specs.Limits.{max-weight, no-arc, free, cells}
+use Rattle.instance.specs.Instance.{Instance, can-be-arc, weight-at, mark-at}
+use Rattle.instance.specs.States.{outcome}
+use Rattle.card_format.specs.Card.{on-card, card-refusal, instance-in, card-of}
+use Rattle.card_format.proofs.InstanceAgain.{written-opens, instance-back}
+use Rattle.survey.specs.Survey.{Parents-by}
+use Rattle.report_text.specs.Whole.{report-text, max-text}
+use Rattle.report_text.proofs.LongestText.{star, star-cell, all-free, star-parents, star-valid, star-only, star-outcome, longest}
+use Rattle.report.specs.declared.Reported.{Reported}
+use Rattle.report.specs.Reports.{Reports-instance, Reports-by, Reports}
+
+-- a cell where no arc can be is as a card's is
+off-card : (i : ℕ) → i < cells → on-card (star .n) (star .root) i ≡ false → (weight-at star i ≡ no-arc) × (mark-at star i ≡ free)
+unfolding star on-card
+off-card i l e = (
+  getD-tabulate cells star-cell i no-arc l
+      ∙ ap (λ (b : Bool). cond (eqb (i / 32) 31 && b) max-weight no-arc) e
+      ∙ ap (λ (b : Bool). cond b max-weight no-arc) (and-false-right (eqb (i / 32) 31) false refl),
+  all-free cells i,
+)
+
+star-again : instance-in (card-of star) ≡ star
+unfolding star
+star-again = instance-back star star-valid (length-tabulate cells star-cell) (length-replicate {A = ℕ} cells free) off-card
+
+-- whichever cheapest tree is printed is the only one
+printed : (old new : List ℕ) (next : ℕ) → Reports-instance star old new next → next ≡ max-text
+unfolding Parents-by
+printed old new next x =
+    let only : x .parents ≡ star-parents = star-only (x .parents) ((rw star-outcome at (x .shown)) .0) in
+    x .text .place ∙ ap (λ (ps : List ℕ). length (report-text star (outcome star) ps)) only ∙ longest
+
+pub longest-printed : (old new : List ℕ) (r : Reported) → max-text ≤ length old → Reports (card-of star) old new r → r .length ≡ max-text
+unfolding Reports Reports-by
+longest-printed old new r h x =
+    let opened = rw (le-ltb (length old) max-text h, eq-eqb (card-refusal (card-of star)) 0 (written-opens star star-valid)) at x in
+    printed old new (r .length) (subst (λ (s : Instance). Reports-instance s old new (r .length)) star-again (opened .reports))
