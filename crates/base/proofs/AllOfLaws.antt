@@ -5,7 +5,7 @@ use mathlib.Core.List.{List, [], _∷_, _++_}
 use Prim.Native.Nat.{ℕ, zero, suc}
 use lib.ListN.{getD, take, drop}
 use Rattle.base.specs.Lists.{all-of}
-use Rattle.base.proofs.Tests.{and-left, and-right, and-both}
+use Rattle.base.proofs.BoolLaws.{and-left, and-right, and-both}
 
 module _ {A : Type 0} (q : A → Bool) where
   pub all-of-append : (xs ys : List A) → all-of q xs ≡ true → all-of q ys ≡ true → all-of q (xs ++ ys) ≡ true

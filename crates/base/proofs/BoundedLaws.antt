@@ -7,7 +7,7 @@ use native.Mathlib.Omega.{arith}
 use native.Mathlib.Nat.{eq-or-lt-of-le}
 use native.Mathlib.Decide.{ℕ-discrete}
 use Rattle.base.specs.Bounded.{all-below, any-below, sum-below}
-use Rattle.base.proofs.Tests.{and-left, and-right, and-both, or-cases, or-left, or-right, or-both-false}
+use Rattle.base.proofs.BoolLaws.{and-left, and-right, and-both, or-cases, or-left, or-right, or-both-false}
 
 -- ALL
 pub all-none : (P : ℕ → Bool) → all-below 0 P ≡ true

@@ -6,7 +6,7 @@ use Prim.Native.Nat.{ℕ, zero, suc, _+_, _≤_, _<_}
 use native.Mathlib.Omega.{arith}
 use native.Mathlib.Decide.{ℕ-discrete}
 use Rattle.base.specs.Bounded.{sum-below, count-below}
-use Rattle.base.proofs.Tests.{not-both}
+use Rattle.base.proofs.BoolLaws.{not-both}
 use Rattle.base.proofs.BoundedLaws.{sum-mono, sum-room, sum-zero, sum-eq}
 
 one-le : (b d : Bool) → (b ≡ true → d ≡ true) → cond b 1 0 ≤ cond d 1 0

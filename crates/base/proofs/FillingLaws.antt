@@ -10,7 +10,7 @@ use lib.Dec.{ltb}
 use lib.ListN.{length, getD, set}
 use lib.Seq.{getD-set-same, getD-set-other}
 use borrow.Author.Tests.{ltb-true, ltb-false, lt-ltb, le-ltb}
-use Rattle.base.proofs.Tests.{test}
+use Rattle.base.proofs.BoolLaws.{test}
 
 -- a bound that has grown by one
 pub ltb-more : (v h : ℕ) → h ≢ v → ltb h (v + 1) ≡ ltb h v

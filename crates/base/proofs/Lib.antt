@@ -1,5 +1,5 @@
 -- Laws of tests, bounded tests and sums, and lists, and of the loops that fill them. Assumes nothing.
-pub mod Tests
+pub mod BoolLaws
 pub mod BoundedLaws
 pub mod ListLaws
 pub mod AllOfLaws

@@ -6,16 +6,22 @@ use Prim.Native.Nat.{ℕ, zero, suc, _+_, _<_}
 use native.Mathlib.Omega.{arith}
 use native.Mathlib.Numerals.{add-one}
 use native.Mathlib.Nat.{add-zero, add-suc, suc-add, zero-add}
-use lib.ListN.{length, getD, set, take}
+use lib.ListN.{length, getD, set, take, replicate}
 use lib.Seq.{take-suc-set, take-all, ext-getD}
 use Rattle.base.specs.Lists.{tabulate-from, tabulate, select, any-of, all-of}
-use Rattle.base.proofs.Tests.{and-left, and-right, and-both, or-left, or-right}
+use Rattle.base.proofs.BoolLaws.{and-left, and-right, and-both, or-left, or-right}
 
 -- inside a list the default does not matter
 pub default : {A : Type 0} (l : List A) (i : ℕ) (d e : A) → i < length l → getD l i d ≡ getD l i e
 default [] i d e h = absurd (omega arith)
 default (x ∷ l) zero d e h = refl
 default (x ∷ l) (suc i) d e h = default l i d e (omega arith)
+
+-- of a list of defaults every place, past its end too, is the default
+pub replicate-at : {A : Type 0} (k i : ℕ) (d : A) → getD (replicate k d) i d ≡ d
+replicate-at zero i d = refl
+replicate-at (suc k) zero d = refl
+replicate-at (suc k) (suc i) d = replicate-at k i d
 
 -- LISTS MADE BY INDEX
 pub length-tabulate-from : (k a : ℕ) (g : ℕ → ℕ) → length (tabulate-from k a g) ≡ k

@@ -9,7 +9,7 @@ use lib.ListN.{length, getD, take, drop, replicate, length-drop}
 use lib.Seq.{drop-drop, length-take-le, getD-drop, ext-getD}
 use borrow.Author.Tests.{eqb-true}
 use Rattle.base.specs.Lists.{all-of}
-use Rattle.base.proofs.Tests.{and-both}
+use Rattle.base.proofs.BoolLaws.{and-both}
 use Rattle.base.proofs.AllOfLaws.{all-of-first, all-of-rest}
 
 module _ {A : Type 0} where

@@ -11,7 +11,7 @@ use native.Mathlib.Numerals.{add-one}
 use lib.Dec.{eqb}
 use borrow.Author.Tests.{eqb-true, eq-eqb, ne-eqb, not-true}
 use Rattle.base.specs.Bounded.{any-below, sum-below, count-below}
-use Rattle.base.proofs.Tests.{test, not-both, and-left, and-right, and-both}
+use Rattle.base.proofs.BoolLaws.{test, not-both, and-left, and-right, and-both}
 use Rattle.base.proofs.BoundedLaws.{any-found, any-intro}
 use Rattle.base.proofs.CountingLaws.{count-more, count-one, sum-one}
 

@@ -10,7 +10,7 @@ use lib.ListN.{length, take, drop, length-append, length-drop, take-append-drop}
 use lib.Seq.{take-at, drop-at, length-take-le}
 use borrow.Author.Tests.{ltb-true}
 use Rattle.base.specs.Lists.{all-of}
-use Rattle.base.proofs.Tests.{and-left, and-right}
+use Rattle.base.proofs.BoolLaws.{and-left, and-right}
 use Rattle.bits.specs.Bits.{bits-of, bits-in, number-from, packed, are-bits, are-bytes}
 use Rattle.base.proofs.AllOfLaws.{all-of-take, all-of-drop}
 use Rattle.bits.proofs.NumberLaws.{length-bits-of, bits-of-are-bits, are-bits-append, number-bits-of, bits-of-number}

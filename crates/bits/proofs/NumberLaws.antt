@@ -11,7 +11,7 @@ use lib.Dec.{ltb}
 use lib.ListN.{length, replicate}
 use borrow.Author.Tests.{ltb-true, lt-ltb}
 use Rattle.base.specs.Lists.{all-of}
-use Rattle.base.proofs.Tests.{and-left, and-right, and-both}
+use Rattle.base.proofs.BoolLaws.{and-left, and-right, and-both}
 use Rattle.base.proofs.AllOfLaws.{all-of-append}
 use Rattle.base.proofs.PartLaws.{all-of-replicate}
 use Rattle.bits.specs.Bits.{bits-of, number-from, are-bits}

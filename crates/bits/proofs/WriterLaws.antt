@@ -49,7 +49,7 @@ store-byte {before} {first} {some} {bits} out at left s h l =
 -- what the loop leaves is what one call puts
 pub all-stored : (before : List ℕ) (w : BitWriter) (k v : ℕ) (out : List ℕ) (at left : ℕ) →
     Storing before (w .at) (w .count + k) (w .partial * 2 ^ k + v % 2 ^ k) out at left → left < 8 →
-    Put before w (bits-of k v) out (record { at = at; partial = (w .partial * 2 ^ k + v % 2 ^ k) % 256; count = left })
+    Put (bits-of k v) w before out (record { at = at; partial = (w .partial * 2 ^ k + v % 2 ^ k) % 256; count = left })
 unfolding bits-put
 all-stored before w k v out at left s h =
     let b = w .partial * 2 ^ k + v % 2 ^ k in
@@ -64,10 +64,10 @@ all-stored before w k v out at left s h =
     }
 
 -- ONE CALL AFTER ANOTHER
-pub put-none : (out : List ℕ) (w : BitWriter) → w .count < 8 → Put out w [] out w
+pub put-none : (out : List ℕ) (w : BitWriter) → w .count < 8 → Put [] w out out w
 put-none out w h = record { all-put = sym (append-nil (bits-put out w)); unchanged = refl; long = refl; few = h; moved = omega arith }
 
-pub put-then : (xs ys zs : List ℕ) (p q r : BitWriter) (cs bs : List ℕ) → Put xs p cs ys q → Put ys q bs zs r → Put xs p (cs ++ bs) zs r
+pub put-then : (xs ys zs : List ℕ) (p q r : BitWriter) (cs bs : List ℕ) → Put cs p xs ys q → Put bs q ys zs r → Put (cs ++ bs) p xs zs r
 put-then xs ys zs p q r cs bs u v = record {
   all-put = v .all-put ∙ rw (u .all-put, append-assoc);
   unchanged = v .unchanged ∙ drop-later (q .at) (r .at) ys xs (omega (arith, v .moved, v .few, u .few)) (u .unchanged);
@@ -77,29 +77,29 @@ put-then xs ys zs p q r cs bs u v = record {
 }
 
 -- room for what comes next
-pub ready-next : (xs ys : List ℕ) (p q : BitWriter) (bs : List ℕ) (k m : ℕ) → Put xs p bs ys q → length bs ≡ k → Ready xs p (k + m) → Ready ys q m
+pub ready-next : (xs ys : List ℕ) (p q : BitWriter) (bs : List ℕ) (k m : ℕ) → Put bs p xs ys q → length bs ≡ k → Ready (k + m) p xs → Ready m q ys
 ready-next xs ys p q bs k m u e r = record { few = u .few; room = omega (arith, u .moved, u .long, r .room) }
 
 -- room for fewer bits
-pub ready-fewer : (out : List ℕ) (w : BitWriter) (k m : ℕ) → m ≤ k → Ready out w k → Ready out w m
+pub ready-fewer : (out : List ℕ) (w : BitWriter) (k m : ℕ) → m ≤ k → Ready k w out → Ready m w out
 ready-fewer out w k m h r = record { few = r .few; room = omega (arith, r .room) }
 
 -- room for a part of bits that all have room
-pub ready-part : (xs ys : List ℕ) (p q : BitWriter) (bs cs ds all : List ℕ) → Put xs p bs ys q → bs ++ (cs ++ ds) ≡ all → Ready xs p (length all) → Ready ys q (length cs)
+pub ready-part : (xs ys : List ℕ) (p q : BitWriter) (bs cs ds all : List ℕ) → Put bs p xs ys q → bs ++ (cs ++ ds) ≡ all → Ready (length all) p xs → Ready (length cs) q ys
 ready-part xs ys p q bs cs ds all u e r =
     let l : length bs + (length cs + length ds) ≡ length all = simp length-append at (ap length e) in
     record { few = u .few; room = omega (arith, u .moved, u .long, r .room) }
 
 -- WHOLE BYTES
-abbrev pub fresh : BitWriter
-fresh = record { at = 0; partial = 0; count = 0 }
+abbrev pub new-writer : BitWriter
+new-writer = record { at = 0; partial = 0; count = 0 }
 
-none-put : (xs : List ℕ) → bits-put xs fresh ≡ []
+none-put : (xs : List ℕ) → bits-put xs new-writer ≡ []
 unfolding bits-put bits-of bits-in
 none-put xs = refl
 
 -- whole bytes were put from the start: they replace the front of the buffer
-pub bytes-put : (xs ys : List ℕ) (r : BitWriter) (bs : List ℕ) (k : ℕ) → Put xs fresh bs ys r → length bs ≡ 8 * k → k ≤ length xs → are-bytes ys ≡ true →
+pub bytes-put : (xs ys : List ℕ) (r : BitWriter) (bs : List ℕ) (k : ℕ) → Put bs new-writer xs ys r → length bs ≡ 8 * k → k ≤ length xs → are-bytes ys ≡ true →
     (r .at ≡ k) × (ys ≡ in-front (packed k bs) xs)
 unfolding bits-put
 bytes-put xs ys r bs k u n l b =

@@ -11,12 +11,12 @@ unfoldable pub bits-put : (out : List ℕ) → BitWriter → List ℕ
 bits-put out w = bits-in (take (w .at) out) ++ bits-of (w .count) (w .partial)
 
 -- there is room for so many bits more
-pub record Ready (out : List ℕ) (w : BitWriter) (width : ℕ) : Type 0 where
+pub record Ready (width : ℕ) (w : BitWriter) (out : List ℕ) : Type 0 where
   pub few : w .count < 8
   pub room : 8 * w .at + w .count + width ≤ 8 * length out
 
 -- bits were put behind those that stood there, and every byte from the new place on is as it was
-pub record Put (before : List ℕ) (w : BitWriter) (bits : List ℕ) (after : List ℕ) (r : BitWriter) : Type 0 where
+pub record Put (bits : List ℕ) (w : BitWriter) (before after : List ℕ) (r : BitWriter) : Type 0 where
   pub all-put : bits-put after r ≡ bits-put before w ++ bits
   pub unchanged : drop (r .at) after ≡ drop (r .at) before
   pub long : length after ≡ length before

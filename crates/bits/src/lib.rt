@@ -39,8 +39,8 @@ pub struct BitWriter {
 
 // Puts the lowest `width` bits of `value`. A byte is stored when it is full.
 pub fn put_bits(value: u32, width: usize, w: BitWriter, out: &mut [u8]) -> BitWriter
-    requires { ⌜ Ready (now out) w width × (width ≤ 32) ⌝ }
-    ensures { λ r. ⌜ Put (now (out .entry)) w (bits-of width value) (now (out .exit)) r ⌝ }
+    requires { ⌜ Ready width w (now out) × (width ≤ 32) ⌝ }
+    ensures { λ r. ⌜ Put (bits-of width value) w (now (out .entry)) (now (out .exit)) r ⌝ }
 {
     let power = 1u64 << width;
     let bits = wide(w.partial) * power + (value as u64) % power;
@@ -60,8 +60,8 @@ pub fn put_bits(value: u32, width: usize, w: BitWriter, out: &mut [u8]) -> BitWr
 
 // Fills the byte that is not full with zero bits.
 pub fn fill_byte(w: BitWriter, out: &mut [u8]) -> BitWriter
-    requires { ⌜ Ready (now out) w (filling (w .count)) ⌝ }
-    ensures { λ r. ⌜ Put (now (out .entry)) w (replicate (filling (w .count)) 0) (now (out .exit)) r ⌝ }
+    requires { ⌜ Ready (filling (w .count)) w (now out) ⌝ }
+    ensures { λ r. ⌜ Put (replicate (filling (w .count)) 0) w (now (out .entry)) (now (out .exit)) r ⌝ }
 {
     let width = (8 - w.count) % 8;
     put_bits(0, width, w, out)

@@ -50,7 +50,7 @@ answers-refused k d b e =
       unchanged = λ _. refl;
     })
 
-module _ (o : Replaced) (b g : Board) (k : Records o b g) where
+module _ (o : Replaced) (b g : Board) (k : Records b o g) where
   pub answers-accepted :
       (s : Instance) (d : Result) (r : Board) → d ≡ accepted o s (model-of b) → instance-of r ≡ s → r .records ≡ g .records → r .count ≡ g .count →
       Answers d b (record { answer = 0; board = r })

@@ -32,13 +32,13 @@ pub record Answers (d : Result) (b : Board) (r : Answered) : Type 0 where
   pub unchanged : (r .answer ≡ 0 → ⊥) → r .board ≡ b
 
 -- one record more, and nothing else
-pub record Records (o : Replaced) (b r : Board) : Type 0 where
+pub record Records (b : Board) (o : Replaced) (r : Board) : Type 0 where
   pub instance : instance-of r ≡ instance-of b
   pub records : r .records ≡ set (b .records) (b .count) (record-of o)
   pub history : history-of (r .count) (r .records) ≡ o ∷ history-of (b .count) (b .records)
 
 -- what putting back leaves: the record itself is still counted
-pub record Restores (o : Replaced) (b r : Board) : Type 0 where
+pub record Restores (b : Board) (o : Replaced) (r : Board) : Type 0 where
   pub instance : instance-of r ≡ restored o (instance-of b)
   pub records : r .records ≡ b .records
   pub count : r .count ≡ b .count

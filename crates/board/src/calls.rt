@@ -64,7 +64,7 @@ fn mark_refusal(
 // Adds a record to the history.
 fn recorded(b: Board, replaced: Replaced) -> Board
     requires { ⌜ b .count < max-records ⌝ }
-    ensures { λ r. ⌜ Records (replaced-of replaced) b r ⌝ }
+    ensures { λ r. ⌜ Records b (replaced-of replaced) r ⌝ }
 {
     let at = b.count;
     let mut next = b;
@@ -128,7 +128,7 @@ fn change_budget(b: Board, budget: u32) -> Answered
 // Puts back what a record of a valid board says; the record is still counted.
 fn restored(b: Board, replaced: Replaced) -> Board
     requires { ⌜ (b .n ≤ max-vertices) × (record-ok (instance-of b) (replaced-of replaced) ≡ true) ⌝ }
-    ensures { λ r. ⌜ Restores (replaced-of replaced) b r ⌝ }
+    ensures { λ r. ⌜ Restores b (replaced-of replaced) r ⌝ }
 {
     let mut next = b;
     match replaced {

@@ -9,7 +9,7 @@ use borrow.Author.Tests.{lt-ltb, le-ltb}
 use Rattle.bits.specs.Bits.{are-bytes}
 use Rattle.bits.specs.Writer.{filling, Ready, Put}
 use Rattle.bits.specs.declared.BitWriter.{BitWriter}
-use Rattle.bits.proofs.WriterLaws.{fresh, put-then, bytes-put}
+use Rattle.bits.proofs.WriterLaws.{new-writer, put-then, bytes-put}
 use Rattle.instance.specs.Limits.{max-vertices, cells}
 use Rattle.instance.specs.Refusals.{buffer-short}
 use Rattle.instance.specs.Instance.{Instance, instance-with}
@@ -19,7 +19,7 @@ use Rattle.card_format.proofs.LengthLaws.{length-known}
 use Rattle.card_format.proofs.WrittenBits.{cell-bits-budget, length-header, length-pair, length-cells, length-instance-bits}
 use Rattle.card.specs.Write.{written-to, buffer-after, Card-written}
 
-pub cell-room : (out : List ℕ) (w : BitWriter) (n r i v m : ℕ) → on-card n r i ≡ true → Ready out w (length (one-cell n r i v m)) → Ready out w cell-width
+pub cell-room : (out : List ℕ) (w : BitWriter) (n r i v m : ℕ) → on-card n r i ≡ true → Ready (length (one-cell n r i v m)) w out → Ready cell-width w out
 cell-room out w n r i v m t h = rw (t, length-pair v m) at h
 
 -- A buffer that is too short is left alone; else the header, the cells and the filling are put one after the other.
@@ -31,19 +31,19 @@ module _ (n r b : ℕ) (vs ms : List ℕ) (few : n ≤ max-vertices) (inside : r
   pub header-room : header-width ≤ 8 * length out
   header-room = let w = length-known n few in omega arith
 
-  module _ (ys : List ℕ) (q : BitWriter) (u : Put out fresh (header-bits n r b) ys q) where
-    pub cells-room : Ready ys q (length (cell-bits cells 0 (instance-with n r 0 vs ms)))
+  module _ (ys : List ℕ) (q : BitWriter) (u : Put (header-bits n r b) new-writer out ys q) where
+    pub cells-room : Ready (length (cell-bits cells 0 (instance-with n r 0 vs ms))) q ys
     cells-room =
         let w = length-known n few in
         let l = length-cells (instance-with n r 0 vs ms) few inside in
         record { few = u .few; room = omega (arith, w, l, length-header n r b, u .moved, u .long) }
 
-    module _ (zs : List ℕ) (p : BitWriter) (v : Put ys q (cell-bits cells 0 (instance-with n r 0 vs ms)) zs p) where
-      bits-so-far : Put out fresh (instance-bits (instance-with n r b vs ms)) zs p
+    module _ (zs : List ℕ) (p : BitWriter) (v : Put (cell-bits cells 0 (instance-with n r 0 vs ms)) q ys zs p) where
+      bits-so-far : Put (instance-bits (instance-with n r b vs ms)) new-writer out zs p
       unfolding instance-bits
       bits-so-far =
           rw (cell-bits-budget cells 0 n r b 0 vs ms)
-          (put-then out ys zs fresh q p (header-bits n r b) (cell-bits cells 0 (instance-with n r 0 vs ms)) u v)
+          (put-then out ys zs new-writer q p (header-bits n r b) (cell-bits cells 0 (instance-with n r 0 vs ms)) u v)
 
       filled : 8 * p .at + p .count + filling (p .count) ≡ 8 * bytes-needed n
       filled =
@@ -52,10 +52,10 @@ module _ (n r b : ℕ) (vs ms : List ℕ) (few : n ≤ max-vertices) (inside : r
           let l = length-instance-bits (instance-with n r b vs ms) few inside in
           omega (arith, w, l, f .moved, f .few)
 
-      pub filling-room : Ready zs p (filling (p .count))
+      pub filling-room : Ready (filling (p .count)) p zs
       filling-room = let f = bits-so-far in record { few = f .few; room = omega (arith, filled, f .long) }
 
-      pub all-written : (xs : List ℕ) (o : BitWriter) → Put zs p (replicate (filling (p .count)) 0) xs o → are-bytes xs ≡ true →
+      pub all-written : (xs : List ℕ) (o : BitWriter) → Put (replicate (filling (p .count)) 0) p zs xs o → are-bytes xs ≡ true →
           Card-written (instance-with n r b vs ms) out xs (record { answer = 0; length = bytes-needed n })
       unfolding written-to buffer-after card-of
       all-written xs o x e =
@@ -67,6 +67,6 @@ module _ (n r b : ℕ) (vs ms : List ℕ) (few : n ≤ max-vertices) (inside : r
           let m : length (instance-bits s ++ replicate (filling (p .count)) 0) ≡ 8 * bytes-needed n =
           length-append (instance-bits s) (replicate (filling (p .count)) 0)
           ∙ omega (arith, filled, l, f .moved, length-replicate {A = ℕ} (filling (p .count)) 0) in
-          let g = put-then out zs xs fresh p o (instance-bits s) (replicate (filling (p .count)) 0) f x in
+          let g = put-then out zs xs new-writer p o (instance-bits s) (replicate (filling (p .count)) 0) f x in
           let w = bytes-put out xs o (instance-bits s ++ replicate (filling (p .count)) 0) (bytes-needed n) g m long e in
           record { result = simp t; buffer = simp t (w .1 ∙ rw k) }

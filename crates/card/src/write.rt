@@ -12,7 +12,7 @@ ghost use Prim.Native.Nat.{_*_, _≤_, _<_};
 ghost use lib.ListN.{length};
 ghost use Rattle.bits.specs.Writer.{Ready, Put};
 ghost use Rattle.instance.specs.Limits.{max-vertices, cells};
-ghost use Rattle.instance.specs.Instance.{instance-with};
+ghost use Rattle.instance.specs.Instance.{instance-with, without-budget};
 ghost use Rattle.card_format.specs.Widths.{header-width};
 ghost use Rattle.card_format.specs.Card.{header-bits, one-cell, cell-bits};
 ghost use Rattle.card.specs.Write.{Card-written};
@@ -21,7 +21,7 @@ use instance::refusals::BUFFER_SHORT;
 
 fn put_header(n: u32, root: u32, budget: u32, out: &mut [u8]) -> BitWriter
     requires { ⌜ header-width ≤ 8 * length (now out) ⌝ }
-    ensures { λ r. ⌜ Put (now (out .entry)) (record { at = 0; partial = 0; count = 0 }) (header-bits n root budget) (now (out .exit)) r ⌝ }
+    ensures { λ r. ⌜ Put (header-bits n root budget) (record { at = 0; partial = 0; count = 0 }) (now (out .entry)) (now (out .exit)) r ⌝ }
 {
     let start = BitWriter {
         at: 0,
@@ -44,8 +44,8 @@ fn put_cell(
     w: BitWriter,
     out: &mut [u8],
 ) -> BitWriter
-    requires { ⌜ (i < cells) × Ready (now out) w (length (one-cell n root i weight mark)) ⌝ }
-    ensures { λ r. ⌜ Put (now (out .entry)) w (one-cell n root i weight mark) (now (out .exit)) r ⌝ }
+    requires { ⌜ (i < cells) × Ready (length (one-cell n root i weight mark)) w (now out) ⌝ }
+    ensures { λ r. ⌜ Put (one-cell n root i weight mark) w (now (out .entry)) (now (out .exit)) r ⌝ }
 {
     if cells::on_card(n, root, i) {
         let after_weight = bits::put_bits(weight, WEIGHT_WIDTH, w, out);
@@ -63,8 +63,8 @@ fn put_cells<'a>(
     out: &mut [u8],
 ) -> BitWriter
     requires { ⌜ (length (now weights) ≡ cells) × (length (now marks) ≡ cells) ⌝ }
-    requires { ⌜ Ready (now out) start (length (cell-bits cells 0 (instance-with n root 0 (now weights) (now marks)))) ⌝ }
-    ensures { λ r. ⌜ Put (now (out .entry)) start (cell-bits cells 0 (instance-with n root 0 (now (weights .entry)) (now (marks .entry)))) (now (out .exit)) r ⌝ }
+    requires { ⌜ Ready (length (cell-bits cells 0 (without-budget n root (now weights) (now marks)))) start (now out) ⌝ }
+    ensures { λ r. ⌜ Put (cell-bits cells 0 (without-budget n root (now (weights .entry)) (now (marks .entry)))) start (now (out .entry)) (now (out .exit)) r ⌝ }
 {
     let mut w = start;
     let mut i: usize = 0;

@@ -13,7 +13,7 @@ use lib.ListN.{length, getD, drop}
 use lib.Seq.{drop-drop}
 use borrow.Author.Tests.{eqb-false, leb-true, le-leb, eq-eqb, ne-eqb}
 use Rattle.base.specs.Lists.{tabulate-from, tabulate}
-use Rattle.base.proofs.Tests.{passed}
+use Rattle.base.proofs.BoolLaws.{passed}
 use Rattle.base.proofs.ListLaws.{length-tabulate, getD-tabulate}
 use Rattle.bits.specs.Bits.{field}
 use Rattle.bits.proofs.FieldLaws.{field-drop}
@@ -30,7 +30,7 @@ next-rest true p bs = drop-drop cell-width p bs
 next-rest false p bs = ap (λ (k : ℕ). drop k bs) (sym (add-zero p))
 
 fields-from : (a w o n r : ℕ) (bs : List ℕ) (k i : ℕ) →
-    cell-fields a w o k i n r (drop (offset n r i) bs) ≡ tabulate-from k i (cell-field a w o n r bs)
+    cell-fields n r a w o k i (drop (offset n r i) bs) ≡ tabulate-from k i (cell-field n r a w o bs)
 unfolding cell-fields cell-field offset tabulate-from
 fields-from a w o n r bs zero i = refl
 fields-from a w o n r bs (suc k) i =
@@ -38,17 +38,17 @@ fields-from a w o n r bs (suc k) i =
     (ap (λ (l : List ℕ). cond (on-card n r i) (field (offset n r i + a) w bs) o ∷ l) (fields-from a w o n r bs k (suc i)))
 
 -- the fields that are read running through the cells are those at their offsets
-pub fields-by-index : (a w o n r : ℕ) (bs : List ℕ) → cell-fields a w o cells 0 n r (drop header-width bs) ≡ tabulate cells (cell-field a w o n r bs)
+pub fields-by-index : (a w o n r : ℕ) (bs : List ℕ) → cell-fields n r a w o cells 0 (drop header-width bs) ≡ tabulate cells (cell-field n r a w o bs)
 unfolding offset tabulate
 fields-by-index a w o n r bs = fields-from a w o n r bs cells 0
 
-pub length-fields : (a w o n r : ℕ) (bs : List ℕ) → length (cell-fields a w o cells 0 n r (drop header-width bs)) ≡ cells
-length-fields a w o n r bs = ap length (fields-by-index a w o n r bs) ∙ length-tabulate cells (cell-field a w o n r bs)
+pub length-fields : (a w o n r : ℕ) (bs : List ℕ) → length (cell-fields n r a w o cells 0 (drop header-width bs)) ≡ cells
+length-fields a w o n r bs = ap length (fields-by-index a w o n r bs) ∙ length-tabulate cells (cell-field n r a w o bs)
 
 pub field-at : (a w o n r : ℕ) (bs : List ℕ) (i d : ℕ) → i < cells →
-    getD (cell-fields a w o cells 0 n r (drop header-width bs)) i d ≡ cell-field a w o n r bs i
+    getD (cell-fields n r a w o cells 0 (drop header-width bs)) i d ≡ cell-field n r a w o bs i
 field-at a w o n r bs i d h =
-    ap (λ (l : List ℕ). getD l i d) (fields-by-index a w o n r bs) ∙ getD-tabulate cells (cell-field a w o n r bs) i d h
+    ap (λ (l : List ℕ). getD l i d) (fields-by-index a w o n r bs) ∙ getD-tabulate cells (cell-field n r a w o bs) i d h
 
 -- THE FIRST FAULTY CELL
 -- a loop that goes through the cells: none is left; the cell at i is faulty; it is not
@@ -71,12 +71,12 @@ pub judged-next : (k i : ℕ) (f g : ℕ → ℕ) → 0 < k → cell-refusal (f 
 judged-next k i f g h z = judged-step k i f g h ∙ simp (eq-eqb (cell-refusal (f i) (g i)) 0 z)
 
 -- no cell is refused exactly if each passes
-pub all-pass : (k i : ℕ) (f g : ℕ → ℕ) → ((j : ℕ) → i ≤ j → j < i + k → cell-refusal (f j) (g j) ≡ 0) →
+pub no-cell-refused : (k i : ℕ) (f g : ℕ → ℕ) → ((j : ℕ) → i ≤ j → j < i + k → cell-refusal (f j) (g j) ≡ 0) →
     cells-refusal (tabulate-from k i f) (tabulate-from k i g) ≡ 0
 unfolding cells-refusal tabulate-from
-all-pass zero i f g h = refl
-all-pass (suc k) i f g h =
-    rw (eq-eqb (cell-refusal (f i) (g i)) 0 (h i (omega arith) (omega arith))) (all-pass k (suc i) f g (λ j p q. h j (omega arith) (omega arith)))
+no-cell-refused zero i f g h = refl
+no-cell-refused (suc k) i f g h =
+    rw (eq-eqb (cell-refusal (f i) (g i)) 0 (h i (omega arith) (omega arith))) (no-cell-refused k (suc i) f g (λ j p q. h j (omega arith) (omega arith)))
 
 -- the first answer that is not 0 is 0, so both are
 pub first-passes : (c rest : ℕ) → cond (eqb c 0) rest c ≡ 0 → (c ≡ 0) × (rest ≡ 0)

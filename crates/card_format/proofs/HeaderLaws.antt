@@ -7,7 +7,7 @@ use native.Mathlib.Omega.{arith}
 use lib.Dec.{ltb, leb, eqb}
 use lib.ListN.{length}
 use borrow.Author.Tests.{ltb-false, leb-false, eqb-true, eqb-false, not-false}
-use Rattle.base.proofs.Tests.{or-false-left, or-false-right, passed}
+use Rattle.base.proofs.BoolLaws.{or-false-left, or-false-right, passed}
 use Rattle.bits.specs.Bits.{bits-in}
 use Rattle.instance.specs.Limits.{max-vertices, max-budget, cells}
 use Rattle.instance.specs.Refusals.{card-short, bad-count, bad-length, bad-root, bad-card-budget}

@@ -12,7 +12,7 @@ use lib.ListN.{length, drop, length-append, length-replicate}
 use lib.Seq.{drop-at}
 use borrow.Author.Tests.{leb-true, eqb-true, le-ltb, lt-leb, eq-eqb, ne-eqb}
 use Rattle.base.specs.Lists.{tabulate}
-use Rattle.base.proofs.Tests.{and-left, and-right, test}
+use Rattle.base.proofs.BoolLaws.{and-left, and-right, test}
 use Rattle.base.proofs.BoundedLaws.{all-at}
 use Rattle.base.proofs.ListLaws.{getD-tabulate, tabulate-is}
 use Rattle.base.proofs.PartLaws.{all-of-replicate}
@@ -29,7 +29,7 @@ use Rattle.instance.proofs.ValidLaws.{valid-some, valid-small, valid-root, vali
 use Rattle.card_format.specs.Widths.{n-width, root-width, budget-width, header-width, weight-width, mark-width}
 use Rattle.card_format.specs.Card.{n-in, root-in, budget-in, on-card, bits-needed, bytes-needed, min-card, instance-in, cell-refusal, cells-refusal, header-refusal, card-refusal, header-bits, cell-bits, instance-bits, filling-bits, card-of}
 use Rattle.card_format.proofs.LengthLaws.{length-known, length-card-of}
-use Rattle.card_format.proofs.CellLaws.{ok-passes, all-pass}
+use Rattle.card_format.proofs.CellLaws.{ok-passes, no-cell-refused}
 use Rattle.card_format.proofs.WrittenBits.{length-header, length-instance-bits, instance-are-bits, fields-again, weight-found, mark-found}
 
 -- A VALID INSTANCE
@@ -166,7 +166,7 @@ module _ (s : Instance) (k : Valid-known s) where
 
   cells-pass : cells-refusal (instance-in (card-of s) .weights) (instance-in (card-of s) .marks) ≡ 0
   unfolding tabulate
-  cells-pass = rw (weights-again, marks-again) (all-pass cells 0 weight-read mark-read (λ i a b. cell-passes i (omega arith)))
+  cells-pass = rw (weights-again, marks-again) (no-cell-refused cells 0 weight-read mark-read (λ i a b. cell-passes i (omega arith)))
 
   -- THE WHOLE
   opens-again : card-refusal (card-of s) ≡ 0

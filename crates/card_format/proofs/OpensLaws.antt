@@ -9,7 +9,7 @@ use lib.ListN.{length, drop}
 use borrow.Author.Tests.{le-leb, lt-ltb, ne-eqb}
 use Rattle.base.specs.Bounded.{all-below}
 use Rattle.base.specs.Lists.{all-of, tabulate}
-use Rattle.base.proofs.Tests.{and-both}
+use Rattle.base.proofs.BoolLaws.{and-both}
 use Rattle.base.proofs.BoundedLaws.{all-intro}
 use Rattle.bits.specs.Bits.{bits-in}
 use Rattle.bits.proofs.ByteLaws.{length-bits-in, bits-in-are-bits}
@@ -42,7 +42,7 @@ refusal-by-steps ws = header-first ws (rest-refusal ws)
 pub record Opens (ws : List ℕ) : Type 0 where
   pub header : Header-known ws
   pub long-enough : bits-needed (n-of ws) ≤ length (bits-in ws)
-  pub all-pass : cells-refusal (weights-in (n-of ws) (root-of ws) (bits-in ws)) (marks-in (n-of ws) (root-of ws) (bits-in ws)) ≡ 0
+  pub cells-pass : cells-refusal (weights-in (n-of ws) (root-of ws) (bits-in ws)) (marks-in (n-of ws) (root-of ws) (bits-in ws)) ≡ 0
   pub zeros : all-of (λ b. eqb b 0) (drop (bits-needed (n-of ws)) (bits-in ws)) ≡ true
 
 rest-passes : (c : ℕ) (f : Bool) → cond (not (eqb c 0)) c (cond f 0 bad-filling) ≡ 0 → (c ≡ 0) × (f ≡ true)
@@ -58,7 +58,7 @@ opens ws e =
     let b = rest-passes (cells-refusal (weights-in n (root-of ws) bs) (marks-in n (root-of ws) bs)) (all-of (λ b. eqb b 0) (drop (bits-needed n) bs)) (a .1) in
     let h = header-known ws (a .0) in
     let k = length-known n (h .n-high) in
-    record { header = h; long-enough = rw (length-bits-in ws) (omega (arith, h .sized, k .whole)); all-pass = b .0; zeros = b .1 }
+    record { header = h; long-enough = rw (length-bits-in ws) (omega (arith, h .sized, k .whole)); cells-pass = b .0; zeros = b .1 }
 
 pub opened-length : (ws : List ℕ) → card-refusal ws ≡ 0 → length ws ≡ bytes-needed (instance-in ws .n)
 unfolding instance-in
@@ -102,7 +102,7 @@ module _ (ws : List ℕ) (o : Opens ws) where
       let f = fields-by-index 0 weight-width no-arc (n-of ws) (root-of ws) (bits-in ws) in
       let g = fields-by-index weight-width mark-width free (n-of ws) (root-of ws) (bits-in ws) in
       each-passes cells 0 (weight-field (n-of ws) (root-of ws) (bits-in ws)) (mark-field (n-of ws) (root-of ws) (bits-in ws))
-      (rw (f, g) at (o .all-pass)) i (omega arith) (omega arith)
+      (rw (f, g) at (o .cells-pass)) i (omega arith) (omega arith)
 
   cell-is-valid : (i : ℕ) → i < cells → (t : Bool) → on-card (n-of ws) (root-of ws) i ≡ t →
       cond t (cell-ok (weight-at (instance-in ws) i) (mark-at (instance-in ws) i)) true ≡ true
@@ -126,8 +126,8 @@ module _ (ws : List ℕ) (o : Opens ws) where
       (all-intro cells (cell-valid (instance-in ws)) cells-are-valid)
 
 -- a card that opens holds a valid instance
-pub opened-valid : (ws : List ℕ) → card-refusal ws ≡ 0 → valid-instance (instance-in ws) ≡ true
-opened-valid ws e = instance-valid ws (opens ws e)
+pub card-valid : (ws : List ℕ) → card-refusal ws ≡ 0 → valid-instance (instance-in ws) ≡ true
+card-valid ws e = instance-valid ws (opens ws e)
 
 -- NUMBERS
 most : (a b c d e f g : Bool) (x : ℕ) → x ≤ bad-mark →

@@ -8,7 +8,7 @@ use native.Mathlib.Omega.{arith}
 use lib.Dec.{ltb, eqb}
 use lib.ListN.{length, take, length-take}
 use borrow.Author.Tests.{ltb-false, le-ltb, ne-eqb}
-use Rattle.base.proofs.Tests.{or-false-right}
+use Rattle.base.proofs.BoolLaws.{or-false-right}
 use Rattle.bits.specs.Bits.{bits-of, bits-in, field}
 use Rattle.instance.specs.Limits.{max-vertices}
 use Rattle.instance.specs.Refusals.{bad-count, bad-length}

@@ -9,7 +9,7 @@ use Rattle.bits.specs.Bits.{bits-of, bits-in, number-from, field}
 use Rattle.instance.specs.Limits.{pinned, banned}
 use Rattle.instance.specs.Refusals.{card-short, bad-count, bad-length, bad-root, bad-card-budget, bad-weight, bad-mark, bad-filling}
 use Rattle.instance.specs.Instance.{Instance, can-be-arc}
-use Rattle.instance.proofs.WorkedCases.{arc, filled, instance-of, instance-q}
+use Rattle.instance.proofs.WorkedCases.{arc, filled, instance-from, instance-q}
 use Rattle.card_format.specs.Card.{on-card, bits-needed, bytes-needed, cell-fields, instance-in, cell-refusal, cells-refusal, header-refusal, card-refusal}
 
 pub record Card : Type 0 where
@@ -90,9 +90,9 @@ read-cards =
 unfoldable pub read-instances : List Instance
 read-instances =
     instance-q 16 (arc 2 1 pinned ∷ arc 0 3 banned ∷ [])
-    ∷ instance-of 3 1 31000000 (arc 0 2 10 ∷ arc 1 0 20 ∷ arc 2 0 40 ∷ []) (arc 0 2 pinned ∷ arc 1 0 banned ∷ [])
+    ∷ instance-from 3 1 31000000 (arc 0 2 10 ∷ arc 1 0 20 ∷ arc 2 0 40 ∷ []) (arc 0 2 pinned ∷ arc 1 0 banned ∷ [])
     ∷ []
 
 pub readings : map instance-in read-cards ≡ read-instances
-unfolding read-cards read-instances instance-q instance-of filled instance-in cell-fields on-card can-be-arc bits-in bits-of field number-from
+unfolding read-cards read-instances instance-q instance-from filled instance-in cell-fields on-card can-be-arc bits-in bits-of field number-from
 readings = refl

@@ -125,7 +125,7 @@ module _ (s : Instance) (a w o : ℕ) (v : ℕ → ℕ) (found : (i : ℕ) (ys :
   rest-again i false ys zs = refl
 
   pub fields-again : (zs : List ℕ) (k i : ℕ) →
-      cell-fields a w o k i (s .n) (s .root) (cell-bits k i s ++ zs) ≡ tabulate-from k i (λ j. cond (on-card (s .n) (s .root) j) (v j) o)
+      cell-fields (s .n) (s .root) a w o k i (cell-bits k i s ++ zs) ≡ tabulate-from k i (λ j. cond (on-card (s .n) (s .root) j) (v j) o)
   unfolding cell-fields cell-bits tabulate-from
   fields-again zs zero i = refl
   fields-again zs (suc k) i =

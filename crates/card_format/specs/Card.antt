@@ -47,16 +47,16 @@ max-card = 2648
 
 -- "price 20 bits, mark 2": the field of so many bits at a place among those of each cell on the card; another number
 -- for the other cells
-unfoldable pub cell-fields : (at width other : ℕ) → (left i : ℕ) → (n root : ℕ) → (bits : List ℕ) → List ℕ
-cell-fields a w o zero i n r bs = []
-cell-fields a w o (suc k) i n r bs =
-    cond (on-card n r i) (field a w bs) o ∷ cell-fields a w o k (suc i) n r (cond (on-card n r i) (drop cell-width bs) bs)
+unfoldable pub cell-fields : (n root : ℕ) → (at width other : ℕ) → (left i : ℕ) → (bits : List ℕ) → List ℕ
+cell-fields n r a w o zero i bs = []
+cell-fields n r a w o (suc k) i bs =
+    cond (on-card n r i) (field a w bs) o ∷ cell-fields n r a w o k (suc i) (cond (on-card n r i) (drop cell-width bs) bs)
 
 abbrev pub weights-in : (n root : ℕ) → (bits : List ℕ) → List ℕ
-weights-in n r bs = cell-fields 0 weight-width no-arc cells 0 n r (drop header-width bs)
+weights-in n r bs = cell-fields n r 0 weight-width no-arc cells 0 (drop header-width bs)
 
 abbrev pub marks-in : (n root : ℕ) → (bits : List ℕ) → List ℕ
-marks-in n r bs = cell-fields weight-width mark-width free cells 0 n r (drop header-width bs)
+marks-in n r bs = cell-fields n r weight-width mark-width free cells 0 (drop header-width bs)
 
 unfoldable pub instance-in : (card : List ℕ) → Instance
 instance-in ws =

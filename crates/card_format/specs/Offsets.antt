@@ -13,12 +13,12 @@ offset n r zero = header-width
 offset n r (suc i) = offset n r i + cond (on-card n r i) cell-width 0
 
 -- the field of so many bits at a place among those of cell i; another number if it is not on the card
-unfoldable pub cell-field : (at width other : ℕ) → (n root : ℕ) → (bits : List ℕ) → (i : ℕ) → ℕ
-cell-field a w o n r bs i = cond (on-card n r i) (field (offset n r i + a) w bs) o
+unfoldable pub cell-field : (n root : ℕ) → (at width other : ℕ) → (bits : List ℕ) → (i : ℕ) → ℕ
+cell-field n r a w o bs i = cond (on-card n r i) (field (offset n r i + a) w bs) o
 
 -- its weight and its mark
 abbrev pub weight-field : (n root : ℕ) → (bits : List ℕ) → (i : ℕ) → ℕ
-weight-field n r bs = cell-field 0 weight-width no-arc n r bs
+weight-field n r bs = cell-field n r 0 weight-width no-arc bs
 
 abbrev pub mark-field : (n root : ℕ) → (bits : List ℕ) → (i : ℕ) → ℕ
-mark-field n r bs = cell-field weight-width mark-width free n r bs
+mark-field n r bs = cell-field n r weight-width mark-width free bs

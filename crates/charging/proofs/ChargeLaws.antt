@@ -10,7 +10,7 @@ use lib.Dec.{ltb}
 use lib.ListN.{length, set, length-set}
 use lib.Seq.{getD-set-other}
 use borrow.Author.Tests.{eq-eqb, ne-eqb, ltb-true, ltb-false}
-use Rattle.base.proofs.Tests.{test, not-both}
+use Rattle.base.proofs.BoolLaws.{test, not-both}
 use Rattle.instance.specs.Limits.{max-vertices, no-arc, no-parent, cells, max-cuts, cut-words}
 use Rattle.instance.specs.Cuts.{Cut, cuts-from}
 use Rattle.contraction.specs.Groups.{Lowered}
@@ -19,8 +19,8 @@ use Rattle.contraction.proofs.Lowering.{lowered-none, lowered-there}
 use Rattle.contraction.proofs.Charging.{entering, enters-no, lowered-charge, charge-tree}
 use Rattle.instance.proofs.SetBits.{inside-some}
 use Rattle.contraction.specs.Cells.{at, cost}
-use Rattle.charging.specs.Entering.{Cheapest}
-use Rattle.charging.specs.Lower.{Affords, Lowered-cells, low}
+use Rattle.charging.specs.Entering.{Cheapest-arc}
+use Rattle.charging.specs.Lower.{Affords, Lowered-cells, lowered-weight}
 use Rattle.charging.specs.Members.{Members}
 use Rattle.charging.specs.Charge.{Unentered, Charged-group}
 use Rattle.charging.proofs.LowerLaws.{low-in, low-out}
@@ -31,7 +31,7 @@ pub unentered-before : {n root : ℕ} {ws ws′ : List ℕ} {cs : List Cut} {s :
 unentered-before lo c = record { proper = c .proper; shut = λ t h l m th. c .shut t h l m (lowered-there lo t h l m th) }
 
 -- the vertices of a group other than the root's
-group-proper : {ls : List ℕ} {n g s : ℕ} → Members ls g n s → (root : ℕ) → root < n → at ls root ≢ g → (v : ℕ) → v < n → at ls v ≡ g → Proper n root s
+group-proper : {ls : List ℕ} {n g s : ℕ} → Members ls n g s → (root : ℕ) → root < n → at ls root ≢ g → (v : ℕ) → v < n → at ls v ≡ g → Proper n root s
 group-proper {ls} {n} {g} {s} ms root rl ne v l e =
     record {
       some = inside-some s v (ms .is v l ∙ eq-eqb (at ls v) g e);
@@ -39,12 +39,12 @@ group-proper {ls} {n} {g} {s} ms root rl ne v l e =
       no-root = ms .is root rl ∙ ne-eqb (at ls root) g ne;
     }
 
-module _ (ws ls : List ℕ) (n g : ℕ) (small : n ≤ max-vertices) {t h a : ℕ} (b : Cheapest ws ls n g n t h a) where
+module _ (ws ls : List ℕ) (n g : ℕ) (small : n ≤ max-vertices) {t h a : ℕ} (b : Cheapest-arc ws ls n g n t h a) where
   pub affords : Affords ws ls n g a
   affords v m e u l ne = b .least u v l m e ne
 
   module _ (ws′ : List ℕ) (lo : Lowered-cells ws ws′ ls n g a n) where
-    at-cell : (u v : ℕ) → u < n → v < n → cost ws′ u v ≡ low ls g a u v (cost ws u v)
+    at-cell : (u v : ℕ) → u < n → v < n → cost ws′ u v ≡ lowered-weight ls g a u v (cost ws u v)
     at-cell u v l m = lo .done u v l m
 
     same-cell : (u v : ℕ) → u < n → v < n → (at ls v ≢ g) ⊎ ((at ls u ≡ g) ⊎ (no-arc ≤ cost ws u v)) → cost ws′ u v ≡ cost ws u v
@@ -66,7 +66,7 @@ module _ (ws ls : List ℕ) (n g : ℕ) (small : n ≤ max-vertices) {t h a : �
         (λ (q : ltb v n ≡ false). lo .rest u v l (inr (ltb-false v n q))) (test (ltb v n)))
         (λ (p : ltb u n ≡ false). lo .rest u v l (inl (ltb-false u n p))) (test (ltb u n))
 
-    module _ (cuts : List ℕ) (k s : ℕ) (room : k < max-cuts) (cuts-size : length cuts ≡ cut-words) (ms : Members ls g n s) (lt : a < no-arc) (pos : 1 ≤ a) where
+    module _ (cuts : List ℕ) (k s : ℕ) (room : k < max-cuts) (cuts-size : length cuts ≡ cut-words) (ms : Members ls n g s) (lt : a < no-arc) (pos : 1 ≤ a) where
       abbrev cut : Cut
       cut = record { set = s; value = a }
 
@@ -99,13 +99,13 @@ module _ (ws ls : List ℕ) (n g : ℕ) (small : n ≤ max-vertices) {t h a : �
                   head-below = b .head-below lt;
                   tail-out = b .tail-out lt;
                   head-in = b .head-in lt;
-                  free =
+                  tight =
                       let x = b .is lt in
                       let y = lowered-cell t h (b .tail-below lt) (b .head-below lt) (omega arith) (b .head-in lt) (b .tail-out lt) in
                       omega arith;
                 };
             lifts = λ _ root off w cs parent tr. rw is-one (charge-tree n (at ls) g cut (ms .is) root w cs parent tr off h (b .head-below lt) (b .head-in lt));
-            fine = λ _ root rl ne. rw is-one (more (record { proper = group-proper ms root rl ne h (b .head-below lt) (b .head-in lt); value = pos }) none-left);
+            proper-cuts = λ _ root rl ne. rw is-one (more (record { proper = group-proper ms root rl ne h (b .head-below lt) (b .head-in lt); value = pos }) none-left);
             unentered = λ e. absurd (not-both true refl e);
           }
 
@@ -128,15 +128,15 @@ module _ (ws ls : List ℕ) (n g : ℕ) (small : n ≤ max-vertices) {t h a : �
               head-below = b .head-below lt;
               tail-out = b .tail-out lt;
               head-in = b .head-in lt;
-              free = b .is lt ∙ z;
+              tight = b .is lt ∙ z;
             };
         lifts = λ _ root off w cs parent tr. rw e tr;
-        fine = λ _ root rl ne. rw e none-left;
+        proper-cuts = λ _ root rl ne. rw e none-left;
         unentered = λ x. absurd (not-both true refl x);
       }
 
   -- no arc at all
-  pub no-arcs : (cuts : List ℕ) (k s : ℕ) → length ws ≡ cells → length cuts ≡ cut-words → a ≡ no-arc → Members ls g n s
+  pub no-arcs : (cuts : List ℕ) (k s : ℕ) → length ws ≡ cells → length cuts ≡ cut-words → a ≡ no-arc → Members ls n g s
       → Charged-group ws ws ls n g k cuts cuts false no-parent no-parent k s
   no-arcs cuts k s size cuts-size e ms =
       record {
@@ -148,7 +148,7 @@ module _ (ws ls : List ℕ) (n g : ℕ) (small : n ≤ max-vertices) {t h a : �
         lowered = rw (no-cuts k cuts) (lowered-none n (cost ws));
         arc = λ x. absurd (not-both false x refl);
         lifts = λ x. absurd (not-both false x refl);
-        fine = λ x. absurd (not-both false x refl);
+        proper-cuts = λ x. absurd (not-both false x refl);
         unentered =
             λ _ root rl ne v l ve.
             record {

@@ -7,18 +7,18 @@ use Prim.Native.Nat.{ℕ, _+_, _≤_, _<_}
 use native.Mathlib.Omega.{arith}
 use lib.Dec.{ltb}
 use borrow.Author.Tests.{ltb-true, ltb-false}
-use Rattle.base.proofs.Tests.{test}
+use Rattle.base.proofs.BoolLaws.{test}
 use Rattle.instance.specs.Limits.{no-arc, no-parent}
 use Rattle.contraction.specs.Cells.{at, cost}
-use Rattle.charging.specs.Entering.{Cheapest}
+use Rattle.charging.specs.Entering.{Cheapest-arc}
 
 -- the cheapest into the vertices below h, and into h from the tails below a bound
 pub record Cheapest-so-far (ws ls : List ℕ) (n g h bound t v best : ℕ) : Type 0 where
-  pub earlier : Cheapest ws ls n g h t v best
+  pub earlier : Cheapest-arc ws ls n g h t v best
   pub here : (u : ℕ) → u < bound → at ls u ≢ g → best ≤ cost ws u h
 
 module _ (ws ls : List ℕ) (n g : ℕ) where
-  pub none-yet : Cheapest ws ls n g 0 no-parent no-parent no-arc
+  pub none-yet : Cheapest-arc ws ls n g 0 no-parent no-parent no-arc
   none-yet =
       record {
         most = omega arith;
@@ -31,8 +31,8 @@ module _ (ws ls : List ℕ) (n g : ℕ) where
       }
 
   -- nothing cheaper into vertex h
-  widen : (h : ℕ) {t v best : ℕ} → Cheapest ws ls n g h t v best → ((u : ℕ) → u < n → at ls h ≡ g → at ls u ≢ g → best ≤ cost ws u h)
-      → Cheapest ws ls n g (h + 1) t v best
+  widen : (h : ℕ) {t v best : ℕ} → Cheapest-arc ws ls n g h t v best → ((u : ℕ) → u < n → at ls h ≡ g → at ls u ≢ g → best ≤ cost ws u h)
+      → Cheapest-arc ws ls n g (h + 1) t v best
   widen h c more =
       record {
         most = c .most;
@@ -47,14 +47,14 @@ module _ (ws ls : List ℕ) (n g : ℕ) where
         is = c .is;
       }
 
-  pub skip-vertex : (h : ℕ) {t v best : ℕ} → Cheapest ws ls n g h t v best → at ls h ≢ g → Cheapest ws ls n g (h + 1) t v best
+  pub skip-vertex : (h : ℕ) {t v best : ℕ} → Cheapest-arc ws ls n g h t v best → at ls h ≢ g → Cheapest-arc ws ls n g (h + 1) t v best
   skip-vertex h c ne = widen h c (λ u l e ne′. absurd (ne e))
 
-  pub all-vertices : (h : ℕ) {t v best : ℕ} → Cheapest ws ls n g h t v best → h ≤ n → n ≤ h → Cheapest ws ls n g n t v best
+  pub all-vertices : (h : ℕ) {t v best : ℕ} → Cheapest-arc ws ls n g h t v best → h ≤ n → n ≤ h → Cheapest-arc ws ls n g n t v best
   all-vertices h c le end = let e : h ≡ n = omega arith in rw e at c
 
   module _ (h : ℕ) where
-    pub no-tail : {t v best : ℕ} → Cheapest ws ls n g h t v best → Cheapest-so-far ws ls n g h 0 t v best
+    pub no-tail : {t v best : ℕ} → Cheapest-arc ws ls n g h t v best → Cheapest-so-far ws ls n g h 0 t v best
     no-tail c = record { earlier = c; here = λ u l ne. absurd (omega arith) }
 
     pub pass-tail : (t : ℕ) {u v best : ℕ} → Cheapest-so-far ws ls n g h t u v best → (at ls t ≡ g) ⊎ (best ≤ cost ws t h)
@@ -91,5 +91,5 @@ module _ (ws ls : List ℕ) (n g : ℕ) where
         })
         (inr (omega arith))
 
-    pub all-tails : (t : ℕ) {u v best : ℕ} → Cheapest-so-far ws ls n g h t u v best → n ≤ t → Cheapest ws ls n g (h + 1) u v best
+    pub all-tails : (t : ℕ) {u v best : ℕ} → Cheapest-so-far ws ls n g h t u v best → n ≤ t → Cheapest-arc ws ls n g (h + 1) u v best
     all-tails t c l = widen h (c .earlier) (λ x b e ne. c .here x (omega arith) ne)

@@ -9,17 +9,17 @@ use lib.Dec.{ltb, eqb}
 use lib.ListN.{length, set, length-set}
 use lib.Seq.{getD-set-same, getD-set-other}
 use borrow.Author.Tests.{ltb-true, ltb-false, lt-ltb, le-ltb, eq-eqb, ne-eqb}
-use Rattle.base.proofs.Tests.{test, and-false-right}
+use Rattle.base.proofs.BoolLaws.{test, and-false-right}
 use Rattle.instance.specs.Limits.{max-vertices, no-arc, cells}
 use Rattle.instance.specs.Instance.{cell}
 use Rattle.contraction.specs.Cells.{at, cost}
-use Rattle.charging.specs.Lower.{low, Lowered-into, Lowered-cells}
+use Rattle.charging.specs.Lower.{lowered-weight, Lowered-into, Lowered-cells}
 
 module _ (ls : List ℕ) (g a : ℕ) where
-  pub low-in : (t h : ℕ) {x : ℕ} → at ls h ≡ g → at ls t ≢ g → x < no-arc → low ls g a t h x ≡ x - a
+  pub low-in : (t h : ℕ) {x : ℕ} → at ls h ≡ g → at ls t ≢ g → x < no-arc → lowered-weight ls g a t h x ≡ x - a
   low-in t h {x} e ne lt = rw (eq-eqb (at ls h) g e, ne-eqb (at ls t) g ne, lt-ltb x no-arc lt)
 
-  pub low-out : (t h : ℕ) {x : ℕ} → (at ls h ≢ g) ⊎ ((at ls t ≡ g) ⊎ (no-arc ≤ x)) → low ls g a t h x ≡ x
+  pub low-out : (t h : ℕ) {x : ℕ} → (at ls h ≢ g) ⊎ ((at ls t ≡ g) ⊎ (no-arc ≤ x)) → lowered-weight ls g a t h x ≡ x
   low-out t h {x} (inl ne) = rw (ne-eqb (at ls h) g ne)
   low-out t h {x} (inr (inl e)) = rw (eq-eqb (at ls t) g e, and-false-right (eqb (at ls h) g) false refl)
   low-out t h {x} (inr (inr le)) =
@@ -27,16 +27,16 @@ module _ (ls : List ℕ) (g a : ℕ) where
 
 -- INTO ONE VERTEX
 module _ (ws ls : List ℕ) (g a h : ℕ) (small : h < max-vertices) where
-  pub no-tail : length ws ≡ cells → Lowered-into ws ws ls g a h 0
+  pub no-tail : length ws ≡ cells → Lowered-into ws ws ls 0 g h a
   no-tail e = record { size = e; done = λ t l. absurd (omega arith); rest = λ t v l why. refl }
 
-  pub not-yet : (ws′ : List ℕ) (t : ℕ) → Lowered-into ws ws′ ls g a h t → cost ws′ t h ≡ cost ws t h
+  pub not-yet : (ws′ : List ℕ) (t : ℕ) → Lowered-into ws ws′ ls t g h a → cost ws′ t h ≡ cost ws t h
   not-yet ws′ t c = c .rest t h small (inl (omega arith))
 
-  pub all-tails : (ws′ : List ℕ) (t n : ℕ) → Lowered-into ws ws′ ls g a h t → t ≤ n → n ≤ t → Lowered-into ws ws′ ls g a h n
+  pub all-tails : (ws′ : List ℕ) (t n : ℕ) → Lowered-into ws ws′ ls t g h a → t ≤ n → n ≤ t → Lowered-into ws ws′ ls n g h a
   all-tails ws′ t n c le end = let e : t ≡ n = omega arith in rw e at c
 
-  pub pass-tail : (ws′ : List ℕ) (t : ℕ) → Lowered-into ws ws′ ls g a h t → (at ls t ≡ g) ⊎ (no-arc ≤ cost ws′ t h) → Lowered-into ws ws′ ls g a h (t + 1)
+  pub pass-tail : (ws′ : List ℕ) (t : ℕ) → Lowered-into ws ws′ ls t g h a → (at ls t ≡ g) ⊎ (no-arc ≤ cost ws′ t h) → Lowered-into ws ws′ ls (t + 1) g h a
   pass-tail ws′ t c why =
       let here = not-yet ws′ t c in
       record {
@@ -52,8 +52,8 @@ module _ (ws ls : List ℕ) (g a h : ℕ) (small : h < max-vertices) where
         rest = λ u v l w. c .rest u v l (⊎-elim (λ (d : t + 1 ≤ u). inl (omega arith)) (λ (d : v ≢ h). inr d) w);
       }
 
-  pub lower-tail : (ws′ : List ℕ) (t : ℕ) → Lowered-into ws ws′ ls g a h t → t < max-vertices → at ls h ≡ g → at ls t ≢ g → cost ws′ t h < no-arc
-      → Lowered-into ws (set ws′ (cell t h) (cost ws′ t h - a)) ls g a h (t + 1)
+  pub lower-tail : (ws′ : List ℕ) (t : ℕ) → Lowered-into ws ws′ ls t g h a → t < max-vertices → at ls h ≡ g → at ls t ≢ g → cost ws′ t h < no-arc
+      → Lowered-into ws (set ws′ (cell t h) (cost ws′ t h - a)) ls (t + 1) g h a
   lower-tail ws′ t c lt e ne th =
       let size = c .size in
       let here = not-yet ws′ t c in
@@ -100,7 +100,7 @@ module _ (ws ls : List ℕ) (n g a : ℕ) where
         rest = λ t v l why. c .rest t v l (⊎-elim (λ (d : n ≤ t). inl d) (λ (d : h + 1 ≤ v). inr (omega arith)) why);
       }
 
-  pub next-vertex : (ws₁ ws₂ : List ℕ) (h : ℕ) → h < max-vertices → Lowered-cells ws ws₁ ls n g a h → Lowered-into ws₁ ws₂ ls g a h n → Lowered-cells ws ws₂ ls n g a (h + 1)
+  pub next-vertex : (ws₁ ws₂ : List ℕ) (h : ℕ) → h < max-vertices → Lowered-cells ws ws₁ ls n g a h → Lowered-into ws₁ ws₂ ls n g h a → Lowered-cells ws ws₂ ls n g a (h + 1)
   next-vertex ws₁ ws₂ h small x y =
       record {
         size = y .size;
@@ -111,7 +111,7 @@ module _ (ws ls : List ℕ) (n g a : ℕ) where
             (λ (d : ltb v h ≡ false).
             let q = ltb-false v h d in
             let s : v ≡ h = omega arith in
-            rw s (y .done t l ∙ ap (low ls g a t h) (x .rest t h small (inr (omega arith)))))
+            rw s (y .done t l ∙ ap (lowered-weight ls g a t h) (x .rest t h small (inr (omega arith)))))
             (test (ltb v h));
         rest =
             λ t v l why.

@@ -18,17 +18,17 @@ shifted v l = ap (λ (x : ℕ). x % 4294967296) (one-mul (2 ^ v)) ∙ mod-eq-of-
 double : (v : ℕ) → 2 ^ (v + 1) ≡ 2 ^ v + 2 ^ v
 double v = ap (λ (x : ℕ). 2 ^ x) (add-one v) ∙ pow-suc 2 v ∙ omega arith
 
-pub no-members : (ls : List ℕ) (g : ℕ) → Members ls g 0 0
+pub no-members : (ls : List ℕ) (g : ℕ) → Members ls 0 g 0
 no-members ls g = record { below = omega arith; is = λ v l. absurd (omega arith) }
 
-module _ (ls : List ℕ) (g v r : ℕ) (m : Members ls g v r) (l : v < 32) where
+module _ (ls : List ℕ) (g v r : ℕ) (m : Members ls v g r) (l : v < 32) where
   pub member-fits : r + 1 * 2 ^ v % 4294967296 < 4294967296
   member-fits =
       let a = m .below in
       let b : 2 ^ (v + 1) ≤ 4294967296 = pow-mono {i = v + 1} {j = 32} (omega arith) in
       rw (shifted v l) (omega (arith, double v))
 
-  pub one-member : at ls v ≡ g → Members ls g (v + 1) (r + 1 * 2 ^ v % 4294967296)
+  pub one-member : at ls v ≡ g → Members ls (v + 1) g (r + 1 * 2 ^ v % 4294967296)
   one-member e =
       let a = m .below in
       rw (shifted v l)
@@ -40,7 +40,7 @@ module _ (ls : List ℕ) (g v r : ℕ) (m : Members ls g v r) (l : v < 32) where
             (λ (s : u < v). inside-low r v u s ∙ m .is u s) (eq-or-lt-of-le {n = u} {m = v} (omega arith));
       })
 
-  pub no-member : at ls v ≢ g → Members ls g (v + 1) r
+  pub no-member : at ls v ≢ g → Members ls (v + 1) g r
   no-member ne =
       let a = m .below in
       record {

@@ -8,7 +8,7 @@ use lib.ListN.{length}
 use Rattle.instance.specs.Limits.{no-arc, cells, cut-words}
 use Rattle.instance.specs.Cuts.{Cut, cuts-from, enters}
 use Rattle.contraction.specs.Groups.{Lowered}
-use Rattle.contraction.specs.Trees.{Each, Tree, Proper, Fine}
+use Rattle.contraction.specs.Trees.{Each, Tree, Proper, Proper-cut}
 use Rattle.contraction.specs.Cells.{at, cost}
 
 -- an arc of weight 0 into group g
@@ -17,7 +17,7 @@ pub record Chosen-arc (ws ls : List ℕ) (n g t h : ℕ) : Type 0 where
   pub head-below : h < n
   pub tail-out : at ls t ≢ g
   pub head-in : at ls h ≡ g
-  pub free : cost ws t h ≡ 0
+  pub tight : cost ws t h ≡ 0
 
 -- a set of vertices that no arc enters
 pub record Unentered (n root : ℕ) (ws : List ℕ) (set : ℕ) : Type 0 where
@@ -37,5 +37,5 @@ pub record Charged-group (ws ws′ ls : List ℕ) (n g k : ℕ) (cuts cuts′ : 
   pub lifts :
       found ≡ true → (root : ℕ) → at ls root ≢ g → (w : ℕ → ℕ → ℕ) (cs : List Cut) (parent : ℕ → ℕ) → Tree n root w (at ls) cs parent
       → Tree n root w (at ls) (cuts-from (next - k) k cuts′ ++ cs) parent
-  pub fine : found ≡ true → (root : ℕ) → root < n → at ls root ≢ g → Each (Fine n root) (cuts-from (next - k) k cuts′)
+  pub proper-cuts : found ≡ true → (root : ℕ) → root < n → at ls root ≢ g → Each (Proper-cut n root) (cuts-from (next - k) k cuts′)
   pub unentered : found ≡ false → (root : ℕ) → root < n → at ls root ≢ g → (v : ℕ) → v < n → at ls v ≡ g → Unentered n root ws set

@@ -7,7 +7,7 @@ use Rattle.instance.specs.Limits.{no-arc}
 use Rattle.contraction.specs.Cells.{at, cost}
 
 -- of the arcs into the vertices of group g below a bound, the cheapest, from t to h; no-arc where there is none
-pub record Cheapest (ws ls : List ℕ) (n g bound t h best : ℕ) : Type 0 where
+pub record Cheapest-arc (ws ls : List ℕ) (n g bound t h best : ℕ) : Type 0 where
   pub most : best ≤ no-arc
   pub least : (u v : ℕ) → u < n → v < bound → at ls v ≡ g → at ls u ≢ g → best ≤ cost ws u v
   pub tail-below : best < no-arc → t < n

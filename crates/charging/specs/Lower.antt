@@ -18,17 +18,17 @@ abbrev pub Affords : (ws ls : List ℕ) (n g value : ℕ) → Type 0
 Affords ws ls n g a = (h : ℕ) → h < n → at ls h ≡ g → Affords-into ws ls n g h a
 
 -- what an arc of weight x becomes
-abbrev pub low : (ls : List ℕ) (g value t h x : ℕ) → ℕ
-low ls g a t h x = cond (eqb (at ls h) g && (not (eqb (at ls t) g) && ltb x no-arc)) (x - a) x
+abbrev pub lowered-weight : (ls : List ℕ) (g value t h x : ℕ) → ℕ
+lowered-weight ls g a t h x = cond (eqb (at ls h) g && (not (eqb (at ls t) g) && ltb x no-arc)) (x - a) x
 
 -- the arcs into h from tails below a bound are lowered, all others are as they were
-pub record Lowered-into (ws ws′ ls : List ℕ) (g value h bound : ℕ) : Type 0 where
+pub record Lowered-into (ws ws′ ls : List ℕ) (bound g h value : ℕ) : Type 0 where
   pub size : length ws′ ≡ cells
-  pub done : (t : ℕ) → t < bound → cost ws′ t h ≡ low ls g value t h (cost ws t h)
+  pub done : (t : ℕ) → t < bound → cost ws′ t h ≡ lowered-weight ls g value t h (cost ws t h)
   pub rest : (t v : ℕ) → v < max-vertices → (bound ≤ t) ⊎ (v ≢ h) → cost ws′ t v ≡ cost ws t v
 
 -- the arcs into vertices below a bound are lowered, all others are as they were
 pub record Lowered-cells (ws ws′ ls : List ℕ) (n g value bound : ℕ) : Type 0 where
   pub size : length ws′ ≡ cells
-  pub done : (t h : ℕ) → t < n → h < bound → cost ws′ t h ≡ low ls g value t h (cost ws t h)
+  pub done : (t h : ℕ) → t < n → h < bound → cost ws′ t h ≡ lowered-weight ls g value t h (cost ws t h)
   pub rest : (t h : ℕ) → h < max-vertices → (n ≤ t) ⊎ (bound ≤ h) → cost ws′ t h ≡ cost ws t h

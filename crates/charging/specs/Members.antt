@@ -7,6 +7,6 @@ use Rattle.instance.specs.Cuts.{inside}
 use Rattle.contraction.specs.Cells.{at}
 
 -- the vertices of group g below a bound, as bits
-pub record Members (ls : List ℕ) (g bound set : ℕ) : Type 0 where
+pub record Members (ls : List ℕ) (bound g set : ℕ) : Type 0 where
   pub below : set < 2 ^ bound
   pub is : (v : ℕ) → v < bound → inside set v ≡ eqb (at ls v) g

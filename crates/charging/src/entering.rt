@@ -5,7 +5,7 @@ ghost use mathlib.Core.Path.{_≡_};
 ghost use Prim.Native.Nat.{_+_, _≤_, _<_};
 ghost use Rattle.instance.specs.Limits.{max-vertices};
 ghost use Rattle.contraction.specs.Cells.{at};
-ghost use Rattle.charging.specs.Entering.{Cheapest};
+ghost use Rattle.charging.specs.Entering.{Cheapest-arc};
 use instance::Vertex;
 use instance::limits::CELLS;
 use instance::limits::NO_ARC;
@@ -32,8 +32,8 @@ fn cheapest_into(
     best: Entering,
 ) -> Entering
     requires { ⌜ (n ≤ max-vertices) × (g .0 < n) × (h < n) × (at (now label) h ≡ g .0) ⌝ }
-    requires { ⌜ Cheapest (now w) (now label) n (g .0) h (best .tail .0) (best .head .0) (best .weight) ⌝ }
-    ensures { λ r. ⌜ Cheapest (now (w .entry)) (now (label .entry)) n (g .0) (h + 1) (r .tail .0) (r .head .0) (r .weight) ⌝ }
+    requires { ⌜ Cheapest-arc (now w) (now label) n (g .0) h (best .tail .0) (best .head .0) (best .weight) ⌝ }
+    ensures { λ r. ⌜ Cheapest-arc (now (w .entry)) (now (label .entry)) n (g .0) (h + 1) (r .tail .0) (r .head .0) (r .weight) ⌝ }
 {
     let group = g.0 as u8;
     let mut tail = best.tail.0;
@@ -60,7 +60,7 @@ fn cheapest_into(
 
 pub fn cheapest_arc(w: &[u32; CELLS], label: &[u8; VERTICES], n: usize, g: Vertex) -> Entering
     requires { ⌜ (n ≤ max-vertices) × (g .0 < n) ⌝ }
-    ensures { λ r. ⌜ Cheapest (now (w .entry)) (now (label .entry)) n (g .0) n (r .tail .0) (r .head .0) (r .weight) ⌝ }
+    ensures { λ r. ⌜ Cheapest-arc (now (w .entry)) (now (label .entry)) n (g .0) n (r .tail .0) (r .head .0) (r .weight) ⌝ }
 {
     let own = g.0 as u8;
     let mut best = Entering {

@@ -22,7 +22,7 @@ fn lower_into(
 )
     requires { ⌜ (length (now w) ≡ cells) × (n ≤ max-vertices) × (g .0 < n) × (h < n) × (at (now label) h ≡ g .0) ⌝ }
     requires { ⌜ Affords-into (now w) (now label) n (g .0) h value ⌝ }
-    ensures { λ _. ⌜ Lowered-into (now (w .entry)) (now (w .exit)) (now (label .entry)) (g .0) value h n ⌝ }
+    ensures { λ _. ⌜ Lowered-into (now (w .entry)) (now (w .exit)) (now (label .entry)) n (g .0) h value ⌝ }
 {
     let group = g.0 as u8;
     let mut t: usize = 0;

@@ -9,7 +9,7 @@ use instance::limits::VERTICES;
 // One bit for each vertex of the group.
 pub fn members(label: &[u8; VERTICES], n: usize, g: Vertex) -> u32
     requires { ⌜ (n ≤ max-vertices) × (g .0 < n) ⌝ }
-    ensures { λ r. ⌜ Members (now (label .entry)) (g .0) n r ⌝ }
+    ensures { λ r. ⌜ Members (now (label .entry)) n (g .0) r ⌝ }
 {
     let group = g.0 as u8;
     let mut set: u32 = 0;

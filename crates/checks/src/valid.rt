@@ -4,7 +4,7 @@ ghost use Prim.Native.Nat.{_<_};
 ghost use lib.ListN.{length};
 ghost use Rattle.base.specs.Bounded.{all-below};
 ghost use Rattle.instance.specs.Limits.{cells};
-ghost use Rattle.instance.specs.Instance.{instance-with};
+ghost use Rattle.instance.specs.Instance.{without-budget};
 ghost use Rattle.instance.specs.Valid.{cell-ok, cell-valid, header-valid};
 use crate::arc::can_be_arc;
 use instance::limits::BANNED;
@@ -36,7 +36,7 @@ fn cell_valid<'a>(
 ) -> bool
     requires { ⌜ i < cells ⌝ }
     requires { ⌜ (length (now weights) ≡ cells) × (length (now marks) ≡ cells) ⌝ }
-    ensures { λ r. ⌜ r ≡ cell-valid (instance-with n root 0 (now (weights .entry)) (now (marks .entry))) i ⌝ }
+    ensures { λ r. ⌜ r ≡ cell-valid (without-budget n root (now (weights .entry)) (now (marks .entry))) i ⌝ }
 {
     if can_be_arc(n, root, (i / 32) as u32, (i % 32) as u32) {
         return cell_ok(weights[i], marks[i]);
@@ -47,7 +47,7 @@ fn cell_valid<'a>(
 // Every cell where an arc can be; the others are never looked at.
 pub fn cells_valid<'a>(weights: &'a [u32; CELLS], marks: &'a [u8; CELLS], n: u32, root: u32) -> bool
     requires { ⌜ (length (now weights) ≡ cells) × (length (now marks) ≡ cells) ⌝ }
-    ensures { λ r. ⌜ r ≡ all-below cells (cell-valid (instance-with n root 0 (now (weights .entry)) (now (marks .entry)))) ⌝ }
+    ensures { λ r. ⌜ r ≡ all-below cells (cell-valid (without-budget n root (now (weights .entry)) (now (marks .entry)))) ⌝ }
 {
     let mut k: usize = CELLS;
     while 0 < k {

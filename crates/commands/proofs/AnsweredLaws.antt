@@ -14,7 +14,7 @@ use lib.Seq.{getD-set-same, getD-set-other, set-out}
 use borrow.Author.Tests.{le-leb, ltb-true, leb-true, ltb-false}
 use Rattle.base.specs.Bounded.{all-below}
 use Rattle.base.specs.Lists.{any-of, all-of}
-use Rattle.base.proofs.Tests.{and-left, and-right, test}
+use Rattle.base.proofs.BoolLaws.{and-left, and-right, cond-true, test}
 use Rattle.base.proofs.BoundedLaws.{all-at, all-intro}
 use Rattle.base.proofs.AllOfLaws.{all-of-first, all-of-rest, all-of-more}
 use Rattle.instance.specs.Limits.{max-vertices, max-budget, free, banned, max-records, cells}
@@ -39,10 +39,6 @@ mark-low Pinned = omega arith
 mark-low Banned = omega arith
 
 -- A MARK ON AN ARC
-any-true : (b : Bool) → cond b true true ≡ true
-any-true true = refl
-any-true false = refl
-
 -- the named cell: a mark in range beside a weight in range (past the end of the marks nothing is set)
 mark-here :
     (s : Instance) (m t h : ℕ) → s .n ≤ max-vertices → all-below cells (cell-valid s) ≡ true → is-arc s t h ≡ true → m ≤ banned →
@@ -51,8 +47,8 @@ unfolding cell-valid with-mark cell-ok weight
 mark-here s m t h l a e k j =
     ⊎-elim
     (λ i.
-    rw (getD-set-same (s .marks) (cell t h) m free (ltb-true (cell t h) (length (s .marks)) i), arc-in-range s t h l a e .weight-in, le-leb m banned k)
-    (any-true (can-be-arc (s .n) (s .root) (cell t h / 32) (cell t h % 32))))
+    rw (getD-set-same (s .marks) (cell t h) m free (ltb-true (cell t h) (length (s .marks)) i), arc-in-range s t h l a e .weight-most, le-leb m banned k)
+    (cond-true (can-be-arc (s .n) (s .root) (cell t h / 32) (cell t h % 32))))
     (λ i. rw (set-out (s .marks) (cell t h) m (ltb-false (cell t h) (length (s .marks)) i)) (all-at cells (cell-valid s) (cell t h) j a))
     (test (ltb (cell t h) (length (s .marks))))
 
@@ -121,7 +117,7 @@ marked-valid m t h b v =
     let r = old-mark t h (mark s t h) in
     mark-cases (λ d. Valid (d .board)) b (refused-valid b v) m t h
     (λ a l.
-    let o = mark-recorded s t h (mark s t h) a (arc-in-range s t h (v .n-high) (v .cells-ok) a .mark-in) in
+    let o = mark-recorded s t h (mark s t h) a (arc-in-range s t h (v .n-high) (v .cells-ok) a .mark-most) in
     mark-valid (mark-number m) t h b (mark-low m) v a (r ∷ b .history) l (all-of-more (record-ok s) r (b .history) o (v .records-ok)))
 
 budgeted-valid : (w : ℕ) (b : Model) → Valid b → Valid (budgeted w b .board)

@@ -10,7 +10,7 @@ use lib.ListN.{length-set}
 use lib.Seq.{getD-set-other}
 use borrow.Author.Tests.{eq-eqb}
 use Rattle.base.specs.Lists.{all-of}
-use Rattle.base.proofs.Tests.{not-both, and-left, and-both}
+use Rattle.base.proofs.BoolLaws.{not-both, and-left, and-both}
 use Rattle.instance.specs.Limits.{max-vertices, free, banned}
 use Rattle.instance.specs.Refusals.{invalid-board}
 use Rattle.instance.specs.Marks.{mark-number}

@@ -11,7 +11,7 @@ use lib.ListN.{length, getD, set, length-set}
 use lib.Seq.{getD-set-same, getD-set-other}
 use borrow.Author.Tests.{eq-eqb, eqb-true, not-false}
 use Rattle.base.specs.Lists.{tabulate, all-of}
-use Rattle.base.proofs.Tests.{and-not, not-both}
+use Rattle.base.proofs.BoolLaws.{and-not, not-both}
 use Rattle.base.proofs.AllOfLaws.{all-of-first, all-of-rest, all-of-more}
 use Rattle.base.proofs.ListLaws.{length-tabulate, getD-tabulate, tabulate-is}
 use Rattle.instance.specs.Limits.{max-vertices, max-budget, free, max-records, cells}

@@ -12,7 +12,7 @@ use native.Mathlib.Omega.{arith}
 use lib.Dec.{ltb, leb}
 use lib.ListN.{length}
 use borrow.Author.Tests.{ltb-true, not-false}
-use Rattle.base.proofs.Tests.{and-left, and-right}
+use Rattle.base.proofs.BoolLaws.{and-left, and-right}
 use Rattle.instance.specs.Limits.{max-vertices, max-budget, max-records, cells}
 use Rattle.instance.specs.Refusals.{bad-budget, history-full}
 use Rattle.instance.specs.Marks.{mark-number}

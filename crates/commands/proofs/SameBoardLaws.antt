@@ -16,7 +16,7 @@ use Rattle.instance.specs.Instance.{Instance, cell, weight, mark}
 use Rattle.instance.specs.Valid.{valid-instance}
 use Rattle.instance.specs.Same.{Same-instance}
 use Rattle.instance.specs.declared.Mark.{Mark}
-use Rattle.instance.proofs.SameInstances.{same-is-arc, same-arc-mark, same-valid-instance}
+use Rattle.instance.proofs.SameLaws.{same-is-arc, same-arc-mark, same-valid-instance}
 use Rattle.commands.specs.Model.{Replaced, old-mark, old-budget, Model, with-mark, with-budget, restored}
 use Rattle.commands.specs.Valid.{record-ok, valid}
 use Rattle.commands.specs.Commands.{Command, set-mark, set-budget, undo, Result, refused, accepted, decided, mark-refusal, marked, budget-refusal, budgeted, undone, applied, answered, answers, board-after}

@@ -10,7 +10,7 @@ use lib.ListN.{length}
 use borrow.Author.Tests.{lt-ltb, lt-leb, le-leb, leb-true}
 use Rattle.base.specs.Bounded.{all-below}
 use Rattle.base.specs.Lists.{all-of}
-use Rattle.base.proofs.Tests.{and-left, and-right}
+use Rattle.base.proofs.BoolLaws.{and-left, and-right}
 use Rattle.base.proofs.AllOfLaws.{all-of-eq}
 use Rattle.instance.specs.Limits.{max-vertices, max-budget, banned, max-records, cells}
 use Rattle.instance.specs.Instance.{Instance, cell, weight, is-arc}

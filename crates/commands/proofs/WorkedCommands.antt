@@ -11,7 +11,7 @@ use Rattle.instance.specs.Limits.{banned}
 use Rattle.instance.specs.Instance.{Instance, weight, mark, can-be-arc, is-arc}
 use Rattle.instance.specs.declared.Mark.the-variants.{Free, Pinned, Banned}
 use Rattle.instance.specs.Valid.{cell-ok, cell-valid, header-valid, valid-instance}
-use Rattle.instance.proofs.WorkedCases.{arc, filled, instance-of, instance-q}
+use Rattle.instance.proofs.WorkedCases.{arc, filled, instance-from, instance-q}
 use Rattle.commands.specs.Model.{Replaced, old-mark, old-budget, Model, opened, with-mark, with-budget, restored}
 use Rattle.commands.specs.Valid.{record-ok, valid}
 use Rattle.commands.specs.Commands.{Command, set-mark, set-budget, undo, refused, accepted, decided, arc-refusal, mark-refusal, marked, budget-refusal, budgeted, undone, applied, answered, answers, board-after}
@@ -34,7 +34,7 @@ pub record Board-case : Type 0 where
   pub answer : ℕ
 
 abbrev model : (root budget weight mark : ℕ) → List Replaced → Model
-model r b w m rs = record { instance = instance-of 3 r b (arc 0 2 4 ∷ arc 2 0 w ∷ arc 0 1 2000000 ∷ []) (arc 2 0 m ∷ arc 1 1 7 ∷ []); history = rs }
+model r b w m rs = record { instance = instance-from 3 r b (arc 0 2 4 ∷ arc 2 0 w ∷ arc 0 1 2000000 ∷ []) (arc 2 0 m ∷ arc 1 1 7 ∷ []); history = rs }
 
 abbrev with-history : List Replaced → Model
 with-history rs = model 1 5 1000000 banned rs
@@ -73,7 +73,7 @@ models =
 -- THE CLAIM ABOUT BOARDS: "On a board, 15 comes first"
 pub judged : map (λ j. answered (pin 99 99) (j .of) .answer) models ≡ map (λ j. j .answer) models
 unfolding
-    models instance-of filled all-below all-of weight can-be-arc is-arc cell-ok cell-valid header-valid valid-instance record-ok valid refused decided
+    models instance-from filled all-below all-of weight can-be-arc is-arc cell-ok cell-valid header-valid valid-instance record-ok valid refused decided
     arc-refusal mark-refusal marked applied answered
 judged = refl
 
@@ -90,18 +90,18 @@ pub record Command-case : Type 0 where
   pub leaves : Left
 
 -- n times n marks, tail by tail
-unfoldable pub marks-in : Instance → List ℕ
-marks-in s = tabulate (s .n * s .n) (λ i. mark s (i / s .n) (i % s .n))
+unfoldable pub all-marks : Instance → List ℕ
+all-marks s = tabulate (s .n * s .n) (λ i. mark s (i / s .n) (i % s .n))
 
 unfoldable pub on-board : Instance → List Command → Left
 on-board s cs =
     let b = board-after applied cs (opened s) in
-    record { answers = answers applied cs (opened s); marks = marks-in (b .instance); budget = b .instance .budget }
+    record { answers = answers applied cs (opened s); marks = all-marks (b .instance); budget = b .instance .budget }
 
 unfoldable pub in-log : Instance → List Command → Left
 in-log s cs =
     let t = effective (log-after cs (new-log s)) in
-    record { answers = log-answers cs (new-log s); marks = marks-in t; budget = t .budget }
+    record { answers = log-answers cs (new-log s); marks = all-marks t; budget = t .budget }
 
 unfoldable pub runs : List Command-case
 runs =
@@ -143,7 +143,7 @@ runs =
 -- THE CLAIM ABOUT COMMANDS
 pub run : map (λ r. on-board (r .from) (r .commands) ∷ in-log (r .from) (r .commands) ∷ []) runs ≡ map (λ r. r .leaves ∷ r .leaves ∷ []) runs
 unfolding
-    runs on-board in-log marks-in instance-q instance-of filled tabulate-from tabulate weight mark can-be-arc is-arc opened with-mark with-budget
+    runs on-board in-log all-marks instance-q instance-from filled tabulate-from tabulate weight mark can-be-arc is-arc opened with-mark with-budget
     restored refused accepted decided arc-refusal mark-refusal marked budget-refusal budgeted undone applied answers board-after new-log with-entries
     log-length unnoted noted note-arcs note-mark note-budget note-undo note effective-mark effective-budget effective log-answers log-after
 run = refl

@@ -9,7 +9,7 @@ use Prim.Native.Nat.{ℕ, _+_, _≤_, _<_}
 use native.Mathlib.Omega.{arith}
 use lib.Dec.{eqb}
 use borrow.Author.Tests.{eqb-true, eqb-false, eq-eqb, ne-eqb}
-use Rattle.base.proofs.Tests.{test, not-both, and-false-right}
+use Rattle.base.proofs.BoolLaws.{test, not-both, and-false-right}
 use Rattle.instance.specs.Limits.{max-vertices, no-arc}
 use Rattle.instance.specs.Cuts.{Cut, inside, enters, charged}
 use Rattle.contraction.specs.Groups.{Lowered}
@@ -68,7 +68,7 @@ module _ (n : ℕ) (label : ℕ → ℕ) (g : ℕ) (c : Cut) (is : (v : ℕ) →
     pub charge-tree : (v : ℕ) → v < n → label v ≡ g → Tree n root w label (c ∷ cs) parent
     charge-tree v l e =
         record {
-          free = t .free;
+          tight = t .tight;
           between = t .between;
           no-root = t .no-root;
           only = t .only;

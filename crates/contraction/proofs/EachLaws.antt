@@ -39,7 +39,7 @@ module _ (n root : ℕ) (w : ℕ → ℕ → ℕ) (label label₂ parent parent�
   tree-same cs t =
       let has : (v : ℕ) → v < n → parent₂ v < n → parent v < n = λ v l h. rw (same-p v l) at h in
       record {
-        free = λ v l h. rw (same-p v l) (t .free v l (has v l h));
+        tight = λ v l h. rw (same-p v l) (t .tight v l (has v l h));
         between = λ v l h. rw (same-p v l) (rw (same (parent v) (has v l h)) (rw (same v l) (t .between v l (has v l h))));
         no-root = λ v l h. rw (same v l) (rw (same root root-below) (t .no-root v l (has v l h)));
         only = λ u v l m h i e. t .only u v l m (has u l h) (has v m i) (sym (same u l) ∙ e ∙ same v m);

@@ -9,15 +9,11 @@ use mathlib.Core.Logic.{_⊎_, inl, inr, ⊎-elim, _≢_}
 use Prim.Native.Nat.{ℕ, _<_}
 use lib.Dec.{eqb}
 use borrow.Author.Tests.{eqb-true, eqb-false, eq-eqb, ne-eqb, not-true}
-use Rattle.base.proofs.Tests.{test, not-both, and-left, and-right}
+use Rattle.base.proofs.BoolLaws.{test, not-both, and-left, and-right, not-and-self}
 use Rattle.instance.specs.Cuts.{Cut, inside, enters}
 use Rattle.contraction.specs.Groups.{Along, stop, go, Cycle, contracted, expanded}
 use Rattle.contraction.specs.Trees.{Reached, here, step, Once, Union, Tree}
 use Rattle.contraction.proofs.EachLaws.{each-map, each-zip}
-
-not-self : (b : Bool) → not b && b ≡ false
-not-self true = refl
-not-self false = refl
 
 module _ (n root : ℕ) (w : ℕ → ℕ → ℕ) (label tail head : ℕ → ℕ) (on : ℕ → Bool) (c : ℕ) (cy : Cycle n root w label tail head on c)
     (cs : List Cut) (parent : ℕ → ℕ) (t : Tree n root w (contracted label on c) cs parent)
@@ -127,7 +123,7 @@ module _ (n root : ℕ) (w : ℕ → ℕ → ℕ) (label tail head : ℕ → ℕ
   no-enter d u v l m a x =
       let on-tail : on (label (parent′ v)) ≡ true = rw (a .is) (cy .tail-on (label v) (a .cycle)) in
       not-both (enters (d .set) (parent′ v) v) x
-      (rw (u (parent′ v) v m l (coarse-on (parent′ v) on-tail ∙ sym (coarse-on v (a .cycle)))) (not-self (inside (d .set) v)))
+      (rw (u (parent′ v) v m l (coarse-on (parent′ v) on-tail ∙ sym (coarse-on v (a .cycle)))) (not-and-self (inside (d .set) v)))
 
   once-still : (d : Cut) → Union n coarse d → Once n parent d → Once n parent′ d
   once-still d u o =
@@ -145,10 +141,10 @@ module _ (n root : ℕ) (w : ℕ → ℕ → ℕ) (label tail head : ℕ → ℕ
   pub expand-tree : Tree n root w label cs parent′
   expand-tree =
       record {
-        free =
+        tight =
             λ v l h.
-            ⊎-elim (λ (a : Takes v). rw (a .is) (subst (λ (x : ℕ). w (tail (label v)) x ≡ 0) (a .at-head) (cy .free (label v) (a .cycle))))
-            (λ (b : parent′ v ≡ parent v). rw b (t .free v l (rw b at h))) (cases v);
+            ⊎-elim (λ (a : Takes v). rw (a .is) (subst (λ (x : ℕ). w (tail (label v)) x ≡ 0) (a .at-head) (cy .tight (label v) (a .cycle))))
+            (λ (b : parent′ v ≡ parent v). rw b (t .tight v l (rw b at h))) (cases v);
         between =
             λ v l h.
             ⊎-elim (λ (a : Takes v). rw (a .is) (cy .tail-out (label v) (a .cycle)))

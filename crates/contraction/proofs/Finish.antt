@@ -11,7 +11,7 @@ use lib.Dec.{ltb, leb, eqb}
 use lib.ListN.{length}
 use borrow.Author.Tests.{eqb-true, eqb-false, eq-eqb, ne-eqb, lt-ltb, le-leb, ltb-true, ltb-false}
 use Rattle.base.specs.Bounded.{sum-below}
-use Rattle.base.proofs.Tests.{test, and-both, and-false-right}
+use Rattle.base.proofs.BoolLaws.{test, and-both, and-false-right}
 use Rattle.base.proofs.BoundedLaws.{sum-add, sum-zero, sum-eq}
 use Rattle.base.proofs.CountingLaws.{sum-one}
 use Rattle.base.proofs.CondLaws.{cond-zero, cond-add}
@@ -22,24 +22,24 @@ use Rattle.instance.specs.Cuts.{Cut, inside, enters, charged, values, set-ok, s
 use Rattle.instance.proofs.ArborescenceLaws.{make-arborescence}
 use Rattle.instance.proofs.ReachLaws.{enough}
 use Rattle.contraction.specs.Groups.{Lowered}
-use Rattle.contraction.specs.Trees.{Each, none-left, more, Reached, here, step, Once, Tree, Proper, Fine}
+use Rattle.contraction.specs.Trees.{Each, none-left, more, Reached, here, step, Once, Tree, Proper, Proper-cut}
 use Rattle.contraction.proofs.ArcWeights.{Arc-weights}
 
 -- SETS
-pub set-fine : (s : Instance) (c : ℕ) → Proper (s .n) (s .root) c → set-ok s c ≡ true
+pub set-proper : (s : Instance) (c : ℕ) → Proper (s .n) (s .root) c → set-ok s c ≡ true
 unfolding set-ok
-set-fine s c p =
+set-proper s c p =
     and-both (ltb 0 c && ltb c (2 ^ s .n)) (not (inside c (s .root))) (and-both (ltb 0 c) (ltb c (2 ^ s .n)) (lt-ltb 0 c (p .some)) (lt-ltb c (2 ^ s .n) (p .below))) (rw (p .no-root))
 
-sets-fine : (s : Instance) (cs : List Cut) → Each (Fine (s .n) (s .root)) cs → sets-ok s cs ≡ true
+sets-proper : (s : Instance) (cs : List Cut) → Each (Proper-cut (s .n) (s .root)) cs → sets-ok s cs ≡ true
 unfolding sets-ok
-sets-fine s [] none-left = refl
-sets-fine s (c ∷ cs) (more f fs) = and-both (set-ok s (c .set)) (sets-ok s cs) (set-fine s (c .set) (f .proper)) (sets-fine s cs fs)
+sets-proper s [] none-left = refl
+sets-proper s (c ∷ cs) (more f fs) = and-both (set-ok s (c .set)) (sets-ok s cs) (set-proper s (c .set) (f .proper)) (sets-proper s cs fs)
 
-positive-fine : {n root : ℕ} (cs : List Cut) → Each (Fine n root) cs → all-positive cs ≡ true
+cuts-positive : {n root : ℕ} (cs : List Cut) → Each (Proper-cut n root) cs → all-positive cs ≡ true
 unfolding all-positive
-positive-fine [] none-left = refl
-positive-fine (c ∷ cs) (more f fs) = and-both (leb 1 (c .value)) (all-positive cs) (le-leb 1 (c .value) (f .value)) (positive-fine cs fs)
+cuts-positive [] none-left = refl
+cuts-positive (c ∷ cs) (more f fs) = and-both (leb 1 (c .value)) (all-positive cs) (le-leb 1 (c .value) (f .value)) (cuts-positive cs fs)
 
 -- WHAT IS CHARGED NOTHING: an arc from a vertex to itself, and one into the root
 pub charged-self : (cs : List Cut) (t : ℕ) → charged cs t t ≡ 0
@@ -51,7 +51,7 @@ charged-self (c ∷ cs) t = let r = charged-self cs t in rw r (go (inside (c .se
     go true = omega arith
     go false = omega arith
 
-pub charged-root : {n root : ℕ} (cs : List Cut) (t : ℕ) → Each (Fine n root) cs → charged cs t root ≡ 0
+pub charged-root : {n root : ℕ} (cs : List Cut) (t : ℕ) → Each (Proper-cut n root) cs → charged cs t root ≡ 0
 unfolding charged enters
 charged-root [] t none-left = refl
 charged-root (c ∷ cs) t (more f fs) = rw (f .proper .no-root, and-false-right (not (inside (c .set) t)) false refl, charged-root cs t fs)
@@ -77,14 +77,14 @@ module _ (s : Instance) (w w′ : ℕ → ℕ → ℕ) (ps : List ℕ) (cs : Lis
   arrived : (v : ℕ) → v < s .n → reaches (s .n) (s .root) ps v ≡ true
   arrived v l = let k = some v (t .reached v l) in enough (s .n) (s .root) ps root-below has-all (k .0) v l (k .1)
 
-  -- an arc that is free now was there at first
+  -- an arc that is tight now was there at first
   was-there : (v : ℕ) → v < s .n → parent ps v < s .n → w (parent ps v) v < no-arc
   was-there v l h =
       ⊎-elim (λ (d : ltb (w (parent ps v) v) no-arc ≡ true). ltb-true (w (parent ps v) v) no-arc d)
       (λ (d : ltb (w (parent ps v) v) no-arc ≡ false).
       let a = ltb-false (w (parent ps v) v) no-arc d in
       let e = lo .same (parent ps v) v (omega arith) (inr (inr a)) in
-      let z = t .free v l h in
+      let z = t .tight v l h in
       absurd (omega arith))
       (test (ltb (w (parent ps v) v) no-arc))
 
@@ -102,7 +102,7 @@ module _ (s : Instance) (w w′ : ℕ → ℕ → ℕ) (ps : List ℕ) (cs : Lis
   tight v l ne =
       let h = has-all v l ne in
       let x = lo .paid (parent ps v) v h l (was-there v l h) in
-      let z = t .free v l h in
+      let z = t .tight v l h in
       let e = sh .is (parent ps v) v (arc v l ne) in
       omega arith
 
@@ -144,19 +144,19 @@ module _ (s : Instance) (w w′ : ℕ → ℕ → ℕ) (ps : List ℕ) (cs : Lis
       ∙ sum-eq (s .n) (paid cs) (λ v. cond (eqb v (s .root)) 0 (weight s (parent ps v) v))
       (λ v l. ⊎-elim (λ (r : eqb v (s .root) ≡ true). rw r) (λ (r : eqb v (s .root) ≡ false). rw (r, tight v l r)) (test (eqb v (s .root))))
 
-  pub proves : Each (Fine (s .n) (s .root)) cs → length cs ≤ cut-limit (s .n) → Proves s cs (total s ps)
-  proves fine few =
+  pub proves : Each (Proper-cut (s .n) (s .root)) cs → length cs ≤ cut-limit (s .n) → Proves s cs (total s ps)
+  proves proper-cuts few =
       record {
         feasible =
             record {
-              sets = sets-fine s cs fine;
+              sets = sets-proper s cs proper-cuts;
               covered =
                   λ u v r.
                   let x = lo .paid u v (sh .tail-below u v r) (sh .head-below u v r) (sh .there u v r) in
                   let e = sh .is u v r in
                   omega arith;
             };
-        positive = positive-fine cs fine;
+        positive = cuts-positive cs proper-cuts;
         few = few;
         adds = total-values;
       }

@@ -38,7 +38,7 @@ lowered-twice {n} {w} {w₁} {w₂} {cs} {ds} a b =
 pub lowered-there : {n : ℕ} {w w′ : ℕ → ℕ → ℕ} {cs : List Cut} → Lowered n w w′ cs → (t h : ℕ) → t < n → h < n → w t h < no-arc → w′ t h < no-arc
 lowered-there lo t h l m p = let x = lo .paid t h l m p in omega arith
 
--- chosen arcs stay free
+-- chosen arcs stay tight
 pub chosen-lowered : {n root : ℕ} {w w′ : ℕ → ℕ → ℕ} {label tail head : ℕ → ℕ} {cs : List Cut} → Lowered n w w′ cs
     → Chosen n root w label tail head → Chosen n root w′ label tail head
 chosen-lowered {tail = tail} {head = head} lo ch =
@@ -47,9 +47,9 @@ chosen-lowered {tail = tail} {head = head} lo ch =
       head-in = ch .head-in;
       tail-below = ch .tail-below;
       tail-out = ch .tail-out;
-      free =
+      tight =
           λ g gr.
-          let z = ch .free g gr in
+          let z = ch .tight g gr in
           let x = lo .paid (tail g) (head g) (ch .tail-below g gr) (ch .head-below g gr) (omega arith) in
           omega arith;
     }

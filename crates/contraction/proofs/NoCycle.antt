@@ -7,7 +7,7 @@ use Prim.Native.Nat.{ℕ, _≤_, _<_}
 use native.Mathlib.Omega.{arith}
 use lib.Dec.{eqb}
 use borrow.Author.Tests.{eqb-true, eqb-false, eq-eqb, ne-eqb, not-true}
-use Rattle.base.proofs.Tests.{test, and-left, and-right}
+use Rattle.base.proofs.BoolLaws.{test, and-left, and-right}
 use Rattle.instance.specs.Limits.{no-parent}
 use Rattle.contraction.specs.Groups.{Labels, Group, Chosen, Along, stop, go, own-arcs}
 use Rattle.contraction.specs.Trees.{none-left, Reached, here, step, Tree}
@@ -53,10 +53,10 @@ module _ (n root : ℕ) (w : ℕ → ℕ → ℕ) (label tail head : ℕ → ℕ
   pub own-tree : ((v : ℕ) → v < n → Along (λ x. label (tail x)) (label root) (label v)) → Tree n root w label [] parent
   own-tree all =
       record {
-        free =
+        tight =
             λ v l h.
             let x = has v h in
-            rw (x .is) (subst (λ (y : ℕ). w (tail (label v)) y ≡ 0) (x .at-head) (ch .free (label v) (group v l (x .no-root))));
+            rw (x .is) (subst (λ (y : ℕ). w (tail (label v)) y ≡ 0) (x .at-head) (ch .tight (label v) (group v l (x .no-root))));
         between = λ v l h. let x = has v h in rw (x .is) (ch .tail-out (label v) (group v l (x .no-root)));
         no-root = λ v l h. has v h .no-root;
         only = λ u v l m i j e. sym (has u i .at-head) ∙ ap head e ∙ has v j .at-head;

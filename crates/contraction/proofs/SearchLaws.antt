@@ -7,7 +7,7 @@ use Prim.Native.Nat.{ℕ, zero, suc, _+_, _-_, _≤_, _<_}
 use native.Mathlib.Omega.{arith}
 use lib.Dec.{leb, eqb}
 use borrow.Author.Tests.{eqb-true, eqb-false, leb-true, le-leb, leb-false}
-use Rattle.base.proofs.Tests.{test}
+use Rattle.base.proofs.BoolLaws.{test}
 use Rattle.contraction.specs.Groups.{Labels, Group, Chosen, Along, stop, go, Cycle}
 use Rattle.contraction.specs.Search.{Walk, on-cycle}
 
@@ -55,7 +55,7 @@ module _ (n root : ℕ) (label tail stamp : ℕ → ℕ) (first now v : ℕ) (k 
             ⊎-elim (λ (e : suc (stamp g) ≡ stamp (follow g)). le-leb (stamp v) (stamp (follow g)) (omega (arith, later g i)))
             (λ (e : (follow g ≡ v) × (suc (stamp g) ≡ now)). rw (e .0) (le-leb (stamp v) (stamp v) (omega arith))) (k .new g (omega (arith, later g i)));
         tail-out = λ g i. ch .tail-out g (gr g i);
-        free = λ g i. ch .free g (gr g i);
+        tight = λ g i. ch .tight g (gr g i);
         round =
             λ g h i j.
             along-trans (to-v now g (omega (arith, later g i)) (omega arith)) (from-x (stamp h - stamp v) v h met (omega (arith, later h j)));

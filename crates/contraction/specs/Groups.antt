@@ -30,7 +30,7 @@ pub record Chosen (n root : ℕ) (w : ℕ → ℕ → ℕ) (label tail head : �
   pub head-in : (g : ℕ) → Group n root label g → label (head g) ≡ g
   pub tail-below : (g : ℕ) → Group n root label g → tail g < n
   pub tail-out : (g : ℕ) → Group n root label g → label (tail g) ≢ g
-  pub free : (g : ℕ) → Group n root label g → w (tail g) (head g) ≡ 0
+  pub tight : (g : ℕ) → Group n root label g → w (tail g) (head g) ≡ 0
 
 -- h is met on the way from g by next
 pub data Along (next : ℕ → ℕ) (h : ℕ) : ℕ → Type 0 where
@@ -46,7 +46,7 @@ pub record Cycle (n root : ℕ) (w : ℕ → ℕ → ℕ) (label tail head : ℕ
   pub tail-below : (g : ℕ) → on g ≡ true → tail g < n
   pub tail-on : (g : ℕ) → on g ≡ true → on (label (tail g)) ≡ true
   pub tail-out : (g : ℕ) → on g ≡ true → label (tail g) ≢ g
-  pub free : (g : ℕ) → on g ≡ true → w (tail g) (head g) ≡ 0
+  pub tight : (g : ℕ) → on g ≡ true → w (tail g) (head g) ≡ 0
   pub round : (g h : ℕ) → on g ≡ true → on h ≡ true → Along (λ x. label (tail x)) h g
 
 -- CONTRACTION: the groups of a cycle become one, with the label c

@@ -33,7 +33,7 @@ Union n label c = (u v : ℕ) → u < n → v < n → label u ≡ label v → in
 
 -- An arborescence of the groups; w are the reduced costs that the cuts leave.
 pub record Tree (n root : ℕ) (w : ℕ → ℕ → ℕ) (label : ℕ → ℕ) (cs : List Cut) (parent : ℕ → ℕ) : Type 0 where
-  pub free : (v : ℕ) → v < n → parent v < n → w (parent v) v ≡ 0
+  pub tight : (v : ℕ) → v < n → parent v < n → w (parent v) v ≡ 0
   pub between : (v : ℕ) → v < n → parent v < n → label (parent v) ≢ label v
   pub no-root : (v : ℕ) → v < n → parent v < n → label v ≢ label root
   pub only : (u v : ℕ) → u < n → v < n → parent u < n → parent v < n → label u ≡ label v → u ≡ v
@@ -48,6 +48,6 @@ pub record Proper (n root set : ℕ) : Type 0 where
   pub no-root : inside set root ≡ false
 
 -- a cut that may be given: its value is at least 1
-pub record Fine (n root : ℕ) (c : Cut) : Type 0 where
+pub record Proper-cut (n root : ℕ) (c : Cut) : Type 0 where
   pub proper : Proper n root (c .set)
   pub value : 1 ≤ c .value

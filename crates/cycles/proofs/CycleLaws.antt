@@ -11,7 +11,7 @@ use lib.Dec.{eqb}
 use lib.ListN.{length, set, length-set, replicate}
 use lib.Seq.{getD-set-same, getD-set-other}
 use borrow.Author.Tests.{eqb-true, eqb-false, eq-eqb, ne-eqb}
-use Rattle.base.proofs.Tests.{test}
+use Rattle.base.proofs.BoolLaws.{test}
 use Rattle.instance.specs.Limits.{max-vertices}
 use Rattle.contraction.specs.Groups.{Along, stop}
 use Rattle.contraction.specs.Search.{Walk}

@@ -1,8 +1,8 @@
 -- DEMAND 1, stated once: whatever a public call was handed, its answer is 0 or one of document 01's refusals for that
--- call ("None is returned under any other condition."); after a refusal the board and all lent buffers are as they were;
--- what is accepted leaves a valid board. Of `report`, which is there to print, 14 leaves the buffer as it was, and a
--- refused card gets its line. (That every call ends, and that nothing is required of the caller, is what each function's
--- own proof says.) Assumes nothing.
+-- call ("None is returned under any other condition."); after a refusal the board and all lent buffers are as they
+-- were; what is accepted leaves a valid board. Of `report`, which is there to print, 14 leaves the buffer as it was, and
+-- a refused card gets its line. (That every call ends, and that nothing is required of the caller, is what each
+-- function's own proof says.) Assumes nothing.
 use mathlib.Core.Path.{_≡_, refl, sym, ap, _∙_, subst}
 use mathlib.Core.Bool.{Bool, true, false}
 use mathlib.Core.List.{List, [], _∷_}
@@ -11,7 +11,7 @@ use native.Mathlib.Omega.{arith}
 use lib.Dec.{ltb, eqb}
 use lib.ListN.{length}
 use borrow.Author.Tests.{ne-eqb, eqb-true}
-use Rattle.base.proofs.Tests.{or-right}
+use Rattle.base.proofs.BoolLaws.{or-right}
 use Rattle.base.specs.Lists.{any-of}
 use Rattle.instance.specs.Refusals.{card-short, bad-count, bad-length, bad-root, bad-card-budget, bad-weight, bad-mark, bad-filling, buffer-short, invalid-board}
 use Rattle.instance.specs.Instance.{Instance}
@@ -71,7 +71,7 @@ abbrev pub among : (a : ℕ) → List ℕ → Bool
 among a ns = any-of (eqb a) ns
 
 -- a report that is refused: 14 leaves the buffer as it was; the line of a refused card is what it is to write
-pub record Reports-before (r : Reported) (out out′ : List ℕ) : Type 0 where
+pub record Reports-before (out out′ : List ℕ) (r : Reported) : Type 0 where
   pub short : r .answer ≡ buffer-short → out′ ≡ out
   pub line : (r .answer ≡ buffer-short → ⊥) → Filled (refused-text (r .answer)) out out′ (r .length)
 
@@ -81,7 +81,7 @@ As-before (by-opening {o = o} p) = o .board ≡ blank
 As-before (by-command {b = b} {r = r} p) = r .board ≡ b
 As-before (by-looking {old = old} {new = new} p) = new ≡ old
 As-before (by-writing {out = out} {out′ = out′} p) = out′ ≡ out
-As-before (by-reporting {r = r} {out = out} {out′ = out′} p) = Reports-before r out out′
+As-before (by-reporting {r = r} {out = out} {out′ = out′} p) = Reports-before out out′ r
 As-before (by-replaying {xs = xs} {xs′ = xs′} {old = old} {new = new} p) = (xs′ ≡ xs) × (new ≡ old)
 
 -- what an accepted call leaves, where it leaves a board: a valid one
@@ -94,12 +94,12 @@ Leaves-valid (by-reporting {ws = ws} p) = card-refusal ws ≡ 0
 Leaves-valid (by-replaying {ws = ws} p) = card-refusal ws ≡ 0
 
 pub record Demand-1 {a : ℕ} (g : Given a) : Type 0 where
-  pub listed : among a (numbers g) ≡ true
+  pub own-number : among a (numbers g) ≡ true
   pub as-before : (a ≡ 0 → ⊥) → As-before g
   pub leaves-valid : a ≡ 0 → Leaves-valid g
 
 -- CARDS
-card-among : (a : ℕ) → a ≤ 8 → among a card-numbers ≡ true
+card-among : (a : ℕ) → a ≤ bad-filling → among a card-numbers ≡ true
 unfolding any-of
 card-among zero h = refl
 card-among (suc zero) h = refl
@@ -168,7 +168,7 @@ module _ (ws : List ℕ) (r : Reported) (out out′ : List ℕ) where
       rw (x .answer) (or-right (eqb (card-refusal ws) buffer-short) (among (card-refusal ws) card-numbers) (card-among (card-refusal ws) (card-refusal-most ws)))
   reports-among false true x = rw (x .answer)
 
-  reports-before : (t u : Bool) → Reports-by t u ws out out′ r → (r .answer ≡ 0 → ⊥) → Reports-before r out out′
+  reports-before : (t u : Bool) → Reports-by t u ws out out′ r → (r .answer ≡ 0 → ⊥) → Reports-before out out′ r
   unfolding Reports-by
   reports-before true u x n = record { short = λ e. x .buffer; line = λ e. absurd (e (ap (λ (y : Reported). y .answer) (x .result))) }
   reports-before false false x n =
@@ -186,7 +186,7 @@ module _ (ws : List ℕ) (r : Reported) (out out′ : List ℕ) where
 
 -- REPLAYS
 module _ (cs : List Call) (k : Log) (v : View) (xs xs′ : List ℕ) (old new : Buffers) where
-  replays-among : (a : ℕ) (t : Bool) → a ≤ 8 → Replays-at a t cs k xs xs′ old new v → among (answer-of v) (buffer-short ∷ card-numbers) ≡ true
+  replays-among : (a : ℕ) (t : Bool) → a ≤ bad-filling → Replays-at a t cs k xs xs′ old new v → among (answer-of v) (buffer-short ∷ card-numbers) ≡ true
   unfolding Replays-at any-of
   replays-among (suc a) t l r = rw (ap answer-of (r .1 .result)) (or-right (eqb (suc a) buffer-short) (among (suc a) card-numbers) (card-among (suc a) l))
   replays-among zero true l r = rw (ap answer-of (r .1 .result))
@@ -209,7 +209,7 @@ unfolding Looks Reports Replays
 demand-1 (by-opening {ws = ws} {o = o} p) =
     let e = opened-answer ws o (opened-by p) in
     record {
-      listed = rw e (card-among (card-refusal ws) (card-refusal-most ws));
+      own-number = rw e (card-among (card-refusal ws) (card-refusal-most ws));
       as-before = opened-as-before ws o (opened-by p);
       leaves-valid = λ z. opened-starts ws o (opened-by p) (sym e ∙ z) .good;
     }
@@ -217,7 +217,7 @@ demand-1 (by-command {c = c} {b = b} {r = r} p) =
     let a = called-answers p in
     let e = call-answer c b r a in
     record {
-      listed = rw e (answered-listed c (model-of b));
+      own-number = rw e (answered-listed c (model-of b));
       as-before = a .unchanged;
       leaves-valid = λ z. call-valid c b r a (accepted-valid c (model-of b) (sym e ∙ z));
     }
@@ -226,14 +226,14 @@ demand-1 (by-looking {b = b} {v = v} {old = old} {new = new} p) =
     let t = short-for (b .n) old in
     let l = looked p in
     record {
-      listed = looks-at-among (instance-of b) v old new g t l;
+      own-number = looks-at-among (instance-of b) v old new g t l;
       as-before = looks-at-as-before (instance-of b) v old new g t l;
       leaves-valid = looks-at-valid (instance-of b) v old new g t l;
     }
 demand-1 (by-writing {b = b} {r = r} {out = out} {out′ = out′} p) =
     let w = write-cases b r out out′ (wrote p) in
     record {
-      listed = writes-among b r out out′ w;
+      own-number = writes-among b r out out′ w;
       as-before = writes-as-before b r out out′ w;
       leaves-valid = writes-valid b r out out′ w;
     }
@@ -242,14 +242,14 @@ demand-1 (by-reporting {ws = ws} {r = r} {out = out} {out′ = out′} p) =
     let t = ltb (length out) max-text in
     let u = eqb (card-refusal ws) 0 in
     record {
-      listed = reports-among ws r out out′ t u x;
+      own-number = reports-among ws r out out′ t u x;
       as-before = reports-before ws r out out′ t u x;
       leaves-valid = reports-opened ws r out out′ t u refl x;
     }
 demand-1 (by-replaying {ws = ws} {v = v} {xs = xs} {xs′ = xs′} {old = old} {new = new} p) =
     let r = replayed p in
     record {
-      listed = replays-among _ _ v xs xs′ old new (card-refusal ws) _ (card-refusal-most ws) r;
+      own-number = replays-among _ _ v xs xs′ old new (card-refusal ws) _ (card-refusal-most ws) r;
       as-before = replays-as-before _ _ v xs xs′ old new (card-refusal ws) _ r;
       leaves-valid = replays-opened _ _ v xs xs′ old new (card-refusal ws) _ r;
     }

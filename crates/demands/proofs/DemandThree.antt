@@ -60,7 +60,7 @@ run-follows (then-write l rest) k f = run-follows rest k f
 -- "every call's answer, accepted or the refusal's number, is the book's. A look at the last board, whatever buffers it
 -- is lent, gives 14 exactly when one is too short; otherwise the n times n states are those of 'Link states', over the
 -- feed trees of the card's positions, root and prices under the standing marks, within the standing budget."
-pub record Demand-3 (ws : List ℕ) (cs : List Command) (xs : List ℕ) (v : View) (old new : Buffers) : Type 0 where
+pub record Demand-3 (ws : List ℕ) (cs : List Command) (xs : List ℕ) (old new : Buffers) (v : View) : Type 0 where
   pub answers : xs ≡ log-answers cs (new-log (instance-in ws))
   pub last-look : Looks-at true (short-for (instance-in ws .n) old) (effective (log-after cs (new-log (instance-in ws)))) old new v
   -- the n times n states in the buffer, read in document 01's words and in both directions: closed exactly when no
@@ -79,7 +79,7 @@ shown-states false s v old new x e =
 
 pub demand-3 :
     (ws : List ℕ) (cs : List Command) (o : Answered) (xs : List ℕ) (last : Board) (v : View) (old new : Buffers) → card-refusal ws ≡ 0 →
-    Opened-by ws o → Run cs (o .board) xs last → Looked last old new v → Demand-3 ws cs xs v old new
+    Opened-by ws o → Run cs (o .board) xs last → Looked last old new v → Demand-3 ws cs xs old new v
 demand-3 ws cs o xs last v old new z p run l =
     let s = opened-starts ws o (opened-by p) z in
     let r = run-follows run (new-log (instance-in ws)) (record { is-valid = s .good; tied = s .tied }) in

@@ -37,7 +37,7 @@ pub record Keeps-marks (s : Instance) (parents : List ℕ) : Type 0 where
   pub bans : (t h : ℕ) → is-arc s t h ≡ true → mark s t h ≡ banned → uses parents t h ≡ false
 
 -- tree and cuts are free; what the buffers hold is told by them
-pub record Demand-2 (s : Instance) (v : View) (new : Buffers) : Type 0 where
+pub record Demand-2 (s : Instance) (new : Buffers) (v : View) : Type 0 where
   pub tree : List ℕ
   pub cuts : List Cut
   pub shown : v ≡ Shown (outcome s) (length cuts)
@@ -75,7 +75,7 @@ keeps-marks true v s ps p e = record { pins = pinned-used s ps (p .0); bans = ba
 keeps-marks false v s ps p e = absurd (true≢false (sym e))
 
 pub demand-2 :
-    (b : Board) (v : View) (old new : Buffers) → Looked b old new v → valid (model-of b) ≡ true → short-for (b .n) old ≡ false → Demand-2 (instance-of b) v new
+    (b : Board) (v : View) (old new : Buffers) → Looked b old new v → valid (model-of b) ≡ true → short-for (b .n) old ≡ false → Demand-2 (instance-of b) new v
 demand-2 b v old new l g t =
     let s = instance-of b in
     let small = valid-parts (model-of b) g .n-high in

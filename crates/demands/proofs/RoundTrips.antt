@@ -2,7 +2,7 @@
 -- has equal positions, root and budget and, where a link can be, equal prices and marks." Of a board that was reached
 -- from a card by a run of calls the second holds of every cell: where no link can be, card and board hold the same.
 -- Boards that are called equal are written alike. Assumes nothing.
-use mathlib.Core.Path.{_≡_, refl, sym, ap, _∙_, subst}
+use mathlib.Core.Path.{_≡_, sym, ap, _∙_, subst}
 use mathlib.Core.Bool.{true, false, cond}
 use mathlib.Core.List.{List}
 use Prim.Native.Nat.{ℕ, _/_, _%_, _≤_, _<_}
@@ -45,12 +45,12 @@ use Rattle.planner.proofs.WritingLaws.{Write-case, refused-board, refused-buffe
 use Rattle.demands.proofs.DemandThree.{Run, run-follows}
 
 -- FROM A CARD AND BACK
-pub record Same-card (ws : List ℕ) (r : Written) (out out′ : List ℕ) : Type 0 where
+pub record Same-card (ws out out′ : List ℕ) (r : Written) : Type 0 where
   pub result : r ≡ record { answer = 0; length = length ws }
   pub buffer : out′ ≡ in-front ws out
 
 written-card : (ws : List ℕ) (s : Instance) (r : Written) (out out′ : List ℕ) → s ≡ instance-in ws → are-bytes ws ≡ true → card-refusal ws ≡ 0
-    → length ws ≤ length out → r ≡ written-to s out → out′ ≡ buffer-after s out → Same-card ws r out out′
+    → length ws ≤ length out → r ≡ written-to s out → out′ ≡ buffer-after s out → Same-card ws out out′ r
 unfolding written-to buffer-after
 written-card ws s r out out′ e y z h p q =
     let l = opened-length ws z in
@@ -58,7 +58,7 @@ written-card ws s r out out′ e y z h p q =
     record { result = p ∙ rw (e, long, ← l); buffer = q ∙ rw (e, long, card-round-trip ws y z) }
 
 pub card-back : {ws : List ℕ} {o : Answered} {r : Written} {out out′ : List ℕ} → are-bytes ws ≡ true → Opened-by ws o → o .answer ≡ 0
-    → Wrote (o .board) out out′ r → length ws ≤ length out → Same-card ws r out out′
+    → Wrote (o .board) out out′ r → length ws ≤ length out → Same-card ws out out′ r
 card-back {ws} {o} {r} {out} {out′} y p a w h =
     let e = opened-by p in
     let z = sym (opened-answer ws o e) ∙ a in

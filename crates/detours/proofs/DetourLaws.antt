@@ -24,14 +24,14 @@ use Rattle.detours.specs.Increases.{Increase, Increases}
 use Rattle.detours.specs.Detours.{Detour, Path-least, Detours}
 
 module _ (ps table : List ℕ) (h t : ℕ) where
-  pub path-none : Path-least ps table h t no-arc
+  pub path-none : Path-least ps table t h no-arc
   path-none = record { at = λ l. absurd (omega arith) }
 
-  pub path-take : (k d : ℕ) → On-path ps h t k → k ≢ h → getD table k 0 ≡ d → Path-least ps table h t d
+  pub path-take : (k d : ℕ) → On-path ps t h k → k ≢ h → getD table k 0 ≡ d → Path-least ps table t h d
   path-take k d w e q = record { at = λ l. (k, w, e, q) }
 
 -- whatever lies on the way from a vertex to h is a vertex
-path-within : (n root : ℕ) (ps : List ℕ) (h t v : ℕ) → Rooted n root ps → n ≤ max-vertices → h < n → h ≢ root → t < n → Descends ps h t → On-path ps h t v → v < n
+path-within : (n root : ℕ) (ps : List ℕ) (h t v : ℕ) → Rooted n root ps → n ≤ max-vertices → h < n → h ≢ root → t < n → Descends ps h t → On-path ps t h v → v < n
 path-within n root ps h t v k small l e b u start = b
 path-within n root ps h t v k small l e b u (onward {v = w} way ne) =
     let inside = path-within n root ps h t w k small l e b u way in
@@ -45,7 +45,7 @@ module _ (n root : ℕ) (m ps : List ℕ) (k : Matrix-tree n root m ps) (h t : �
   abbrev tree : List ℕ
   tree = take n ps
 
-  pub detour-one : Avoids tree h t → Detour s tree h t 0
+  pub detour-one : Avoids tree h t → Detour s tree t h 0
   unfolding unmarked uses
   detour-one out =
       record {
@@ -69,7 +69,7 @@ module _ (n root : ℕ) (m ps : List ℕ) (k : Matrix-tree n root m ps) (h t : �
       arc : remaining s tail v ≡ true
       cost : weight s tail v ≤ weight s (parent tree v) v + d
 
-    step : (v d : ℕ) → On-path tree h t v → v ≢ h → d < no-arc → Increase m tree below n v d → Step v d
+    step : (v d : ℕ) → On-path tree t h v → v ≢ h → d < no-arc → Increase m tree below n v d → Step v d
     unfolding unmarked weight
     step v d way ne l i =
         let x = i .tail l in
@@ -94,7 +94,7 @@ module _ (n root : ℕ) (m ps : List ℕ) (k : Matrix-tree n root m ps) (h t : �
           cost = omega arith;
         }
 
-    pub detour-two : (table : List ℕ) (d : ℕ) → Increases m tree below n n table → Path-least tree table h t d → Detour s tree h t d
+    pub detour-two : (table : List ℕ) (d : ℕ) → Increases m tree below n n table → Path-least tree table t h d → Detour s tree t h d
     unfolding unmarked uses
     detour-two table d i p =
         record {
@@ -118,7 +118,7 @@ module _ (n root : ℕ) (m ps : List ℕ) (k : Matrix-tree n root m ps) (h t : �
 
 module _ (s : Instance) (ps : List ℕ) (h : ℕ) where
   pub detours-none : (table : List ℕ) → Detours s ps h 0 table
-  detours-none table = record { at = filled-none (Detour s ps h) table }
+  detours-none table = record { at = filled-none (λ t d. Detour s ps t h d) table }
 
-  pub detours-more : (table : List ℕ) (t d : ℕ) → t < length table → Detours s ps h t table → Detour s ps h t d → Detours s ps h (t + 1) (set table t d)
-  detours-more table t d l i q = record { at = filled-more (Detour s ps h) table t d l (i .at) q }
+  pub detours-more : (table : List ℕ) (t d : ℕ) → t < length table → Detours s ps h t table → Detour s ps t h d → Detours s ps h (t + 1) (set table t d)
+  detours-more table t d l i q = record { at = filled-more (λ u x. Detour s ps u h x) table t d l (i .at) q }

@@ -7,9 +7,9 @@ use lib.ListN.{getD}
 use Rattle.paths.specs.Paths.{Descends, Avoids}
 
 -- 1 where v is a descendant of h
-pub record Descendant-flag (parents : List ℕ) (h v answer : ℕ) : Type 0 where
-  pub under : answer ≡ 1 → Descends parents h v
-  pub apart : answer ≢ 1 → Avoids parents h v
+pub record Descendant-flag (parents : List ℕ) (h v flag : ℕ) : Type 0 where
+  pub under : flag ≡ 1 → Descends parents h v
+  pub apart : flag ≢ 1 → Avoids parents h v
 
 pub record Descendants (parents : List ℕ) (h bound : ℕ) (table : List ℕ) : Type 0 where
   pub at : (v : ℕ) → v < bound → Descendant-flag parents h v (getD table v 0)

@@ -13,12 +13,12 @@ use Rattle.paths.specs.Paths.{On-path}
 use Rattle.paths.specs.Exchange.{Exchange}
 
 -- d is the cost of a detour for the arc from t to h, or "no arc" where none was found
-pub record Detour (s : Instance) (parents : List ℕ) (h t d : ℕ) : Type 0 where
+pub record Detour (s : Instance) (parents : List ℕ) (t h d : ℕ) : Type 0 where
   pub exchange : remaining s t h ≡ true → d < no-arc → Exchange s parents t h d
 
 -- the least number in a table on the path from t to h
-pub record Path-least (parents table : List ℕ) (h t least : ℕ) : Type 0 where
-  pub at : least < no-arc → (k : ℕ) × On-path parents h t k × (k ≢ h) × (getD table k 0 ≡ least)
+pub record Path-least (parents table : List ℕ) (t h least : ℕ) : Type 0 where
+  pub at : least < no-arc → (k : ℕ) × On-path parents t h k × (k ≢ h) × (getD table k 0 ≡ least)
 
 pub record Detours (s : Instance) (parents : List ℕ) (h bound : ℕ) (table : List ℕ) : Type 0 where
-  pub at : (t : ℕ) → t < bound → Detour s parents h t (getD table t 0)
+  pub at : (t : ℕ) → t < bound → Detour s parents t h (getD table t 0)

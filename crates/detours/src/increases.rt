@@ -1,4 +1,4 @@
-// What it costs to give each marked vertex a parent that is not marked.
+// What it costs to give each inner vertex, of a table that has 1 at these, a parent from outside.
 ghost use Prim.Native.Nat.{_≤_, _<_};
 ghost use lib.ListN.{take};
 ghost use Rattle.instance.specs.Limits.{max-vertices};
@@ -8,16 +8,16 @@ use instance::limits::CELLS;
 use instance::limits::NO_ARC;
 use instance::limits::VERTICES;
 
-// The least weight into the vertex from a tail that is not marked.
-fn least_outside(m: &[u32; CELLS], marked: &[u8; VERTICES], n: u32, vertex: u32) -> u32
+// The least weight into the vertex from a tail outside.
+fn least_outside(m: &[u32; CELLS], inner: &[u8; VERTICES], n: u32, vertex: u32) -> u32
     requires { ⌜ (n ≤ max-vertices) × (vertex < max-vertices) ⌝ }
-    ensures { λ r. ⌜ Least-outside (now (m .entry)) (now (marked .entry)) n vertex r ⌝ }
+    ensures { λ r. ⌜ Least-outside (now (m .entry)) (now (inner .entry)) n vertex r ⌝ }
 {
     let mut least = NO_ARC;
     let mut x: u32 = 0;
     while x < n {
         let w = m[(32 * x + vertex) as usize];
-        if marked[x as usize] != 1 {
+        if inner[x as usize] != 1 {
             if w < least {
                 least = w;
             }
@@ -31,21 +31,21 @@ fn least_outside(m: &[u32; CELLS], marked: &[u8; VERTICES], n: u32, vertex: u32)
 fn increase(
     m: &[u32; CELLS],
     parents: &[u8; VERTICES],
-    marked: &[u8; VERTICES],
+    inner: &[u8; VERTICES],
     n: u32,
     root: u32,
     vertex: u32,
 ) -> u32
     requires { ⌜ Matrix-tree n root (now m) (now parents) × (vertex < n) ⌝ }
-    ensures { λ r. ⌜ Increase (now (m .entry)) (take n (now (parents .entry))) (now (marked .entry)) n vertex r ⌝ }
+    ensures { λ r. ⌜ Increase (now (m .entry)) (take n (now (parents .entry))) (now (inner .entry)) n vertex r ⌝ }
 {
     if vertex == root {
         return NO_ARC;
     }
-    if marked[vertex as usize] != 1 {
+    if inner[vertex as usize] != 1 {
         return NO_ARC;
     }
-    let least = least_outside(m, marked, n, vertex);
+    let least = least_outside(m, inner, n, vertex);
     let tail = parents[vertex as usize] as u32;
     let own = m[(32 * tail + vertex) as usize];
     if least == NO_ARC {
@@ -60,17 +60,17 @@ fn increase(
 pub fn increases(
     m: &[u32; CELLS],
     parents: &[u8; VERTICES],
-    marked: &[u8; VERTICES],
+    inner: &[u8; VERTICES],
     n: u32,
     root: u32,
 ) -> [u32; VERTICES]
     requires { ⌜ Matrix-tree n root (now m) (now parents) ⌝ }
-    ensures { λ r. ⌜ Increases (now (m .entry)) (take n (now (parents .entry))) (now (marked .entry)) n n r ⌝ }
+    ensures { λ r. ⌜ Increases (now (m .entry)) (take n (now (parents .entry))) (now (inner .entry)) n n r ⌝ }
 {
     let mut table = [NO_ARC; VERTICES];
     let mut k: u32 = 0;
     while k < n {
-        table[k as usize] = increase(m, parents, marked, n, root, k);
+        table[k as usize] = increase(m, parents, inner, n, root, k);
         k += 1;
     }
     table

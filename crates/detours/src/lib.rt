@@ -25,11 +25,11 @@ fn path_least(
     table: &[u32; VERTICES],
     n: u32,
     root: u32,
-    head: u32,
     tail: u32,
+    head: u32,
 ) -> u32
     requires { ⌜ (n ≤ max-vertices) × (length (now parents) ≡ max-vertices) × Rooted n root (take n (now parents)) × (head < n) × (head ≢ root) × (tail < n) × Descends (take n (now parents)) head tail ⌝ }
-    ensures { λ r. ⌜ Path-least (take n (now (parents .entry))) (now (table .entry)) head tail r ⌝ }
+    ensures { λ r. ⌜ Path-least (take n (now (parents .entry))) (now (table .entry)) tail head r ⌝ }
 {
     let mut least = NO_ARC;
     let mut v = tail;
@@ -61,7 +61,7 @@ pub fn detour_costs(
     while t < n {
         let mut d = 0;
         if under[t as usize] == 1 {
-            d = path_least(parents, &added, n, root, head, t);
+            d = path_least(parents, &added, n, root, t, head);
         }
         table[t as usize] = d;
         t += 1;

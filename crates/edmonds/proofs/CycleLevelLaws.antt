@@ -10,13 +10,13 @@ use lib.Dec.{eqb}
 use lib.ListN.{set, length-set}
 use lib.Seq.{getD-set-same, getD-set-other}
 use borrow.Author.Tests.{eq-eqb, ne-eqb, eqb-true, eqb-false}
-use Rattle.base.proofs.Tests.{test, not-both}
+use Rattle.base.proofs.BoolLaws.{test, not-both}
 use Rattle.instance.specs.Limits.{max-vertices}
 use Rattle.instance.specs.Cuts.{Cut, cuts-from}
 use Rattle.contraction.specs.Cells.{at, cost}
 use Rattle.contraction.specs.Groups.{Labels, Group, Chosen, Cycle, Lowered, contracted, expanded, groups}
 use Rattle.contraction.specs.Search.{on-cycle}
-use Rattle.contraction.specs.Trees.{Each, Reached, here, step, Tree, Fine}
+use Rattle.contraction.specs.Trees.{Each, Reached, here, step, Tree, Proper-cut}
 use Rattle.base.proofs.CountingLaws.{count-more, count-one}
 use Rattle.contraction.proofs.EachLaws.{each-append, tree-same}
 use Rattle.contraction.proofs.Lowering.{lowered-twice, chosen-lowered}
@@ -149,7 +149,7 @@ module _ {ws ls tails heads : List ℕ} {n root left : ℕ} (r : Plannable ws ls
               head-in = λ g gr. arc g gr .head-in;
               tail-below = λ g gr. arc g gr .tail-below;
               tail-out = λ g gr. arc g gr .tail-out;
-              free = λ g gr. arc g gr .free;
+              tight = λ g gr. arc g gr .tight;
             }
           where
             at-v : Chosen-arc ws′ lc n v (at (set tails v t) v) (at (set heads v h) v)
@@ -178,7 +178,7 @@ module _ {ws ls tails heads : List ℕ} {n root left : ℕ} (r : Plannable ws ls
                       ⊎-elim (λ (i : on (at ls (at tails g)) ≡ true). ne (sym x ∙ label-on (at tails g) tb i))
                       (λ (i : on (at ls (at tails g)) ≡ false). r .chosen .tail-out g gf (sym (label-off (at tails g) tb i) ∙ x)) (test (on (at ls (at tails g))));
                   head-in = label-off (at heads g) hb (rw hi (o .1)) ∙ hi;
-                  free = chosen-lowered (ch .lowered) (r .chosen) .free g gf;
+                  tight = chosen-lowered (ch .lowered) (r .chosen) .tight g gf;
                 }))
                 (test (eqb g v))
 
@@ -212,11 +212,11 @@ module _ {ws ls tails heads : List ℕ} {n root left : ℕ} (r : Plannable ws ls
               }
 
           module _ (th : found′ ≡ true) where
-            entered-at : {g : ℕ} → Reached n root (at lc) (at ps) g → g ≡ v → Cycle-entered ps ls stamp n v
+            entered-at : {g : ℕ} → Reached n root (at lc) (at ps) g → g ≡ v → Cycle-entered ls stamp ps n v
             entered-at (here e) x = absurd (root-not-v (sym e ∙ x))
             entered-at (step u l e p rest) x = (u, record { below = l; on = back-on u l (e ∙ x); has = p })
 
-            pub entered : Cycle-entered ps ls stamp n v
+            pub entered : Cycle-entered ls stamp ps n v
             entered = entered-at (so .solution th .tree .reached v v-below) label-v
 
             abbrev cs : List Cut
@@ -234,9 +234,9 @@ module _ {ws ls tails heads : List ℕ} {n root left : ℕ} (r : Plannable ws ls
                 (subst (λ (x : List Cut). Tree n root (cost ws″) (at lc) x (at ps)) joined
                 (ch .lifts is-found root root-not-v (cost ws″) (cuts-from (m - k′) k′ cuts″) (at ps) (so .solution th .tree)))
 
-            module _ {e : ℕ} (en : Cycle-entry ps ls stamp n v e) {ps′ : List ℕ} (ex : Expanded ps ls stamp tails heads n v e ps′) where
-              fine-tree : Tree n root (cost ws″) (at ls) cs (at ps′)
-              fine-tree =
+            module _ {e : ℕ} (en : Cycle-entry ls stamp ps n v e) {ps′ : List ℕ} (ex : Expanded ls stamp tails heads n v e ps ps′) where
+              expanded-tree : Tree n root (cost ws″) (at ls) cs (at ps′)
+              expanded-tree =
                   tree-same n root (cost ws″) (at ls) (at ls) (expanded (at ls) (at tails) (at heads) on (at ls e) (at ps)) (at ps′) root-below (λ u l. refl) (ex .is) cs
                   (expand-tree n root (cost ws″) (at ls) (at tails) (at heads) on v (cycle-at (chosen-lowered lowered (r .chosen))) cs (at ps) coarse-tree e (en .below) (en .on) (en .has))
 
@@ -249,11 +249,11 @@ module _ {ws ls tails heads : List ℕ} {n root left : ℕ} (r : Plannable ws ls
                   let lp = three in
                   record {
                     parents-size = ex .size;
-                    tree = fine-tree;
+                    tree = expanded-tree;
                     lowered = lowered;
-                    fine =
-                        subst (Each (Fine n root)) joined
-                        (each-append (cuts-from (k′ - k) k cuts′) (cuts-from (m - k′) k′ cuts″) (ch .fine is-found root root-below root-not-v) (so .solution th .fine));
+                    proper-cuts =
+                        subst (Each (Proper-cut n root)) joined
+                        (each-append (cuts-from (k′ - k) k cuts′) (cuts-from (m - k′) k′ cuts″) (ch .proper-cuts is-found root root-below root-not-v) (so .solution th .proper-cuts));
                     least = omega arith;
                     most = omega arith;
                     frame =

@@ -13,7 +13,7 @@ use Rattle.instance.specs.Limits.{max-vertices, cells, max-cuts, cut-words}
 use Rattle.instance.specs.Cuts.{Cut, cuts-from}
 use Rattle.contraction.specs.Cells.{at, cost, Own-labels}
 use Rattle.contraction.specs.Groups.{Group, Lowered}
-use Rattle.contraction.specs.Trees.{Each, none-left, Tree, Fine}
+use Rattle.contraction.specs.Trees.{Each, none-left, Tree, Proper-cut}
 use Rattle.base.proofs.CountingLaws.{count-le}
 use Rattle.contraction.proofs.EachLaws.{each-append}
 use Rattle.contraction.proofs.Lowering.{lowered-none, lowered-twice}
@@ -33,7 +33,7 @@ pub record Begun (ws₀ ws ls tails heads : List ℕ) (n root : ℕ) (cuts₀ cu
   pub arcs : (g : ℕ) → g < v → g ≢ root → Chosen-arc ws ls n g (at tails g) (at heads g)
   pub lowered : Lowered n (cost ws₀) (cost ws) (cuts-from k 0 cuts)
   pub lifts : (w : ℕ → ℕ → ℕ) (cs : List Cut) (parent : ℕ → ℕ) → Tree n root w (at ls) cs parent → Tree n root w (at ls) (cuts-from k 0 cuts ++ cs) parent
-  pub fine : Each (Fine n root) (cuts-from k 0 cuts)
+  pub proper-cuts : Each (Proper-cut n root) (cuts-from k 0 cuts)
   pub frame : (i : ℕ) → 2 * k ≤ i → at cuts i ≡ at cuts₀ i
 
 pub none-charged : {ws ls tails heads : List ℕ} {n root : ℕ} {cuts : List ℕ} → length ws ≡ cells → length cuts ≡ cut-words → length tails ≡ max-vertices
@@ -50,7 +50,7 @@ none-charged {ws} {n = n} a b c d =
       arcs = λ g l. absurd (omega arith);
       lowered = lowered-none n (cost ws);
       lifts = λ w cs parent t. t;
-      fine = none-left;
+      proper-cuts = none-left;
       frame = λ i l. refl;
     }
 
@@ -68,7 +68,7 @@ module _ {ws₀ ws ls tails heads : List ℕ} {n root : ℕ} {cuts₀ cuts : Lis
         arcs = λ g l ne. ⊎-elim (λ (d : g ≡ v). absurd (ne (d ∙ e))) (λ (d : g < v). b .arcs g d ne) (eq-or-lt-of-le {n = g} {m = v} (omega arith));
         lowered = b .lowered;
         lifts = b .lifts;
-        fine = b .fine;
+        proper-cuts = b .proper-cuts;
         frame = b .frame;
       }
 
@@ -100,7 +100,7 @@ module _ {ws₀ ws ls tails heads : List ℕ} {n root : ℕ} {cuts₀ cuts : Lis
               subst (λ (x : List Cut). Tree n root w (at ls) x parent)
               (sym (append-assoc (cuts-from k 0 cuts) (cuts-from (next - k) k cuts′) cs) ∙ ap (λ (x : List Cut). x ++ cs) joined)
               (b .lifts w (cuts-from (next - k) k cuts′ ++ cs) parent (ch .lifts yes-arc root root-off w cs parent tr));
-          fine = subst (Each (Fine n root)) joined (each-append (cuts-from k 0 cuts) (cuts-from (next - k) k cuts′) (b .fine) (ch .fine yes-arc root rb root-off));
+          proper-cuts = subst (Each (Proper-cut n root)) joined (each-append (cuts-from k 0 cuts) (cuts-from (next - k) k cuts′) (b .proper-cuts) (ch .proper-cuts yes-arc root rb root-off));
           frame = λ i l. ch .frame i (inr l) ∙ b .frame i (omega arith);
         }
       where
@@ -111,10 +111,10 @@ module _ {ws₀ ws ls tails heads : List ℕ} {n root : ℕ} {cuts₀ cuts : Lis
             rw d (rw (getD-set-same tails v t 0 (omega arith), getD-set-same heads v h 0 (omega arith)) (ch .arc yes-arc))
         arcs-now g ne (inr d) =
             let a = b .arcs g d ne in
-            let z = a .free in
+            let z = a .tight in
             let x = ch .lowered .paid (at tails g) (at heads g) (a .tail-below) (a .head-below) (omega arith) in
             rw (getD-set-other tails v g t 0 (omega arith), getD-set-other heads v g h 0 (omega arith))
-            (record { tail-below = a .tail-below; head-below = a .head-below; tail-out = a .tail-out; head-in = a .head-in; free = omega arith })
+            (record { tail-below = a .tail-below; head-below = a .head-below; tail-out = a .tail-out; head-in = a .head-in; tight = omega arith })
 
   -- EVERY VERTEX IS CHARGED
   module _ (end : n ≤ v) (le : v ≤ n) {left : ℕ} (bound : left ≡ n + (2 - n)) where
@@ -139,7 +139,7 @@ module _ {ws₀ ws ls tails heads : List ℕ} {n root : ℕ} {cuts₀ cuts : Lis
                 head-in = λ g gr. group-arc g gr .head-in;
                 tail-below = λ g gr. group-arc g gr .tail-below;
                 tail-out = λ g gr. group-arc g gr .tail-out;
-                free = λ g gr. group-arc g gr .free;
+                tight = λ g gr. group-arc g gr .tight;
               };
           enough = omega arith;
           two = omega arith;

@@ -6,7 +6,7 @@ use Prim.Native.Nat.{ℕ, _<_}
 use native.Mathlib.Omega.{arith}
 use lib.ListN.{length}
 use borrow.Author.Tests.{eq-eqb}
-use Rattle.base.proofs.Tests.{not-both}
+use Rattle.base.proofs.BoolLaws.{not-both}
 use Rattle.instance.specs.Limits.{cut-words}
 use Rattle.contraction.specs.Cells.{at, cost}
 use Rattle.contraction.specs.Groups.{own-arcs}
@@ -41,7 +41,7 @@ module _ {ws ls tails heads : List ℕ} {n root left : ℕ} (r : Plannable ws ls
               parents-size = own .size;
               tree = rw e (tree-same n root (cost ws) (at ls) (at ls) (own-arcs root (at ls) (at tails) (at heads)) (at ps) root-below (λ v l. refl) (own .is) [] t);
               lowered = rw e (lowered-none n (cost ws));
-              fine = rw e none-left;
+              proper-cuts = rw e none-left;
               least = omega arith;
               most = omega (arith, r .two);
               frame = λ i why. refl;

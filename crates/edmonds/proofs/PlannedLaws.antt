@@ -7,7 +7,7 @@ use Prim.Native.Nat.{ℕ, _+_, _*_, _-_, _≤_, _<_}
 use native.Mathlib.Omega.{arith}
 use lib.ListN.{length, take}
 use lib.Seq.{getD-take, length-take-le}
-use Rattle.base.proofs.Tests.{test, not-both}
+use Rattle.base.proofs.BoolLaws.{test, not-both}
 use Rattle.base.proofs.ListLaws.{default}
 use Rattle.base.proofs.PartLaws.{drop-same}
 use Rattle.instance.specs.Limits.{max-vertices, no-parent, cells, cut-limit, max-cuts, cut-words, word-limit}
@@ -19,15 +19,15 @@ use Rattle.instance.proofs.CutLaws.{cuts-length, cuts-begun}
 use Rattle.instance.proofs.MatrixLaws.{matrix-total-most}
 use Rattle.contraction.specs.Cells.{at, cost, Own-labels}
 use Rattle.contraction.specs.Groups.{Lowered}
-use Rattle.contraction.specs.Trees.{Each, Tree, Fine}
+use Rattle.contraction.specs.Trees.{Each, Tree, Proper-cut}
 use Rattle.contraction.proofs.EachLaws.{each-append, tree-same}
 use Rattle.contraction.proofs.Lowering.{lowered-twice}
 use Rattle.contraction.proofs.ArcWeights.{matrix-weights}
-use Rattle.contraction.proofs.Finish.{set-fine, arborescence, proves}
+use Rattle.contraction.proofs.Finish.{set-proper, arborescence, proves}
 use Rattle.charging.specs.Charge.{Unentered}
 use Rattle.charging.proofs.ChargeLaws.{unentered-before}
 use Rattle.edmonds.specs.Level.{Solved}
-use Rattle.edmonds.specs.Planned.{no-arborescence, concluded, Minimum, Planned-matrix}
+use Rattle.edmonds.specs.Planned.{none-planned, concluded, Minimum, Planned-matrix}
 use Rattle.edmonds.proofs.FirstChargeLaws.{Begun, all-few}
 use Rattle.edmonds.proofs.ReducedLaws.{is-reduced}
 
@@ -40,7 +40,7 @@ module _ (ws₀ : List ℕ) (n root : ℕ) (ok : Matrix-ok n root ws₀) where
   unfolding unmarked
   no-entry {set} c =
       record {
-        set-good = set-fine s set (c .proper);
+        set-good = set-proper s set (c .proper);
         value-zero = refl;
         shut =
             λ t h r.
@@ -49,7 +49,7 @@ module _ (ws₀ : List ℕ) (n root : ℕ) (ok : Matrix-ok n root ws₀) where
       }
 
   pub planned-none : {ws′ cuts cuts′ : List ℕ} {set : ℕ} → length ws′ ≡ cells → length cuts′ ≡ cut-words → Unentered n root ws₀ set
-      → Planned-matrix ws₀ ws′ n root cuts cuts′ (no-arborescence set)
+      → Planned-matrix ws₀ ws′ n root cuts cuts′ (none-planned set)
   planned-none a b c =
       record {
         matrix-size = a;
@@ -84,8 +84,8 @@ module _ (ws₀ : List ℕ) (n root : ℕ) (ok : Matrix-ok n root ws₀) where
         lowered : Lowered n (cost ws₀) (cost ws′) cs
         lowered = subst (Lowered n (cost ws₀) (cost ws′)) joined (lowered-twice (b .lowered) (so .solution th .lowered))
 
-        fine : Each (Fine n root) cs
-        fine = subst (Each (Fine n root)) joined (each-append (cuts-from k 0 cuts) (cuts-from (count - k) k cuts′) (b .fine) (so .solution th .fine))
+        proper-cuts : Each (Proper-cut n root) cs
+        proper-cuts = subst (Each (Proper-cut n root)) joined (each-append (cuts-from k 0 cuts) (cuts-from (count - k) k cuts′) (b .proper-cuts) (so .solution th .proper-cuts))
 
         same-parent : (q : ℕ) → q < n → parent (take n ps) q ≡ at ps q
         same-parent q l = let small = ok .small in let z = places in getD-take n ps q no-parent l ∙ default ps q no-parent 0 (omega arith)
@@ -113,7 +113,7 @@ module _ (ws₀ : List ℕ) (n root : ℕ) (ok : Matrix-ok n root ws₀) where
             let f = few in
             record {
               arborescence = arborescence s (cost ws₀) (cost ws′) (take n ps) cs sh lowered small rb sized at-root tree;
-              proved = proves s (cost ws₀) (cost ws′) (take n ps) cs sh lowered small rb sized at-root tree fine (omega arith);
+              proved = proves s (cost ws₀) (cost ws′) (take n ps) cs sh lowered small rb sized at-root tree proper-cuts (omega arith);
             }
 
         -- the cuts' values can be added
@@ -136,7 +136,7 @@ module _ (ws₀ : List ℕ) (n root : ℕ) (ok : Matrix-ok n root ws₀) where
               few = few;
               minimum = λ _. minimum;
               is-total = λ _. minimum .proved .adds;
-              reduced = λ _. is-reduced ws₀ n root ok ws′ cs (so .size) lowered fine;
+              reduced = λ _. is-reduced ws₀ n root ok ws′ cs (so .size) lowered proper-cuts;
               rest =
                   λ _.
                   drop-same (2 * count) cuts′ cuts₀ (so .cuts-size ∙ sym cuts-size)

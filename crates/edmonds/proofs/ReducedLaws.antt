@@ -8,7 +8,7 @@ use native.Mathlib.Omega.{arith}
 use lib.Dec.{ltb, eqb}
 use lib.ListN.{length, getD}
 use borrow.Author.Tests.{eqb-true, eqb-false, ltb-true, ltb-false}
-use Rattle.base.proofs.Tests.{test, not-both}
+use Rattle.base.proofs.BoolLaws.{test, not-both}
 use Rattle.base.proofs.ListLaws.{default, getD-tabulate, tabulate-is}
 use Rattle.instance.specs.Limits.{max-vertices, no-arc, cells}
 use Rattle.instance.specs.Instance.{Instance, cell, weight, weight-at}
@@ -17,7 +17,7 @@ use Rattle.instance.specs.Cuts.{Cut, charged, reduced-cost}
 use Rattle.instance.specs.Matrix.{unmarked, Matrix-ok}
 use Rattle.contraction.specs.Cells.{at, cost}
 use Rattle.contraction.specs.Groups.{Lowered}
-use Rattle.contraction.specs.Trees.{Each, Fine}
+use Rattle.contraction.specs.Trees.{Each, Proper-cut}
 use Rattle.contraction.proofs.Finish.{charged-self, charged-root}
 use Rattle.contraction.proofs.ArcWeights.{matrix-weights}
 use Rattle.edmonds.specs.Planned.{reduced-matrix}
@@ -26,7 +26,7 @@ module _ (ws₀ : List ℕ) (n root : ℕ) (ok : Matrix-ok n root ws₀) where
   abbrev s : Instance
   s = unmarked n root ws₀
 
-  module _ (ws′ : List ℕ) (cs : List Cut) (size′ : length ws′ ≡ cells) (lo : Lowered n (cost ws₀) (cost ws′) cs) (fine : Each (Fine n root) cs) where
+  module _ (ws′ : List ℕ) (cs : List Cut) (size′ : length ws′ ≡ cells) (lo : Lowered n (cost ws₀) (cost ws′) cs) (proper-cuts : Each (Proper-cut n root) cs) where
     -- an arc that does not remain is charged nothing: it runs from a vertex to itself, or into the root
     free-cell : (t h : ℕ) → t < n → h < n → cost ws₀ t h < no-arc → remaining s t h ≡ false → cost ws′ t h ≡ cost ws₀ t h
     unfolding unmarked
@@ -34,7 +34,7 @@ module _ (ws₀ : List ℕ) (n root : ℕ) (ok : Matrix-ok n root ws₀) where
         let x = lo .paid t h l m th in
         ⊎-elim (λ (a : eqb t h ≡ true). let e = eqb-true t h a in let z : charged cs t h ≡ 0 = rw e (charged-self cs h) in omega arith)
         (λ (a : eqb t h ≡ false).
-        ⊎-elim (λ (b : eqb h root ≡ true). let e = eqb-true h root b in let z : charged cs t h ≡ 0 = rw e (charged-root cs t fine) in omega arith)
+        ⊎-elim (λ (b : eqb h root ≡ true). let e = eqb-true h root b in let z : charged cs t h ≡ 0 = rw e (charged-root cs t proper-cuts) in omega arith)
         (λ (b : eqb h root ≡ false).
         absurd (not-both (remaining s t h) (matrix-weights n root ws₀ ok .only t h l m (eqb-false t h a) (eqb-false h root b) th) r))
         (test (eqb h root)))

@@ -9,7 +9,7 @@ use Rattle.instance.specs.Limits.{max-vertices, no-parent, cells, cut-words}
 use Rattle.instance.specs.Cuts.{cuts-from}
 use Rattle.contraction.specs.Cells.{at, cost}
 use Rattle.contraction.specs.Groups.{Labels, Chosen, Lowered, groups}
-use Rattle.contraction.specs.Trees.{Each, Tree, Fine}
+use Rattle.contraction.specs.Trees.{Each, Tree, Proper-cut}
 use Rattle.charging.specs.Charge.{Unentered}
 
 -- groups of which each but the root's has chosen an arc of weight 0: at most so many are left
@@ -29,7 +29,7 @@ pub record Solution (ws ws′ ls : List ℕ) (n root left k : ℕ) (cuts cuts′
   pub parents-size : length ps ≡ max-vertices
   pub tree : Tree n root (cost ws′) (at ls) (cuts-from (next - k) k cuts′) (at ps)
   pub lowered : Lowered n (cost ws) (cost ws′) (cuts-from (next - k) k cuts′)
-  pub fine : Each (Fine n root) (cuts-from (next - k) k cuts′)
+  pub proper-cuts : Each (Proper-cut n root) (cuts-from (next - k) k cuts′)
   pub least : k ≤ next
   pub most : next + 2 ≤ k + left
   pub frame : (i : ℕ) → (i < 2 * k) ⊎ (2 * next ≤ i) → at cuts′ i ≡ at cuts i

@@ -17,14 +17,14 @@ use Rattle.edmonds.specs.declared.Planned.{Planned}
 unfoldable pub reduced-matrix : Instance → List Cut → List ℕ
 reduced-matrix s cs = tabulate cells (λ i. cond (remaining s (i / 32) (i % 32)) (reduced-cost s cs (i / 32) (i % 32)) (weight-at s i))
 
--- THE ANSWER: that there is no arborescence, with a set that no arc enters; or the tree with its total, which the cuts'
+-- THE RESULT: that there is no arborescence, with a set that no arc enters; or the tree with its total, which the cuts'
 -- values add to
-abbrev pub no-arborescence : (set : ℕ) → Planned
-no-arborescence c = record { found = false; parents = replicate max-vertices no-parent; total = 0; count = 0; set = c }
+abbrev pub none-planned : (set : ℕ) → Planned
+none-planned c = record { found = false; parents = replicate max-vertices no-parent; total = 0; count = 0; set = c }
 
 abbrev pub concluded : (found : Bool) → (parents : List ℕ) → (count set : ℕ) → (cuts : List ℕ) → Planned
 concluded true ps k c cuts = record { found = true; parents = ps; total = values (cuts-in k cuts); count = k; set = 0 }
-concluded false ps k c cuts = no-arborescence c
+concluded false ps k c cuts = none-planned c
 
 -- An arborescence, with cuts that prove its total: no arborescence has a smaller one.
 pub record Minimum (s : Instance) (parents : List ℕ) (cs : List Cut) : Type 0 where

@@ -10,7 +10,7 @@ ghost use Rattle.instance.specs.Limits.{max-vertices, cut-words, max-cuts, word
 ghost use Rattle.instance.specs.Cuts.{cuts-in, values};
 ghost use Rattle.instance.specs.Matrix.{Matrix-ok};
 ghost use Rattle.contraction.specs.Cells.{Own-labels};
-ghost use Rattle.edmonds.specs.Planned.{no-arborescence, concluded, Planned-matrix};
+ghost use Rattle.edmonds.specs.Planned.{none-planned, concluded, Planned-matrix};
 
 mod level; // level.rt: a level of contraction, planned by a call on the next
 
@@ -35,8 +35,8 @@ pub struct Planned {
 }
 
 // There is no arborescence.
-fn shut(set: u32) -> Planned
-    ensures { λ r. ⌜ r ≡ no-arborescence set ⌝ }
+fn none_planned(set: u32) -> Planned
+    ensures { λ r. ⌜ r ≡ none-planned set ⌝ }
 {
     Planned {
         found: false,
@@ -88,7 +88,7 @@ fn conclude(tree: GroupTree, cuts: &[u32; CUT_WORDS]) -> Planned
     ensures { λ r. ⌜ r ≡ concluded (tree .found) (tree .parents) (tree .next .0) (tree .set) (now (cuts .entry)) ⌝ }
 {
     if !tree.found {
-        return shut(tree.set);
+        return none_planned(tree.set);
     }
     let parents = tree.parents;
     let count = tree.next.0;
@@ -124,7 +124,7 @@ pub fn plan_matrix(
         if g != r {
             let chosen = charge_group(w, &label, n, Vertex(g), next, cuts);
             if !chosen.found {
-                return shut(chosen.set);
+                return none_planned(chosen.set);
             }
             tails[v] = chosen.tail.0 as u8;
             heads[v] = chosen.head.0 as u8;

@@ -15,21 +15,21 @@ pub record Own-arcs (ls tails heads : List ℕ) (n root : ℕ) (r : List ℕ) : 
   pub is : (v : ℕ) → v < n → at r v ≡ own-arcs root (at ls) (at tails) (at heads) v
 
 -- a vertex of the cycle at v that a chosen arc enters
-pub record Cycle-entry (ps ls stamp : List ℕ) (n v e : ℕ) : Type 0 where
+pub record Cycle-entry (ls stamp ps : List ℕ) (n v e : ℕ) : Type 0 where
   pub below : e < n
   pub on : on-cycle (at stamp) v (at ls e) ≡ true
   pub has : at ps e < n
 
-abbrev pub Cycle-entered : (ps ls stamp : List ℕ) (n v : ℕ) → Type 0
-Cycle-entered ps ls stamp n v = (e : ℕ) × Cycle-entry ps ls stamp n v e
+abbrev pub Cycle-entered : (ls stamp ps : List ℕ) (n v : ℕ) → Type 0
+Cycle-entered ls stamp ps n v = (e : ℕ) × Cycle-entry ls stamp ps n v e
 
 -- each group of the cycle but the one entered at e takes its own arc
-pub record Expanded (ps ls stamp tails heads : List ℕ) (n v e : ℕ) (r : List ℕ) : Type 0 where
-  pub size : length r ≡ max-vertices
-  pub is : (u : ℕ) → u < n → at r u ≡ expanded (at ls) (at tails) (at heads) (on-cycle (at stamp) v) (at ls e) (at ps) u
+pub record Expanded (ls stamp tails heads : List ℕ) (n v e : ℕ) (ps ps′ : List ℕ) : Type 0 where
+  pub size : length ps′ ≡ max-vertices
+  pub is : (u : ℕ) → u < n → at ps′ u ≡ expanded (at ls) (at tails) (at heads) (on-cycle (at stamp) v) (at ls e) (at ps) u
 
 -- the cycle is entered at some vertex, and expanded there
-pub record Expansion (ps ls stamp tails heads : List ℕ) (n v : ℕ) (r : List ℕ) : Type 0 where
+pub record Expansion (ls stamp tails heads : List ℕ) (n v : ℕ) (ps ps′ : List ℕ) : Type 0 where
   pub at : ℕ
-  pub entry : Cycle-entry ps ls stamp n v at
-  pub expanded : Expanded ps ls stamp tails heads n v at r
+  pub entry : Cycle-entry ls stamp ps n v at
+  pub expanded : Expanded ls stamp tails heads n v at ps ps′

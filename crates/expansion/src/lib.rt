@@ -46,8 +46,8 @@ fn entry_vertex(
     n: usize,
     v: Vertex,
 ) -> Vertex
-    requires { ⌜ (n ≤ max-vertices) × (v .0 < n) × Labels-below n (now label) × Cycle-entered (now parents) (now label) (now stamp) n (v .0) ⌝ }
-    ensures { λ r. ⌜ Cycle-entry (now (parents .entry)) (now (label .entry)) (now (stamp .entry)) n (v .0) (r .0) ⌝ }
+    requires { ⌜ (n ≤ max-vertices) × (v .0 < n) × Labels-below n (now label) × Cycle-entered (now label) (now stamp) (now parents) n (v .0) ⌝ }
+    ensures { λ r. ⌜ Cycle-entry (now (label .entry)) (now (stamp .entry)) (now (parents .entry)) n (v .0) (r .0) ⌝ }
 {
     let at = v.0 as usize;
     let first = stamp[at];
@@ -77,7 +77,7 @@ fn take_arcs(
     parents: &mut [u8; VERTICES], // the tree of the contracted groups, which becomes one of these groups
 )
     requires { ⌜ (length (now parents) ≡ max-vertices) × (n ≤ max-vertices) × (v .0 < n) × (entry .0 < n) × Labels-below n (now label) ⌝ }
-    ensures { λ _. ⌜ Expanded (now (parents .entry)) (now (label .entry)) (now (stamp .entry)) (now (tails .entry)) (now (heads .entry)) n (v .0) (entry .0) (now (parents .exit)) ⌝ }
+    ensures { λ _. ⌜ Expanded (now (label .entry)) (now (stamp .entry)) (now (tails .entry)) (now (heads .entry)) n (v .0) (entry .0) (now (parents .entry)) (now (parents .exit)) ⌝ }
 {
     let at = v.0 as usize;
     let first = stamp[at];
@@ -109,8 +109,8 @@ pub fn expand_cycle(
     v: Vertex,
     parents: &mut [u8; VERTICES],
 )
-    requires { ⌜ (length (now parents) ≡ max-vertices) × (n ≤ max-vertices) × (v .0 < n) × Labels-below n (now label) × Cycle-entered (now parents) (now label) (now stamp) n (v .0) ⌝ }
-    ensures { λ _. ⌜ Expansion (now (parents .entry)) (now (label .entry)) (now (stamp .entry)) (now (tails .entry)) (now (heads .entry)) n (v .0) (now (parents .exit)) ⌝ }
+    requires { ⌜ (length (now parents) ≡ max-vertices) × (n ≤ max-vertices) × (v .0 < n) × Labels-below n (now label) × Cycle-entered (now label) (now stamp) (now parents) n (v .0) ⌝ }
+    ensures { λ _. ⌜ Expansion (now (label .entry)) (now (stamp .entry)) (now (tails .entry)) (now (heads .entry)) n (v .0) (now (parents .entry)) (now (parents .exit)) ⌝ }
 {
     let entry = entry_vertex(label, stamp, parents, n, v);
     take_arcs(label, stamp, tails, heads, n, v, entry, parents);

@@ -8,7 +8,7 @@ use native.Mathlib.Omega.{arith}
 use lib.Dec.{ltb, eqb}
 use lib.ListN.{length, getD}
 use borrow.Author.Tests.{ltb-true, not-true}
-use Rattle.base.proofs.Tests.{and-left, and-right, and-false-right}
+use Rattle.base.proofs.BoolLaws.{and-left, and-right, and-false-right}
 use Rattle.base.proofs.BoundedLaws.{any-false}
 use Rattle.base.proofs.ListLaws.{default}
 use Rattle.instance.specs.Limits.{max-vertices, no-arc, banned, cells}

@@ -8,7 +8,7 @@ use native.Mathlib.Omega.{arith}
 use native.Mathlib.Nat.{zero-add, suc-add, sub-zero}
 use lib.ListN.{length, set, length-set, getD}
 use lib.Seq.{getD-set-same, getD-set-other}
-use Rattle.instance.specs.Cuts.{Cut, cuts-from, cuts-in, values}
+use Rattle.instance.specs.Cuts.{Cut, cuts-from, values}
 
 pub cuts-length : (a i : ℕ) (l : List ℕ) → length (cuts-from a i l) ≡ a
 unfolding cuts-from

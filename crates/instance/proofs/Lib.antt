@@ -1,11 +1,11 @@
 -- Document 01's worked cases, the definitions' edges and which instances are valid, computed; laws of arcs, valid and
 -- same instances, paths, sets, cuts and matrices. Assumes nothing.
 pub mod WorkedCases
-pub mod Edges
+pub mod CornerCases
 pub mod WorkedValidity
 pub mod ArcLaws
 pub mod ValidLaws
-pub mod SameInstances
+pub mod SameLaws
 pub mod LimitLaws
 pub mod ArborescenceLaws
 pub mod ReachLaws

@@ -11,7 +11,7 @@ use lib.ListN.{length, getD, set, replicate, getD-replicate, List·getD-eq-defau
 use lib.Seq.{getD-set-same, getD-set-other}
 use borrow.Author.Tests.{lt-ltb, ltb-true, ltb-false, eqb-true, eqb-false, ne-eqb}
 use Rattle.base.specs.Lists.{tabulate}
-use Rattle.base.proofs.Tests.{test, and-left}
+use Rattle.base.proofs.BoolLaws.{test, and-left}
 use Rattle.base.proofs.BoundedLaws.{all-at}
 use Rattle.base.proofs.ListLaws.{default, length-tabulate, getD-tabulate}
 use Rattle.base.proofs.SumLaws.{sum-most}

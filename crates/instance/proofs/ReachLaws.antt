@@ -9,7 +9,7 @@ use native.Mathlib.Omega.{arith}
 use lib.Dec.{eqb}
 use borrow.Author.Tests.{eq-eqb, not-true}
 use Rattle.base.specs.Bounded.{any-below, count-below}
-use Rattle.base.proofs.Tests.{test, not-both, and-left, and-right, and-both}
+use Rattle.base.proofs.BoolLaws.{test, not-both, and-left, and-right, and-both}
 use Rattle.base.proofs.BoundedLaws.{any-found, any-intro}
 use Rattle.base.proofs.CountingLaws.{count-le, count-more, count-one}
 use Rattle.instance.specs.Arborescence.{parent, reaches}

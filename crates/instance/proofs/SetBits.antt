@@ -6,7 +6,7 @@ use native.Mathlib.Omega.{arith}
 use native.Mathlib.Nat.{pow-suc, add-mul-div-left, add-mul-mod-self-left, div-eq-of-lt, mul-one, mul-comm, zero-div}
 use lib.Dec.{eqb}
 use lib.Pow.{pow-pos, pow-add}
-use Rattle.base.proofs.Tests.{not-both}
+use Rattle.base.proofs.BoolLaws.{not-both}
 use Rattle.instance.specs.Cuts.{inside}
 
 split-pow : (p q : ℕ) → q < p → 2 ^ p ≡ 2 ^ q * (2 * 2 ^ (p - (q + 1)))

@@ -9,7 +9,7 @@ use lib.Dec.{ltb, leb, eqb}
 use lib.ListN.{length, getD}
 use borrow.Author.Tests.{ltb-true, leb-true, eqb-true, eqb-false, not-true}
 use Rattle.base.specs.Bounded.{all-below}
-use Rattle.base.proofs.Tests.{test, and-left, and-right}
+use Rattle.base.proofs.BoolLaws.{test, and-left, and-right}
 use Rattle.base.proofs.BoundedLaws.{all-at}
 use Rattle.base.proofs.ListLaws.{default}
 use Rattle.instance.specs.Limits.{max-vertices, max-weight, max-budget, no-arc, free, banned, cells}
@@ -61,15 +61,15 @@ module _ (s : Instance) (v : valid-instance s ≡ true) where
 
 -- AN ARC of a valid instance has its weight and its mark in range
 pub record In-range (w m : ℕ) : Type 0 where
-  pub weight-in : leb w max-weight ≡ true
-  pub mark-in : leb m banned ≡ true
+  pub weight-most : leb w max-weight ≡ true
+  pub mark-most : leb m banned ≡ true
 
 cell-in-range : (w m : ℕ) → cell-ok w m ≡ true → (w ≡ no-arc → ⊥) → In-range w m
 unfolding cell-ok
 cell-in-range w m e k = go (leb w max-weight) refl
   where
     go : (b : Bool) → leb w max-weight ≡ b → In-range w m
-    go true q = record { weight-in = q; mark-in = rw q at e }
+    go true q = record { weight-most = q; mark-most = rw q at e }
     go false q = absurd (k (eqb-true w no-arc (and-left (eqb w no-arc) (eqb m free) (rw q at e))))
 
 pub arc-in-range :

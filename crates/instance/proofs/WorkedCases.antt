@@ -30,17 +30,17 @@ unfoldable pub filled : (other : ℕ) → List At → List ℕ
 filled d [] = replicate cells d
 filled d (a ∷ xs) = set (filled d xs) (cell (a .tail) (a .head)) (a .is)
 
-unfoldable pub instance-of : (n root budget : ℕ) → (weights marks : List At) → Instance
-instance-of n r b ws ms = record { n = n; root = r; budget = b; weights = filled no-arc ws; marks = filled free ms }
+unfoldable pub instance-from : (n root budget : ℕ) → (weights marks : List At) → Instance
+instance-from n r b ws ms = record { n = n; root = r; budget = b; weights = filled no-arc ws; marks = filled free ms }
 
 -- "n = 4, root 0. Prices: 0→1 10, 0→2 10, 0→3 8, 1→2 1, 1→3 4, 2→1 2, 2→3 9, 3→1 7; 3→2 is no link."
 unfoldable pub instance-q : (budget : ℕ) → (marks : List At) → Instance
 instance-q b ms =
-    instance-of 4 0 b (arc 0 1 10 ∷ arc 0 2 10 ∷ arc 0 3 8 ∷ arc 1 2 1 ∷ arc 1 3 4 ∷ arc 2 1 2 ∷ arc 2 3 9 ∷ arc 3 1 7 ∷ []) ms
+    instance-from 4 0 b (arc 0 1 10 ∷ arc 0 2 10 ∷ arc 0 3 8 ∷ arc 1 2 1 ∷ arc 1 3 4 ∷ arc 2 1 2 ∷ arc 2 3 9 ∷ arc 3 1 7 ∷ []) ms
 
 -- "n = 2, price 5"
 unfoldable pub two : (budget : ℕ) → (marks : List At) → Instance
-two b ms = instance-of 2 0 b (arc 0 1 5 ∷ []) ms
+two b ms = instance-from 2 0 b (arc 0 1 5 ∷ []) ms
 
 -- What is claimed of an instance: its outcome, every arborescence of the total that the outcome names, and all states.
 -- The list of optimal arborescences has one entry exactly where document 01's parents are the only cheapest ones.
@@ -77,7 +77,7 @@ cases b =
     -- P7: 2→1 and 1→2 pinned: none, and no budget is named
     record { of = instance-q b (arc 2 1 pinned ∷ arc 1 2 pinned ∷ []); row = record { gives = NoTree; optimal = []; shows = 0 ∷ 1 ∷ 1 ∷ 1 ∷ 0 ∷ 0 ∷ 1 ∷ 1 ∷ 0 ∷ 1 ∷ 0 ∷ 1 ∷ 0 ∷ 1 ∷ 0 ∷ 0 ∷ [] } } ∷
     -- P8: n = 1, budget 0
-    record { of = instance-of 1 0 0 [] []; row = record { gives = Plan 0; optimal = (255 ∷ []) ∷ []; shows = 0 ∷ [] } } ∷
+    record { of = instance-from 1 0 0 [] []; row = record { gives = Plan 0; optimal = (255 ∷ []) ∷ []; shows = 0 ∷ [] } } ∷
     -- P9: link sure
     record { of = two 5 []; row = record { gives = Plan 5; optimal = (255 ∷ 0 ∷ []) ∷ []; shows = 0 ∷ 3 ∷ 0 ∷ 0 ∷ [] } } ∷
     -- P10
@@ -86,7 +86,7 @@ cases b =
 -- THE CLAIM
 pub worked : (b : ℕ) → map (λ c. computed (c .of)) (cases b) ≡ map (λ c. c .row) (cases b)
 unfolding
-    computed cases instance-q two instance-of filled optimal-in all-below any-below sum-below tabulate-from tabulate select any-of all-of
+    computed cases instance-q two instance-from filled optimal-in all-below any-below sum-below tabulate-from tabulate select any-of all-of
     weight mark can-be-arc is-arc is-pinned other-pinned remaining reaches parent-ok is-arborescence total uses prefixed choices candidates-from
     candidates arborescences lesser least-total cheapest outcome-at outcome fits fitting state-over states
 worked b = refl
@@ -94,6 +94,6 @@ worked b = refl
 -- "It has 12 feed trees."
 pub twelve : length (arborescences (instance-q 16 [])) ≡ 12
 unfolding
-    instance-q instance-of filled all-below any-below tabulate-from tabulate select weight mark can-be-arc is-arc is-pinned other-pinned remaining
+    instance-q instance-from filled all-below any-below tabulate-from tabulate select weight mark can-be-arc is-arc is-pinned other-pinned remaining
     reaches parent-ok is-arborescence prefixed choices candidates-from candidates arborescences
 twelve = refl

@@ -18,6 +18,10 @@ pub record Instance : Type 0 where
 abbrev pub instance-with : (n root budget : ℕ) → (weights marks : List ℕ) → Instance
 instance-with n r b ws ms = record { n = n; root = r; budget = b; weights = ws; marks = ms }
 
+-- for promises in which the budget has no part
+abbrev pub without-budget : (n root : ℕ) → (weights marks : List ℕ) → Instance
+without-budget n r ws ms = instance-with n r 0 ws ms
+
 -- the cell of the arc from tail to head (document 01: feeder, fed): tail by tail, with a stride of 32 whatever n is
 abbrev pub cell : (tail head : ℕ) → ℕ
 cell t h = 32 * t + h

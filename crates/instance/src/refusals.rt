@@ -42,5 +42,6 @@ pub const HISTORY_EMPTY: u32 = 13;
 // 14: a lent buffer too short.
 pub const BUFFER_SHORT: u32 = 14;
 
-// 15: the board handed in is invalid.
+// 15: board handed in has a field outside the ranges above, a mark other than 0 on no link, more than 200 recorded, or
+// a record naming no link or restoring a value out of range.
 pub const INVALID_BOARD: u32 = 15;

@@ -10,7 +10,7 @@ use native.Mathlib.Decide.{ℕ-discrete}
 use lib.Dec.{eqb}
 use lib.ListN.{length, set, length-set}
 use borrow.Author.Tests.{eqb-true, eq-eqb}
-use Rattle.base.proofs.Tests.{test, not-both}
+use Rattle.base.proofs.BoolLaws.{test, not-both}
 use Rattle.base.proofs.SumLaws.{sum-change}
 use Rattle.instance.specs.Instance.{Instance, weight}
 use Rattle.instance.specs.Arborescence.{remaining, parent, reaches, is-arborescence, total}
@@ -79,7 +79,7 @@ module _ (s : Instance) (ps : List ℕ) (root-below : s .root < s .n) (a : is-ar
 
 -- TWO ARCS
 module _ (s : Instance) (ps : List ℕ) (root-below : s .root < s .n) (a : is-arborescence s ps ≡ true) (t h x k : ℕ)
-    (r : remaining s t h ≡ true) (r₂ : remaining s x k ≡ true) (way : On-path ps h t k) (apart : k ≢ h) (under : Descends ps h t) (out : Avoids ps h x) where
+    (r : remaining s t h ≡ true) (r₂ : remaining s x k ≡ true) (way : On-path ps t h k) (apart : k ≢ h) (under : Descends ps h t) (out : Avoids ps h x) where
   abbrev first : List ℕ
   first = set ps k x
 
@@ -93,7 +93,7 @@ module _ (s : Instance) (ps : List ℕ) (root-below : s .root < s .n) (a : is-ar
   k-out : Avoids first h k
   k-out = avoids-up first h k apart (rw (exchange-uses s ps root-below a x k r₂ clear) (avoids-same ps k x h x clear out))
 
-  way-out : (v : ℕ) → On-path ps h t v → Avoids first h v → Avoids first h t
+  way-out : (v : ℕ) → On-path ps t h v → Avoids first h v → Avoids first h t
   way-out v start b = b
   way-out v (onward {v = u} w e) b = way-out u w (at (ℕ-discrete u k))
     where

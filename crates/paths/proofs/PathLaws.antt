@@ -11,7 +11,7 @@ use lib.ListN.{length, set, List·getD-eq-default}
 use lib.Seq.{getD-set-same, getD-set-other}
 use borrow.Author.Tests.{eqb-true, eqb-false, eq-eqb, ne-eqb}
 use Rattle.base.specs.Bounded.{sum-below}
-use Rattle.base.proofs.Tests.{test, not-both, or-false-right, or-cases, or-left, or-right}
+use Rattle.base.proofs.BoolLaws.{test, not-both, or-false-right, or-cases, or-left, or-right}
 use Rattle.base.proofs.SumLaws.{sum-shift}
 use Rattle.instance.specs.Limits.{max-vertices, no-parent}
 use Rattle.instance.specs.Arborescence.{parent, reaches}
@@ -68,7 +68,7 @@ avoids-above ps h k v a b j =
     (test (reaches j k ps v))
 
 -- whatever lies on the way from a descendant of h is one too
-pub path-descends : (ps : List ℕ) (h t v : ℕ) → On-path ps h t v → Descends ps h t → Descends ps h v
+pub path-descends : (ps : List ℕ) (h t v : ℕ) → On-path ps t h v → Descends ps h t → Descends ps h v
 path-descends ps h t v start b = b
 path-descends ps h t v (onward {v = u} w e) b = descends-on ps h u e (path-descends ps h t u w b)
 

@@ -26,6 +26,6 @@ abbrev pub Avoids : (parents : List ℕ) → (h v : ℕ) → Type 0
 Avoids ps h v = (k : ℕ) → reaches k h ps v ≡ false
 
 -- the path from t comes to v, and h is not met before v
-pub data On-path (ps : List ℕ) (h t : ℕ) : ℕ → Type 0 where
-  start : On-path ps h t t
-  onward : {v : ℕ} → On-path ps h t v → v ≢ h → On-path ps h t (parent ps v)
+pub data On-path (ps : List ℕ) (t h : ℕ) : ℕ → Type 0 where
+  start : On-path ps t h t
+  onward : {v : ℕ} → On-path ps t h v → v ≢ h → On-path ps t h (parent ps v)

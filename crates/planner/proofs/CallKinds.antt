@@ -29,15 +29,15 @@ unfolding call
 call-look k a b e = rw e
 
 module _ (k x y : ℕ) (b : Board) where
-  pub makes-command : (c : Command) (r : Answered) (z : Buffers) → command c ≡ call k x y → Answers (answered c (model-of b)) b r → Makes (call k x y) b z z r
+  pub makes-command : (c : Command) (r : Answered) (z : Buffers) → command c ≡ call k x y → Answers (answered c (model-of b)) b r → Makes b (call k x y) z z r
   unfolding Makes
-  makes-command c r z e a = subst (λ (q : Call). Makes q b z z r) e (a, refl)
+  makes-command c r z e a = subst (λ (q : Call). Makes b q z z r) e (a, refl)
 
   pub makes-look : (v : View) (a : ℕ) (old new : Buffers) → k ≡ 5 → a ≡ answer-of v → Looks b old new v →
-      Makes (call k x y) b old new (record { answer = a; board = b })
+      Makes b (call k x y) old new (record { answer = a; board = b })
   unfolding Makes
-  makes-look v a old new e q l = subst (λ (c : Call). Makes c b old new (record { answer = a; board = b })) (sym (call-look k x y e)) (v, q, refl, l)
+  makes-look v a old new e q l = subst (λ (c : Call). Makes b c old new (record { answer = a; board = b })) (sym (call-look k x y e)) (v, q, refl, l)
 
-  pub makes-write : (a : ℕ) (z : Buffers) → 6 ≤ k → a ≡ cond (valid (model-of b)) 0 invalid-board → Makes (call k x y) b z z (record { answer = a; board = b })
+  pub makes-write : (a : ℕ) (z : Buffers) → 6 ≤ k → a ≡ cond (valid (model-of b)) 0 invalid-board → Makes b (call k x y) z z (record { answer = a; board = b })
   unfolding Makes
-  makes-write a z h q = subst (λ (c : Call). Makes c b z z (record { answer = a; board = b })) (sym (call-write k x y h)) (q, refl, refl)
+  makes-write a z h q = subst (λ (c : Call). Makes b c z z (record { answer = a; board = b })) (sym (call-write k x y h)) (q, refl, refl)

@@ -1,6 +1,6 @@
 -- One call of a list against the log: a board that is valid and tied to the log stays so, the answer is the log's, and
 -- a look between leaves of the buffers what a later look keeps. Assumes nothing.
-use mathlib.Core.Path.{_≡_, refl, ap, _∙_, subst}
+use mathlib.Core.Path.{_≡_, ap, _∙_, subst}
 use mathlib.Core.Bool.{Bool, true, false}
 use Prim.Native.Nat.{ℕ, _*_, _≤_}
 use native.Mathlib.Omega.{arith}
@@ -109,7 +109,7 @@ module _ (b : Board) (k : Log) (g : valid (model-of b) ≡ true) (y : Tied (mode
         rw (call-board c b r a ∙ ap (λ (d : Result). d .board) q) (s .tied),
       )
 
-  pub call-step : (e : Call) (r : Answered) (old new : Buffers) → short-for (b .n) old ≡ false → Makes e b old new r → Call-step e b k old new r
+  pub call-step : (e : Call) (r : Answered) (old new : Buffers) → short-for (b .n) old ≡ false → Makes b e old new r → Call-step e b k old new r
   unfolding Makes log-call unnoted
   call-step (command c) r old new t m =
       let s = command-step c r (m .0) in

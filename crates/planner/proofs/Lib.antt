@@ -1,5 +1,4 @@
 -- Laws of the public calls. Assumes nothing.
-pub mod CopiesLaws
 pub mod OpeningLaws
 pub mod WritingLaws
 pub mod LookingLaws

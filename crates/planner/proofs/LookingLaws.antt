@@ -3,11 +3,11 @@ use mathlib.Core.Path.{_≡_, refl, ap, _∙_}
 use mathlib.Core.Bool.{true, false, _||_}
 use mathlib.Core.List.{List}
 use Prim.Native.Nat.{ℕ, _*_, _≤_}
-use lib.ListN.{length, take}
+use lib.ListN.{take}
 use lib.Dec.{ltb}
 use borrow.Author.Tests.{ltb-false}
 use Rattle.base.specs.Lists.{in-front}
-use Rattle.base.proofs.Tests.{or-false-left, or-false-right}
+use Rattle.base.proofs.BoolLaws.{or-false-left, or-false-right}
 use Rattle.instance.specs.Limits.{cut-words}
 use Rattle.instance.specs.Refusals.{buffer-short, invalid-board}
 use Rattle.instance.specs.Instance.{Instance}

@@ -16,7 +16,7 @@ use Rattle.board.specs.Create.{board-with, blank}
 use Rattle.board.specs.declared.Board.{Board}
 use Rattle.commands.proofs.LogLaws.{Tied}
 use Rattle.board.proofs.CreateLaws.{new-board-follows}
-use Rattle.card_format.proofs.OpensLaws.{opened-valid}
+use Rattle.card_format.proofs.OpensLaws.{card-valid}
 use Rattle.card_format.proofs.OpensLaws.{marks-long}
 use Rattle.board.specs.declared.Answered.{Answered}
 use Rattle.planner.specs.Opening.{answered-with, opened-from, fresh}
@@ -31,7 +31,7 @@ fresh-starts : (ws : List ℕ) → card-refusal ws ≡ 0 → Starts ws (fresh (i
 unfolding board-with opened history-of
 fresh-starts ws z =
     let s = instance-in ws in
-    let f = new-board-follows (s .n) (s .root) (s .budget) (s .weights) (s .marks) (fresh s) (record { board = refl; model = refl }) (opened-valid ws z) (marks-long ws) in
+    let f = new-board-follows (s .n) (s .root) (s .budget) (s .weights) (s .marks) (fresh s) (record { board = refl; model = refl }) (card-valid ws z) (marks-long ws) in
     record { good = f .is-valid; tied = f .tied; same-n = refl }
 
 pub opened-starts : (ws : List ℕ) (o : Answered) → o ≡ opened-from ws → card-refusal ws ≡ 0 → Starts ws (o .board)

@@ -12,7 +12,7 @@ use lib.ListN.{length, getD, set, take, drop, length-set, drop-of-length-le, tak
 use lib.Seq.{drop-cons, take-suc-set, drop-set-lt}
 use borrow.Author.Tests.{le-ltb, ltb-false}
 use Rattle.base.specs.Lists.{in-front}
-use Rattle.base.proofs.Tests.{or-false-left, or-false-right, or-right, or-both-false}
+use Rattle.base.proofs.BoolLaws.{or-false-left, or-false-right, or-right, or-both-false}
 use Rattle.base.proofs.FrontLaws.{front-is}
 use Rattle.base.proofs.PartLaws.{drop-later}
 use Rattle.instance.specs.Limits.{max-vertices, cut-words}
@@ -33,14 +33,14 @@ use Rattle.commands.proofs.ValidLaws.{valid-parts}
 use Rattle.planner.specs.declared.View.{View}
 use Rattle.planner.specs.declared.View.the-variants.{Refused}
 use Rattle.planner.specs.Looking.{Buffers, short-for, Shows, Looks}
-use Rattle.planner.specs.Replaying.{Call, call, calls, log-call, call-answers, calls-after, Makes, unfit, Replays-at, Replays}
+use Rattle.planner.specs.Replaying.{Call, call, calls, log-call, call-answers, calls-after, Makes, lists-short, Replays-at, Replays}
 use Rattle.planner.proofs.CallSteps.{Since, since-same, since-then, tree-long, words-long, looks-long, Call-step, call-step}
 
 -- the calls from place i on
 abbrev from : (ks fs gs : List ℕ) → (i : ℕ) → List Call
 from ks fs gs i = calls (drop i ks) (drop i fs) (drop i gs)
 
-pub record Going (ws ks fs gs xs₀ : List ℕ) (old : Buffers) (b : Board) (i : ℕ) (xs : List ℕ) (new : Buffers) : Type 0 where
+pub record Calls-made (ws ks fs gs xs₀ : List ℕ) (old : Buffers) (b : Board) (i : ℕ) (xs : List ℕ) (new : Buffers) : Type 0 where
   pub within : i ≤ length ks
   pub firsts : length ks ≤ length fs
   pub seconds : length ks ≤ length gs
@@ -69,18 +69,18 @@ split : (ks fs gs : List ℕ) (i : ℕ) → i < length ks → length ks ≤ leng
 unfolding calls
 split ks fs gs i h p q = rw (drop-cons ks i 0 h, drop-cons fs i 0 (omega arith), drop-cons gs i 0 (omega arith))
 
-fit : (ks fs gs xs : List ℕ) → length ks ≤ length fs → length ks ≤ length gs → length ks ≤ length xs → unfit (length ks) (length fs) (length gs) (length xs) ≡ false
-unfolding unfit
-fit ks fs gs xs p q r = simp (le-ltb (length fs) (length ks) p, le-ltb (length gs) (length ks) q, le-ltb (length xs) (length ks) r)
+lists-long : (ks fs gs xs : List ℕ) → length ks ≤ length fs → length ks ≤ length gs → length ks ≤ length xs → lists-short (length ks) (length fs) (length gs) (length xs) ≡ false
+unfolding lists-short
+lists-long ks fs gs xs p q r = simp (le-ltb (length fs) (length ks) p, le-ltb (length gs) (length ks) q, le-ltb (length xs) (length ks) r)
 
-pub record Fitting (kinds firsts seconds answers : ℕ) : Type 0 where
+pub record Lists-long (kinds firsts seconds answers : ℕ) : Type 0 where
   pub enough-firsts : kinds ≤ firsts
   pub enough-seconds : kinds ≤ seconds
   pub room : kinds ≤ answers
 
-pub fitting : (k f s a : ℕ) → unfit k f s a ≡ false → Fitting k f s a
-unfolding unfit
-fitting k f s a e =
+pub lists-enough : (k f s a : ℕ) → lists-short k f s a ≡ false → Lists-long k f s a
+unfolding lists-short
+lists-enough k f s a e =
     let P = ltb f k in
     let Q = ltb s k in
     let R = ltb a k in
@@ -103,19 +103,19 @@ unfolding Replays-at
 too-short-at t ws ks fs gs xs old v e r = rw e (refl, record { result = r; buffers = refl })
 
 module _ (ws ks fs gs xs : List ℕ) (old : Buffers) (v : View) (z : card-refusal ws ≡ 0) (r : v ≡ Refused buffer-short) where
-  abbrev unfit-lists : Bool
-  unfit-lists = unfit (length ks) (length fs) (length gs) (length xs)
+  abbrev short-lists : Bool
+  short-lists = lists-short (length ks) (length fs) (length gs) (length xs)
 
-  pub not-fitting : unfit-lists ≡ true → Replays ws ks fs gs xs xs old old v
+  pub lists-refused : short-lists ≡ true → Replays ws ks fs gs xs xs old old v
   unfolding Replays
-  not-fitting e = rw z (too-short-at (unfit-lists || short-for (instance-in ws .n) old) ws ks fs gs xs old v (rw e) r)
+  lists-refused e = rw z (too-short-at (short-lists || short-for (instance-in ws .n) old) ws ks fs gs xs old v (rw e) r)
 
-  pub not-long : (n : ℕ) → n ≡ instance-in ws .n → short-for n old ≡ true → Replays ws ks fs gs xs xs old old v
+  pub buffers-refused : (n : ℕ) → n ≡ instance-in ws .n → short-for n old ≡ true → Replays ws ks fs gs xs xs old old v
   unfolding Replays
-  not-long n q e =
+  buffers-refused n q e =
       rw z
-      (too-short-at (unfit-lists || short-for (instance-in ws .n) old) ws ks fs gs xs old v
-      (or-right unfit-lists (short-for (instance-in ws .n) old) (ap (λ (m : ℕ). short-for m old) (sym q) ∙ e)) r)
+      (too-short-at (short-lists || short-for (instance-in ws .n) old) ws ks fs gs xs old v
+      (or-right short-lists (short-for (instance-in ws .n) old) (ap (λ (m : ℕ). short-for m old) (sym q) ∙ e)) r)
 
 -- THE LAST LOOK is one from the buffers as they were before the calls
 shows-since : (s : Instance) (v : View) (old mid new : Buffers) → s .n ≤ max-vertices → Since (s .n) old mid → Shows s mid new v → Shows s old new v
@@ -148,7 +148,7 @@ module _ (ws ks fs gs xs₀ : List ℕ) (old : Buffers) where
   start = new-log (instance-in ws)
 
   pub begun : (b : Board) → Tied (model-of b) start → valid (model-of b) ≡ true → b .n ≡ instance-in ws .n → length ks ≤ length fs → length ks ≤ length gs →
-      length ks ≤ length xs₀ → short-for (b .n) old ≡ false → Going ws ks fs gs xs₀ old b 0 xs₀ old
+      length ks ≤ length xs₀ → short-for (b .n) old ≡ false → Calls-made ws ks fs gs xs₀ old b 0 xs₀ old
   begun b y g e p q r t =
       record {
         within = omega arith;
@@ -168,8 +168,8 @@ module _ (ws ks fs gs xs₀ : List ℕ) (old : Buffers) where
       }
 
   -- one call more
-  pub again : (b : Board) (i : ℕ) (xs : List ℕ) (new next : Buffers) (d : Answered) → i < length ks → Going ws ks fs gs xs₀ old b i xs new →
-      Makes (call (getD ks i 0) (getD fs i 0) (getD gs i 0)) b new next d → Going ws ks fs gs xs₀ old (d .board) (i + 1) (set xs i (d .answer)) next
+  pub again : (b : Board) (i : ℕ) (xs : List ℕ) (new next : Buffers) (d : Answered) → i < length ks → Calls-made ws ks fs gs xs₀ old b i xs new →
+      Makes b (call (getD ks i 0) (getD fs i 0) (getD gs i 0)) new next d → Calls-made ws ks fs gs xs₀ old (d .board) (i + 1) (set xs i (d .answer)) next
   unfolding call-answers calls-after
   again b i xs new next d h g m =
       let e = call (getD ks i 0) (getD fs i 0) (getD gs i 0) in
@@ -177,7 +177,7 @@ module _ (ws ks fs gs xs₀ : List ℕ) (old : Buffers) where
       let s : Call-step e b (g .log) new next d = call-step b (g .log) (g .good) (g .tied) e d new next q m in
       let sp = split ks fs gs i h (g .firsts) (g .seconds) in
       let k = log-call e (g .log) .log in
-      subst (λ (j : ℕ). Going ws ks fs gs xs₀ old (d .board) j (set xs i (d .answer)) next) (sym (add-one i))
+      subst (λ (j : ℕ). Calls-made ws ks fs gs xs₀ old (d .board) j (set xs i (d .answer)) next) (sym (add-one i))
       (record {
         within = h;
         firsts = g .firsts;
@@ -212,7 +212,7 @@ module _ (ws ks fs gs xs₀ : List ℕ) (old : Buffers) where
   length-calls (k ∷ ks) (f ∷ fs) [] p q = absurd (omega arith)
   length-calls (k ∷ ks) (f ∷ fs) (g ∷ gs) p q = ap suc (length-calls ks fs gs (omega arith) (omega arith))
 
-  module _ (b : Board) (i : ℕ) (xs : List ℕ) (mid new : Buffers) (v : View) (h : length ks ≤ i) (g : Going ws ks fs gs xs₀ old b i xs mid)
+  module _ (b : Board) (i : ℕ) (xs : List ℕ) (mid new : Buffers) (v : View) (h : length ks ≤ i) (g : Calls-made ws ks fs gs xs₀ old b i xs mid)
       (l : Looks b mid new v) where
     all-made : i ≡ length (calls ks fs gs)
     all-made = omega (arith, g .within, length-calls ks fs gs (g .firsts) (g .seconds))
@@ -242,5 +242,5 @@ module _ (ws ks fs gs xs₀ : List ℕ) (old : Buffers) where
     pub ended : card-refusal ws ≡ 0 → Replays ws ks fs gs xs₀ xs old new v
     unfolding Replays
     ended z =
-        rw (z, or-both-false (unfit (length ks) (length fs) (length gs) (length xs₀)) (short-for (instance-in ws .n) old) (fit ks fs gs xs₀ (g .firsts) (g .seconds) (g .room)) (g .long))
+        rw (z, or-both-false (lists-short (length ks) (length fs) (length gs) (length xs₀)) (short-for (instance-in ws .n) old) (lists-long ks fs gs xs₀ (g .firsts) (g .seconds) (g .room)) (g .long))
         (finish (calls ks fs gs) start v xs₀ xs old new answers-made (subst (λ (s : Instance). Shows s old new v) shown-of shown))

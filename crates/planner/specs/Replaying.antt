@@ -60,15 +60,15 @@ calls-after [] k = k
 calls-after (c ∷ cs) k = calls-after cs (log-call c k .log)
 
 -- ONE CALL on a board: the answer, the board that is left, and the buffers of a look
-unfoldable pub Makes : Call → Board → (old new : Buffers) → Answered → Type 0
-Makes (command c) b old new r = Answers (answered c (model-of b)) b r × (new ≡ old)
-Makes look b old new r = (v : View) × (r .answer ≡ answer-of v) × (r .board ≡ b) × Looks b old new v
-Makes write b old new r = (r .answer ≡ cond (valid (model-of b)) 0 invalid-board) × (r .board ≡ b) × (new ≡ old)
+unfoldable pub Makes : Board → Call → (old new : Buffers) → Answered → Type 0
+Makes b (command c) old new r = Answers (answered c (model-of b)) b r × (new ≡ old)
+Makes b look old new r = (v : View) × (r .answer ≡ answer-of v) × (r .board ≡ b) × Looks b old new v
+Makes b write old new r = (r .answer ≡ cond (valid (model-of b)) 0 invalid-board) × (r .board ≡ b) × (new ≡ old)
 
 -- THE WHOLE LIST on a freshly opened card, and a look at the end
 -- fewer numbers than kinds, or no room for the answers
-unfoldable pub unfit : (kinds firsts seconds answers : ℕ) → Bool
-unfit k f s a = ltb f k || (ltb s k || ltb a k)
+unfoldable pub lists-short : (kinds firsts seconds answers : ℕ) → Bool
+lists-short k f s a = ltb f k || (ltb s k || ltb a k)
 
 -- A card that does not open leaves everything as it was, and so does "a lent buffer too short" (14): a list of numbers,
 -- the answers, or one of the look's three. Else every call is made, its answer is the log's, and the last look shows
@@ -80,5 +80,5 @@ Replays-at zero false cs k xs xs′ old new r = (xs′ ≡ in-front (call-answer
 
 unfoldable pub Replays : (card kinds firsts seconds : List ℕ) → (answers answers′ : List ℕ) → (old new : Buffers) → View → Type 0
 Replays ws ks fs gs xs xs′ old new r =
-    Replays-at (card-refusal ws) (unfit (length ks) (length fs) (length gs) (length xs) || short-for (instance-in ws .n) old) (calls ks fs gs)
+    Replays-at (card-refusal ws) (lists-short (length ks) (length fs) (length gs) (length xs) || short-for (instance-in ws .n) old) (calls ks fs gs)
     (new-log (instance-in ws)) xs xs′ old new r

@@ -9,10 +9,10 @@ use instance::limits::CELLS;
 use survey::Survey;
 
 pub fn display(
-    surveyed: Survey,
+    surveyed: Survey, // what planning found
     weights: &[u32; CELLS], // the instance's, which tell where an arc is
-    n: u32,
-    root: u32,
+    n: u32, // the number of vertices
+    root: u32, // one of them
     parents: &mut [u8], // takes n bytes
     states: &mut [u8], // takes n times n bytes
     cuts: &mut [u32], // takes 122 words

@@ -6,7 +6,7 @@ ghost use Rattle.instance.specs.Refusals.{invalid-board};
 ghost use Rattle.commands.specs.Valid.{valid};
 ghost use Rattle.board.specs.ModelOf.{model-of, command-of};
 ghost use Rattle.planner.specs.Looking.{buffers, answer-of};
-ghost use Rattle.planner.specs.Replaying.{call, Makes, unfit, Replays};
+ghost use Rattle.planner.specs.Replaying.{call, Makes, lists-short, Replays};
 ghost use Rattle.planner.specs.Replaying as calls;
 use crate::View;
 use crate::looking::is_too_short;
@@ -81,7 +81,7 @@ fn make_call(
     states: &mut [u8],
     cuts: &mut [u32],
 ) -> Answered
-    ensures { λ r. ⌜ Makes (call kind first second) b (buffers (now (parents .entry)) (now (states .entry)) (now (cuts .entry))) (buffers (now (parents .exit)) (now (states .exit)) (now (cuts .exit))) r ⌝ }
+    ensures { λ r. ⌜ Makes b (call kind first second) (buffers (now (parents .entry)) (now (states .entry)) (now (cuts .entry))) (buffers (now (parents .exit)) (now (states .exit)) (now (cuts .exit))) r ⌝ }
 {
     if kind < LOOK {
         let command = command_at(kind, first, second);
@@ -96,8 +96,8 @@ fn make_call(
     Answered { answer, board: b }
 }
 
-fn is_unfit(kinds: usize, firsts: usize, seconds: usize, answers: usize) -> bool
-    ensures { λ r. ⌜ r ≡ unfit kinds firsts seconds answers ⌝ }
+fn are_lists_short(kinds: usize, firsts: usize, seconds: usize, answers: usize) -> bool
+    ensures { λ r. ⌜ r ≡ lists-short kinds firsts seconds answers ⌝ }
 {
     if firsts < kinds {
         return true;
@@ -130,7 +130,7 @@ pub fn replay(
     if answer != 0 {
         return View::Refused(answer);
     }
-    if is_unfit(kinds.len(), firsts.len(), seconds.len(), answers.len()) {
+    if are_lists_short(kinds.len(), firsts.len(), seconds.len(), answers.len()) {
         return View::Refused(BUFFER_SHORT);
     }
     let mut b = opened.board;

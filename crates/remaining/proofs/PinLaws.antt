@@ -11,7 +11,7 @@ use lib.Dec.{eqb}
 use lib.ListN.{length, set}
 use borrow.Author.Tests.{ne-eqb, eqb-true}
 use Rattle.base.specs.Bounded.{any-below}
-use Rattle.base.proofs.Tests.{and-false-right}
+use Rattle.base.proofs.BoolLaws.{and-false-right}
 use Rattle.base.proofs.FillingLaws.{filled-none, filled-more}
 use Rattle.instance.specs.Limits.{max-vertices, no-arc, pinned, banned}
 use Rattle.instance.specs.Instance.{Instance, can-be-arc, is-arc, weight, mark}

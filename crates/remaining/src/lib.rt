@@ -8,7 +8,7 @@ ghost use Prim.Native.Nat.{_≤_};
 ghost use lib.Dec.{eqb};
 ghost use lib.ListN.{length};
 ghost use Rattle.instance.specs.Limits.{max-vertices, no-arc, banned, cells};
-ghost use Rattle.instance.specs.Instance.{instance-with};
+ghost use Rattle.instance.specs.Instance.{without-budget};
 ghost use Rattle.instance.specs.Matrix.{matrix};
 ghost use Rattle.remaining.specs.Pins.{allows};
 use checks::arc::can_be_arc;
@@ -42,7 +42,7 @@ pub fn remaining_matrix<'a>(
     root: u32,
 ) -> [u32; CELLS]
     requires { ⌜ (n ≤ max-vertices) × (length (now weights) ≡ cells) × (length (now marks) ≡ cells) ⌝ }
-    ensures { λ r. ⌜ r ≡ matrix (instance-with n root 0 (now (weights .entry)) (now (marks .entry))) ⌝ }
+    ensures { λ r. ⌜ r ≡ matrix (without-budget n root (now (weights .entry)) (now (marks .entry))) ⌝ }
 {
     let pins = pin_table(weights, marks, n, root);
     let mut w = [NO_ARC; CELLS];

@@ -3,7 +3,7 @@ ghost use mathlib.Core.Path.{_≡_};
 ghost use Prim.Native.Nat.{_≤_};
 ghost use lib.ListN.{length};
 ghost use Rattle.instance.specs.Limits.{max-vertices, cells};
-ghost use Rattle.instance.specs.Instance.{instance-with};
+ghost use Rattle.instance.specs.Instance.{without-budget};
 ghost use Rattle.instance.specs.Arborescence.{is-pinned as pinned-arc};
 ghost use Rattle.remaining.specs.Pins.{Pins, Pin-table};
 use checks::arc::is_arc;
@@ -26,7 +26,7 @@ fn is_pinned<'a>(
     head: u32,
 ) -> bool
     requires { ⌜ (n ≤ max-vertices) × (length (now weights) ≡ cells) × (length (now marks) ≡ cells) ⌝ }
-    ensures { λ r. ⌜ r ≡ pinned-arc (instance-with n root 0 (now (weights .entry)) (now (marks .entry))) tail head ⌝ }
+    ensures { λ r. ⌜ r ≡ pinned-arc (without-budget n root (now (weights .entry)) (now (marks .entry))) tail head ⌝ }
 {
     if !is_arc(weights, n, root, tail, head) {
         return false;
@@ -44,7 +44,7 @@ fn pins_into<'a>(
     head: u32,
 ) -> u32
     requires { ⌜ (n ≤ max-vertices) × (length (now weights) ≡ cells) × (length (now marks) ≡ cells) ⌝ }
-    ensures { λ r. ⌜ Pins (instance-with n root 0 (now (weights .entry)) (now (marks .entry))) head n r ⌝ }
+    ensures { λ r. ⌜ Pins (without-budget n root (now (weights .entry)) (now (marks .entry))) head n r ⌝ }
 {
     let mut pin = NO_PIN;
     let mut g: u32 = 0;
@@ -68,7 +68,7 @@ pub fn pin_table<'a>(
     root: u32,
 ) -> [u32; VERTICES]
     requires { ⌜ (n ≤ max-vertices) × (length (now weights) ≡ cells) × (length (now marks) ≡ cells) ⌝ }
-    ensures { λ r. ⌜ Pin-table (instance-with n root 0 (now (weights .entry)) (now (marks .entry))) n r ⌝ }
+    ensures { λ r. ⌜ Pin-table (without-budget n root (now (weights .entry)) (now (marks .entry))) n r ⌝ }
 {
     let mut table = [NO_PIN; VERTICES];
     let mut head: u32 = 0;

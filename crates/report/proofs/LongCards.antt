@@ -10,7 +10,7 @@ use borrow.Author.Tests.{ltb-true, ltb-false, ne-eqb}
 use lib.Dec.{ltb, eqb}
 use lib.ListN.{length, take}
 use lib.Seq.{take-all}
-use Rattle.base.proofs.Tests.{test}
+use Rattle.base.proofs.BoolLaws.{test}
 use Rattle.card_format.specs.Card.{max-card, card-refusal}
 use Rattle.card_format.proofs.TooLong.{too-long-refused, too-long-by-part}
 use Rattle.report.specs.declared.Reported.{Reported}

@@ -1,23 +1,23 @@
 -- The longest text is one that the call prints: the card of the star of crate report_text opens as the star itself, and
 -- every report on it into a buffer that is long enough is `max-text` bytes long. So no smaller need than `max-text`
 -- would do for this call. Assumes nothing.
-use mathlib.Core.Path.{_≡_, refl, sym, _∙_, ap, subst}
-use mathlib.Core.Bool.{Bool, true, false, _&&_, cond}
+use mathlib.Core.Path.{_≡_, refl, _∙_, ap, subst}
+use mathlib.Core.Bool.{Bool, false, _&&_, cond}
 use mathlib.Core.List.{List}
-use Prim.Native.Nat.{ℕ, _/_, _%_, _≤_, _<_}
+use Prim.Native.Nat.{ℕ, _/_, _≤_, _<_}
 use borrow.Author.Tests.{eq-eqb, le-ltb}
-use lib.Dec.{ltb, eqb}
+use lib.Dec.{eqb}
 use lib.ListN.{length, length-replicate}
-use Rattle.base.proofs.Tests.{and-false-right}
-use Rattle.base.proofs.ListLaws.{length-tabulate, getD-tabulate}
+use Rattle.base.proofs.BoolLaws.{and-false-right}
+use Rattle.base.proofs.ListLaws.{replicate-at, length-tabulate, getD-tabulate}
 use Rattle.instance.specs.Limits.{max-weight, no-arc, free, cells}
-use Rattle.instance.specs.Instance.{Instance, can-be-arc, weight-at, mark-at}
+use Rattle.instance.specs.Instance.{Instance, weight-at, mark-at}
 use Rattle.instance.specs.States.{outcome}
 use Rattle.card_format.specs.Card.{on-card, card-refusal, instance-in, card-of}
 use Rattle.card_format.proofs.InstanceAgain.{written-opens, instance-back}
 use Rattle.survey.specs.Survey.{Parents-by}
 use Rattle.report_text.specs.Whole.{report-text, max-text}
-use Rattle.report_text.proofs.LongestText.{star, star-cell, all-free, star-parents, star-valid, star-only, star-outcome, longest}
+use Rattle.report_text.proofs.LongestText.{star, star-cell, star-parents, star-valid, star-only, star-outcome, longest}
 use Rattle.report.specs.declared.Reported.{Reported}
 use Rattle.report.specs.Reports.{Reports-instance, Reports-by, Reports}
 
@@ -28,7 +28,7 @@ off-card i l e = (
   getD-tabulate cells star-cell i no-arc l
       ∙ ap (λ (b : Bool). cond (eqb (i / 32) 31 && b) max-weight no-arc) e
       ∙ ap (λ (b : Bool). cond b max-weight no-arc) (and-false-right (eqb (i / 32) 31) false refl),
-  all-free cells i,
+  replicate-at cells i free,
 )
 
 star-again : instance-in (card-of star) ≡ star

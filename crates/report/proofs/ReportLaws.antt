@@ -1,6 +1,6 @@
 -- From the contracts of opening and looking to the text of a card: what a look shows is what the text is made of.
 -- Assumes nothing.
-use mathlib.Core.Path.{_≡_, refl, sym, ap, _∙_, subst}
+use mathlib.Core.Path.{_≡_, refl, sym, ap, _∙_}
 use mathlib.Core.Bool.{Bool, true, false, true≢false}
 use mathlib.Core.List.{List}
 use Prim.Native.Nat.{ℕ, _*_, _≤_, _<_}
@@ -9,7 +9,7 @@ use native.Mathlib.Nat.{mul-le-mul}
 use borrow.Author.Tests.{le-ltb, lt-ltb, eq-eqb, ne-eqb}
 use lib.Dec.{ltb, eqb}
 use lib.ListN.{length, take, drop, length-append}
-use Rattle.base.proofs.Tests.{or-both-false}
+use Rattle.base.proofs.BoolLaws.{or-both-false}
 use Rattle.base.proofs.FrontLaws.{front-length, front-take}
 use Rattle.instance.specs.Limits.{max-vertices, cells, cut-words}
 use Rattle.instance.specs.Refusals.{buffer-short}

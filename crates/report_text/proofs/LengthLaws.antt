@@ -8,7 +8,7 @@ use Prim.Native.Nat.{ℕ, _+_, _^_, _≤_, _<_}
 use native.Mathlib.Omega.{arith}
 use borrow.Author.Tests.{ne-eqb}
 use lib.ListN.{length, length-append}
-use Rattle.base.proofs.Tests.{test}
+use Rattle.base.proofs.BoolLaws.{test}
 use Rattle.instance.specs.Limits.{max-vertices, max-budget}
 use Rattle.instance.specs.Instance.{Instance, weight, is-arc}
 use Rattle.instance.specs.Arborescence.{parent, is-arborescence}

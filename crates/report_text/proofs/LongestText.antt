@@ -6,16 +6,16 @@
 use mathlib.Core.Path.{_≡_, refl, sym, _∙_, subst}
 use mathlib.Core.Bool.{Bool, true, false, _&&_, not, cond}
 use mathlib.Core.List.{List}
-use Prim.Native.Nat.{ℕ, zero, suc, _+_, _/_, _%_, _≤_, _<_}
+use Prim.Native.Nat.{ℕ, _+_, _/_, _%_, _≤_, _<_}
 use native.Mathlib.Omega.{arith}
 use borrow.Author.Tests.{eqb-true, eqb-false, eq-eqb, ne-eqb, lt-ltb}
 use lib.Dec.{eqb}
-use lib.ListN.{length, getD, replicate}
+use lib.ListN.{length, replicate}
 use Rattle.base.specs.Bounded.{all-below, sum-below}
 use Rattle.base.specs.Lists.{tabulate-from, tabulate}
-use Rattle.base.proofs.Tests.{not-both, is-true, and-false-right}
+use Rattle.base.proofs.BoolLaws.{not-both, is-true, and-false-right}
 use Rattle.base.proofs.BoundedLaws.{all-at, all-intro, any-false}
-use Rattle.base.proofs.ListLaws.{length-tabulate, getD-tabulate, tabulate-is}
+use Rattle.base.proofs.ListLaws.{replicate-at, length-tabulate, getD-tabulate, tabulate-is}
 use Rattle.instance.specs.Limits.{max-vertices, max-weight, no-arc, max-budget, free, no-parent, cells}
 use Rattle.instance.specs.Instance.{Instance, cell, weight, mark, can-be-arc, is-arc}
 use Rattle.instance.specs.Arborescence.{is-pinned, other-pinned, remaining, parent, reaches, is-arborescence, total}
@@ -59,21 +59,16 @@ star-weight t h lt lh =
     let f : cell t h % 32 ≡ h = omega arith in
     getD-tabulate cells star-cell (cell t h) no-arc (omega arith) ∙ rw (e, f)
 
-pub all-free : (k i : ℕ) → getD (replicate k free) i free ≡ free
-all-free zero i = refl
-all-free (suc k) zero = refl
-all-free (suc k) (suc i) = all-free k i
-
 star-mark : (t h : ℕ) → mark star t h ≡ free
 unfolding star mark
-star-mark t h = all-free cells (cell t h)
+star-mark t h = replicate-at cells (cell t h) free
 
 -- VALID
 pub star-valid : valid-instance star ≡ true
 unfolding star valid-instance header-valid cell-valid cell-ok
 star-valid =
     all-intro cells (cell-valid star)
-    (λ i l. rw (getD-tabulate cells star-cell i no-arc l, all-free cells i) (go (can-be-arc max-vertices 31 (i / 32) (i % 32)) (eqb (i / 32) 31)))
+    (λ i l. rw (getD-tabulate cells star-cell i no-arc l, replicate-at cells i free) (go (can-be-arc max-vertices 31 (i / 32) (i % 32)) (eqb (i / 32) 31)))
   where
     go : (a b : Bool) → cond a (cell-ok (cond (b && a) max-weight no-arc) free) true ≡ true
     go true true = refl

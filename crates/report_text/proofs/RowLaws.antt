@@ -41,22 +41,22 @@ module _ (ss : List ℕ) (n t : ℕ) {old : List ℕ} {at : ℕ} (room : Room (r
   pub row-room : Room (labelled (codes "row ") t) old at
   row-room = room-first (space ∷ []) with-space
 
-  module _ {mid : List ℕ} {m : ℕ} (a : Puts (labelled (codes "row ") t) old at mid m) where
+  module _ {mid : List ℕ} {m : ℕ} (a : Puts (labelled (codes "row ") t) old mid at m) where
     pub space-room : m < length mid
     space-room = byte-room a space with-space
 
-    spaced : Puts (labelled (codes "row ") t ++ (space ∷ [])) old at (set mid m space) (m + 1)
+    spaced : Puts (labelled (codes "row ") t ++ (space ∷ [])) old (set mid m space) at (m + 1)
     spaced = puts-byte a space with-space
 
     pub states-room : Room (row-states ss n t) (set mid m space) (m + 1)
     states-room = puts-room spaced (row-states ss n t) with-states
 
-    module _ {last : List ℕ} {r : ℕ} (b : Puts (row-states ss n t) (set mid m space) (m + 1) last r) where
+    module _ {last : List ℕ} {r : ℕ} (b : Puts (row-states ss n t) (set mid m space) last (m + 1) r) where
       pub end-room : r < length last
       unfolding row-line
       end-room = byte-room (puts-then spaced with-states b) line-feed room
 
-      pub row-put : Puts (row-line ss n t) old at (set last r line-feed) (r + 1)
+      pub row-put : Puts (row-line ss n t) old (set last r line-feed) at (r + 1)
       unfolding row-line
       row-put = puts-byte (puts-then spaced with-states b) line-feed room
 

@@ -30,22 +30,22 @@ module _ (ws ps ss : List ℕ) (n r b : ℕ) (o : Outcome) {old : List ℕ} (fit
   pub header-room : Room (header-line n r b) old 0
   header-room = room-first (outcome-line o) with-outcome
 
-  module _ {second : List ℕ} {at₂ : ℕ} (header : Puts (header-line n r b) old 0 second at₂) where
+  module _ {second : List ℕ} {at₂ : ℕ} (header : Puts (header-line n r b) old second 0 at₂) where
     pub outcome-room : Room (outcome-line o) second at₂
     outcome-room = puts-room header (outcome-line o) with-outcome
 
-    module _ {third : List ℕ} {at₃ : ℕ} (outcome : Puts (outcome-line o) second at₂ third at₃) where
+    module _ {third : List ℕ} {at₃ : ℕ} (outcome : Puts (outcome-line o) second third at₂ at₃) where
       pub feeds-room : Room (feed-lines ws ps n r o) third at₃
       feeds-room = puts-room (puts-then header with-outcome outcome) (feed-lines ws ps n r o) with-feeds
 
-      module _ {fourth : List ℕ} {at₄ : ℕ} (feeds : Puts (feed-lines ws ps n r o) third at₃ fourth at₄) where
-        before-rows : Puts (header-line n r b ++ outcome-line o ++ feed-lines ws ps n r o) old 0 fourth at₄
+      module _ {fourth : List ℕ} {at₄ : ℕ} (feeds : Puts (feed-lines ws ps n r o) third fourth at₃ at₄) where
+        before-rows : Puts (header-line n r b ++ outcome-line o ++ feed-lines ws ps n r o) old fourth 0 at₄
         before-rows = puts-then (puts-then header with-outcome outcome) with-feeds feeds
 
         pub rows-room : Room (row-lines ss n) fourth at₄
         rows-room = puts-room before-rows (row-lines ss n) all
 
-        pub text-put : {new : List ℕ} {end : ℕ} → Puts (row-lines ss n) fourth at₄ new end → Filled (whole-text ws ps ss n r b o) old new end
+        pub text-put : {new : List ℕ} {end : ℕ} → Puts (row-lines ss n) fourth new at₄ end → Filled (whole-text ws ps ss n r b o) old new end
         unfolding whole-text
         text-put rows = puts-filled (puts-then before-rows all rows)
 

@@ -10,7 +10,7 @@ use Rattle.instance.specs.Instance.{Instance, weight, mark, can-be-arc, is-arc}
 use Rattle.instance.specs.Arborescence.{is-pinned, other-pinned, remaining, reaches, parent-ok, is-arborescence, total, uses}
 use Rattle.instance.specs.Candidates.{prefixed, choices, candidates-from, candidates, arborescences, lesser, least-total, cheapest}
 use Rattle.instance.specs.States.{outcome-at, outcome, fits, fitting, state-over, states}
-use Rattle.instance.proofs.WorkedCases.{arc, filled, instance-of, instance-q}
+use Rattle.instance.proofs.WorkedCases.{arc, filled, instance-from, instance-q}
 use Rattle.text.specs.Decimal.{decimal-in, decimal}
 use Rattle.text.specs.Lines.{codes}
 use Rattle.text.specs.Join.{join-below}
@@ -28,7 +28,7 @@ printed =
     reported (instance-q 16 []) (255 ∷ 0 ∷ 1 ∷ 1 ∷ [])
     ∷ reported (instance-q 14 []) []
     ∷ reported (instance-q 16 (arc 2 1 pinned ∷ arc 1 2 pinned ∷ [])) []
-    ∷ reported (instance-of 1 0 0 [] []) (255 ∷ [])
+    ∷ reported (instance-from 1 0 0 [] []) (255 ∷ [])
     ∷ refused-text 3
     ∷ []
 
@@ -61,10 +61,10 @@ shown =
     ∷ []
 
 -- THE CLAIM
-pub worked : printed ≡ shown
+pub worked-texts : printed ≡ shown
 unfolding
     reported printed shown codes decimal-in decimal join-below header-line outcome-line feed-line feed-at feed-lines row-line row-lines whole-text report-text
-    refused-text instance-q instance-of filled all-below any-below sum-below tabulate-from tabulate select any-of all-of weight mark can-be-arc is-arc
+    refused-text instance-q instance-from filled all-below any-below sum-below tabulate-from tabulate select any-of all-of weight mark can-be-arc is-arc
     is-pinned other-pinned remaining reaches parent-ok is-arborescence total uses prefixed choices candidates-from candidates arborescences lesser
     least-total cheapest outcome-at outcome fits fitting state-over states
-worked = refl
+worked-texts = refl

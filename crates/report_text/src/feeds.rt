@@ -14,7 +14,7 @@ use text::lines::put_three;
 
 fn put_feed(head: u32, tail: u32, weight: u32, out: &mut [u8], at: usize) -> usize
     requires { ⌜ Room (feed-line head tail weight) (now out) at ⌝ }
-    ensures { λ r. ⌜ Puts (feed-line head tail weight) (now (out .entry)) at (now (out .exit)) r ⌝ }
+    ensures { λ r. ⌜ Puts (feed-line head tail weight) (now (out .entry)) (now (out .exit)) at r ⌝ }
 {
     put_three(b"feed ", head, b" from ", tail, b" price ", weight, out, at)
 }
@@ -40,7 +40,7 @@ fn put_feed_at(
     requires { ⌜ length (now weights) ≡ cells ⌝ }
     requires { ⌜ v < length (now parents) ⌝ }
     requires { ⌜ Room (feed-at (now weights) (now parents) root v) (now out) at ⌝ }
-    ensures { λ r. ⌜ Puts (feed-at (now (weights .entry)) (now (parents .entry)) root v) (now (out .entry)) at (now (out .exit)) r ⌝ }
+    ensures { λ r. ⌜ Puts (feed-at (now (weights .entry)) (now (parents .entry)) root v) (now (out .entry)) (now (out .exit)) at r ⌝ }
 {
     if v == root {
         return at;
@@ -62,7 +62,7 @@ fn put_arcs(
     requires { ⌜ length (now weights) ≡ cells ⌝ }
     requires { ⌜ n ≤ length (now parents) ⌝ }
     requires { ⌜ Room (join-below n (feed-at (now weights) (now parents) root)) (now out) at ⌝ }
-    ensures { λ r. ⌜ Puts (join-below n (feed-at (now (weights .entry)) (now (parents .entry)) root)) (now (out .entry)) at (now (out .exit)) r ⌝ }
+    ensures { λ r. ⌜ Puts (join-below n (feed-at (now (weights .entry)) (now (parents .entry)) root)) (now (out .entry)) (now (out .exit)) at r ⌝ }
 {
     let mut v = 0;
     let mut next = at;
@@ -87,7 +87,7 @@ pub fn put_feeds(
     requires { ⌜ length (now weights) ≡ cells ⌝ }
     requires { ⌜ n ≤ length (now parents) ⌝ }
     requires { ⌜ Room (feed-lines (now weights) (now parents) n root outcome) (now out) at ⌝ }
-    ensures { λ r. ⌜ Puts (feed-lines (now (weights .entry)) (now (parents .entry)) n root outcome) (now (out .entry)) at (now (out .exit)) r ⌝ }
+    ensures { λ r. ⌜ Puts (feed-lines (now (weights .entry)) (now (parents .entry)) n root outcome) (now (out .entry)) (now (out .exit)) at r ⌝ }
 {
     if shows_tree(outcome) {
         return put_arcs(weights, parents, n, root, out, at);

@@ -8,7 +8,7 @@ use text::lines::put_three;
 
 pub fn put_header(n: u32, root: u32, budget: u32, out: &mut [u8], at: usize) -> usize
     requires { ⌜ Room (header-line n root budget) (now out) at ⌝ }
-    ensures { λ r. ⌜ Puts (header-line n root budget) (now (out .entry)) at (now (out .exit)) r ⌝ }
+    ensures { λ r. ⌜ Puts (header-line n root budget) (now (out .entry)) (now (out .exit)) at r ⌝ }
 {
     put_three(
         b"positions ",
@@ -24,7 +24,7 @@ pub fn put_header(n: u32, root: u32, budget: u32, out: &mut [u8], at: usize) -> 
 
 pub fn put_outcome(outcome: Outcome, out: &mut [u8], at: usize) -> usize
     requires { ⌜ Room (outcome-line outcome) (now out) at ⌝ }
-    ensures { λ r. ⌜ Puts (outcome-line outcome) (now (out .entry)) at (now (out .exit)) r ⌝ }
+    ensures { λ r. ⌜ Puts (outcome-line outcome) (now (out .entry)) (now (out .exit)) at r ⌝ }
 {
     match outcome {
         Outcome::Plan(total) => put_line(b"plan ", total, out, at),

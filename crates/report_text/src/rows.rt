@@ -13,7 +13,7 @@ use text::lines::put_labelled;
 fn put_states(states: &[u8], n: u32, from: usize, out: &mut [u8], at: usize) -> usize
     requires { ⌜ from + n ≤ length (now states) ⌝ }
     requires { ⌜ Room (join-below n (λ h. decimal (getD (now states) (from + h) 0))) (now out) at ⌝ }
-    ensures { λ r. ⌜ Puts (join-below n (λ h. decimal (getD (now (states .entry)) (from + h) 0))) (now (out .entry)) at (now (out .exit)) r ⌝ }
+    ensures { λ r. ⌜ Puts (join-below n (λ h. decimal (getD (now (states .entry)) (from + h) 0))) (now (out .entry)) (now (out .exit)) at r ⌝ }
 {
     let mut h = 0;
     let mut next = at;
@@ -29,7 +29,7 @@ fn put_row(states: &[u8], n: u32, tail: u32, out: &mut [u8], at: usize) -> usize
     requires { ⌜ tail < n ⌝ }
     requires { ⌜ n * n ≤ length (now states) ⌝ }
     requires { ⌜ Room (row-line (now states) n tail) (now out) at ⌝ }
-    ensures { λ r. ⌜ Puts (row-line (now (states .entry)) n tail) (now (out .entry)) at (now (out .exit)) r ⌝ }
+    ensures { λ r. ⌜ Puts (row-line (now (states .entry)) n tail) (now (out .entry)) (now (out .exit)) at r ⌝ }
 {
     let named = put_labelled(b"row ", tail, out, at);
     out[named] = b' ';
@@ -42,7 +42,7 @@ pub fn put_rows(states: &[u8], n: u32, out: &mut [u8], at: usize) -> usize
     requires { ⌜ n ≤ max-vertices ⌝ }
     requires { ⌜ n * n ≤ length (now states) ⌝ }
     requires { ⌜ Room (row-lines (now states) n) (now out) at ⌝ }
-    ensures { λ r. ⌜ Puts (row-lines (now (states .entry)) n) (now (out .entry)) at (now (out .exit)) r ⌝ }
+    ensures { λ r. ⌜ Puts (row-lines (now (states .entry)) n) (now (out .entry)) (now (out .exit)) at r ⌝ }
 {
     let mut tail = 0;
     let mut next = at;

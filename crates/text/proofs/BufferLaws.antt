@@ -56,14 +56,14 @@ pub room-whole : (text old : List ℕ) → length text ≤ length old → Room t
 room-whole text old h = record { long-enough = omega arith }
 
 -- NOTHING, ONE BYTE, A TEXT MORE, ONE BYTE MORE
-pub puts-none : (old : List ℕ) (at : ℕ) → Puts [] old at old at
+pub puts-none : (old : List ℕ) (at : ℕ) → Puts [] old old at at
 unfolding placed
 puts-none old at = record { buffer = sym (take-append-drop at old); place = sym (add-zero at) }
 
-pub puts-one : (old : List ℕ) (at b : ℕ) → at < length old → Puts (b ∷ []) old at (set old at b) (at + 1)
+pub puts-one : (old : List ℕ) (at b : ℕ) → at < length old → Puts (b ∷ []) old (set old at b) at (at + 1)
 puts-one old at b h = record { buffer = placed-byte old at b h; place = refl }
 
-module _ {old mid s : List ℕ} {at m : ℕ} (a : Puts s old at mid m) where
+module _ {old mid s : List ℕ} {at m : ℕ} (a : Puts s old mid at m) where
   -- there is room for what follows
   pub puts-room : (t : List ℕ) → Room (s ++ t) old at → Room t mid m
   puts-room t room =
@@ -71,7 +71,7 @@ module _ {old mid s : List ℕ} {at m : ℕ} (a : Puts s old at mid m) where
       let n = ap length (a .buffer) ∙ placed-length s old at (room-first {s = s} t room .long-enough) in
       record { long-enough = omega (arith, a .place) }
 
-  pub puts-then : {new t : List ℕ} {r : ℕ} → Room (s ++ t) old at → Puts t mid m new r → Puts (s ++ t) old at new r
+  pub puts-then : {new t : List ℕ} {r : ℕ} → Room (s ++ t) old at → Puts t mid new m r → Puts (s ++ t) old new at r
   puts-then {new} {t} {r} room b =
       let e = length-append s t in
       record {
@@ -85,20 +85,20 @@ module _ {old mid s : List ℕ} {at m : ℕ} (a : Puts s old at mid m) where
   pub byte-room : (b : ℕ) → Room (s ++ (b ∷ [])) old at → m < length mid
   byte-room b room = let h = puts-room (b ∷ []) room in omega arith
 
-  pub puts-byte : (b : ℕ) → Room (s ++ (b ∷ [])) old at → Puts (s ++ (b ∷ [])) old at (set mid m b) (m + 1)
+  pub puts-byte : (b : ℕ) → Room (s ++ (b ∷ [])) old at → Puts (s ++ (b ∷ [])) old (set mid m b) at (m + 1)
   puts-byte b room = puts-then room (puts-one mid m b (byte-room b room))
 
 -- A LIST THAT IS COPIED: the place after i bytes of it, and one byte more
-module _ {old mid : List ℕ} {at m : ℕ} (l : List ℕ) (i : ℕ) (a : Puts (take i l) old at mid m) where
+module _ {old mid : List ℕ} {at m : ℕ} (l : List ℕ) (i : ℕ) (a : Puts (take i l) old mid at m) where
   pub copied-place : i ≤ length l → m ≡ at + i
   copied-place h = a .place ∙ ap (λ (k : ℕ). at + k) (length-take-le i l h)
 
-  pub copied-next : i < length l → Room l old at → Puts (take (i + 1) l) old at (set mid m (getD l i 0)) (m + 1)
+  pub copied-next : i < length l → Room l old at → Puts (take (i + 1) l) old (set mid m (getD l i 0)) at (m + 1)
   copied-next h room =
       let r : at + length (take i l ++ (getD l i 0 ∷ [])) ≤ length old = rw (length-append, length-take) (omega arith) in
       rw (add-one i, take-suc l i 0 h) (puts-byte a (getD l i 0) (record { long-enough = r }))
 
 -- FROM THE BEGINNING ON
-pub puts-filled : {text old new : List ℕ} {r : ℕ} → Puts text old 0 new r → Filled text old new r
+pub puts-filled : {text old new : List ℕ} {r : ℕ} → Puts text old new 0 r → Filled text old new r
 unfolding placed
 puts-filled {text} w = record { buffer = w .buffer; place = w .place ∙ zero-add (length text) }

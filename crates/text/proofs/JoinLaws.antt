@@ -28,11 +28,11 @@ module _ (g : ℕ → List ℕ) where
   join-more k = rw add-one
 
   -- A LOOP: nothing yet
-  pub join-none : (old : List ℕ) (at : ℕ) → Puts (join-below 0 g) old at old at
+  pub join-none : (old : List ℕ) (at : ℕ) → Puts (join-below 0 g) old old at at
   unfolding join-below
   join-none old at = puts-none old at
 
-  module _ {old mid : List ℕ} {at m : ℕ} (n k : ℕ) (room : Room (join-below n g) old at) (h : k < n) (a : Puts (join-below k g) old at mid m) where
+  module _ {old mid : List ℕ} {at m : ℕ} (n k : ℕ) (room : Room (join-below n g) old at) (h : k < n) (a : Puts (join-below k g) old mid at m) where
     part : Room (join-below k g ++ g k) old at
     part =
         let l = sum-longer (λ i. length (g i)) (k + 1) n (omega arith) in
@@ -44,5 +44,5 @@ module _ (g : ℕ → List ℕ) where
     pub join-room : Room (g k) mid m
     join-room = puts-room a (g k) part
 
-    pub join-next : {new : List ℕ} {r : ℕ} → Puts (g k) mid m new r → Puts (join-below (k + 1) g) old at new r
+    pub join-next : {new : List ℕ} {r : ℕ} → Puts (g k) mid new m r → Puts (join-below (k + 1) g) old new at r
     join-next b = rw (join-more k) (puts-then a part b)

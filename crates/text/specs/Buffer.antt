@@ -17,7 +17,7 @@ unfoldable pub placed : (text old : List ℕ) → (at : ℕ) → List ℕ
 placed t old at = take at old ++ in-front t (drop at old)
 
 -- the whole buffer after a text was put there, and the place after the text
-pub record Puts (text old : List ℕ) (at : ℕ) (new : List ℕ) (next : ℕ) : Type 0 where
+pub record Puts (text old new : List ℕ) (at next : ℕ) : Type 0 where
   pub buffer : new ≡ placed text old at
   pub place : next ≡ at + length text
 

@@ -3,7 +3,7 @@ ghost use Rattle.text.specs.Buffer.{Room, Puts};
 
 pub fn put_bytes(bytes: &[u8], out: &mut [u8], at: usize) -> usize
     requires { ⌜ Room (now bytes) (now out) at ⌝ }
-    ensures { λ r. ⌜ Puts (now (bytes .entry)) (now (out .entry)) at (now (out .exit)) r ⌝ }
+    ensures { λ r. ⌜ Puts (now (bytes .entry)) (now (out .entry)) (now (out .exit)) at r ⌝ }
 {
     let mut i = 0;
     let mut next = at;

@@ -5,7 +5,7 @@ ghost use Rattle.text.specs.Decimal.{decimal};
 // The digits of v / 10 come first, unless that is 0.
 pub fn put_decimal(v: u32, out: &mut [u8], at: usize) -> usize
     requires { ⌜ Room (decimal v) (now out) at ⌝ }
-    ensures { λ r. ⌜ Puts (decimal v) (now (out .entry)) at (now (out .exit)) r ⌝ }
+    ensures { λ r. ⌜ Puts (decimal v) (now (out .entry)) (now (out .exit)) at r ⌝ }
 {
     if v < 10 {
         out[at] = b'0' + v as u8;

@@ -7,7 +7,7 @@ use crate::decimal::put_decimal;
 // A label and a number.
 pub fn put_labelled(label: &[u8], v: u32, out: &mut [u8], at: usize) -> usize
     requires { ⌜ Room (labelled (now label) v) (now out) at ⌝ }
-    ensures { λ r. ⌜ Puts (labelled (now (label .entry)) v) (now (out .entry)) at (now (out .exit)) r ⌝ }
+    ensures { λ r. ⌜ Puts (labelled (now (label .entry)) v) (now (out .entry)) (now (out .exit)) at r ⌝ }
 {
     let next = put_bytes(label, out, at);
     put_decimal(v, out, next)
@@ -16,7 +16,7 @@ pub fn put_labelled(label: &[u8], v: u32, out: &mut [u8], at: usize) -> usize
 // A line of one label and number.
 pub fn put_line(label: &[u8], v: u32, out: &mut [u8], at: usize) -> usize
     requires { ⌜ Room (line (now label) v) (now out) at ⌝ }
-    ensures { λ r. ⌜ Puts (line (now (label .entry)) v) (now (out .entry)) at (now (out .exit)) r ⌝ }
+    ensures { λ r. ⌜ Puts (line (now (label .entry)) v) (now (out .entry)) (now (out .exit)) at r ⌝ }
 {
     let next = put_labelled(label, v, out, at);
     out[next] = b'\n';
@@ -35,7 +35,7 @@ pub fn put_three(
     at: usize,
 ) -> usize
     requires { ⌜ Room (line-of-three (now a) x (now b) y (now c) z) (now out) at ⌝ }
-    ensures { λ r. ⌜ Puts (line-of-three (now (a .entry)) x (now (b .entry)) y (now (c .entry)) z) (now (out .entry)) at (now (out .exit)) r ⌝ }
+    ensures { λ r. ⌜ Puts (line-of-three (now (a .entry)) x (now (b .entry)) y (now (c .entry)) z) (now (out .entry)) (now (out .exit)) at r ⌝ }
 {
     let second = put_labelled(a, x, out, at);
     let third = put_labelled(b, y, out, second);

@@ -12,7 +12,7 @@ use lib.ListN.{drop, drop-of-length-le}
 use lib.Seq.{drop-cons}
 use borrow.Author.Tests.{eqb-true, eq-eqb, not-true, not-false}
 use Rattle.base.specs.Lists.{tabulate, select, any-of, all-of}
-use Rattle.base.proofs.Tests.{not-both, is-true, is-false, and-left, and-right, and-both, or-cases, or-left}
+use Rattle.base.proofs.BoolLaws.{not-both, is-true, is-false, and-left, and-right, and-both, or-cases, or-left}
 use Rattle.base.proofs.ListLaws.{any-select, all-of-any, any-witness, any-map, any-append-left, any-append-right, any-tabulate}
 use Rattle.instance.specs.Limits.{no-parent}
 use Rattle.instance.specs.Instance.{Instance}

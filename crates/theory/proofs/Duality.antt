@@ -17,7 +17,7 @@ use lib.Dec.{ltb, eqb}
 use lib.Pow.{pow-pos}
 use borrow.Author.Tests.{eqb-true, eqb-false, ne-eqb, not-true, ltb-true}
 use Rattle.base.specs.Bounded.{sum-below}
-use Rattle.base.proofs.Tests.{test, not-both, and-left, and-right}
+use Rattle.base.proofs.BoolLaws.{test, not-both, and-left, and-right}
 use Rattle.base.proofs.BoundedLaws.{sum-mono, sum-room, sum-add, sum-zero, sum-eq}
 use Rattle.base.proofs.CondLaws.{cond-add, cond-le}
 use Rattle.instance.specs.Instance.{Instance, weight}

@@ -1,11 +1,11 @@
 -- Pins and bans are kept: an arborescence uses every pinned arc and no banned one. Assumes nothing.
-use mathlib.Core.Path.{_≡_, sym, _∙_}
+use mathlib.Core.Path.{_≡_, sym}
 use mathlib.Core.Bool.{true, false, _&&_, not}
 use mathlib.Core.List.{List}
 use Prim.Native.Nat.{ℕ}
 use lib.Dec.{eqb}
 use borrow.Author.Tests.{eqb-true, eq-eqb, not-true}
-use Rattle.base.proofs.Tests.{and-left, and-right, and-both, is-true, is-false, not-both}
+use Rattle.base.proofs.BoolLaws.{and-left, and-right, and-both, is-true, is-false, not-both}
 use Rattle.base.proofs.BoundedLaws.{any-intro}
 use Rattle.instance.specs.Limits.{pinned, banned}
 use Rattle.instance.specs.Instance.{Instance, mark, is-arc}

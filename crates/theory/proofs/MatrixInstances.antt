@@ -6,7 +6,7 @@ use mathlib.Core.List.{List}
 use mathlib.Core.Logic.{_↔_}
 use Prim.Native.Nat.{ℕ, _≤_}
 use native.Mathlib.Omega.{arith}
-use Rattle.base.proofs.Tests.{same-test}
+use Rattle.base.proofs.BoolLaws.{same-test}
 use Rattle.instance.specs.Limits.{max-vertices}
 use Rattle.instance.specs.Instance.{Instance, is-arc, weight, mark}
 use Rattle.instance.specs.Arborescence.{is-pinned, other-pinned, remaining, is-arborescence, total}

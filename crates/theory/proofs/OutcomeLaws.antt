@@ -9,7 +9,7 @@ use native.Mathlib.Nat.{le-antisymm}
 use lib.Dec.{leb, eqb}
 use borrow.Author.Tests.{leb-true, leb-false, le-leb, eqb-true, eq-eqb}
 use Rattle.base.specs.Lists.{any-of, all-of}
-use Rattle.base.proofs.Tests.{not-both, is-false, and-both, or-left, or-right}
+use Rattle.base.proofs.BoolLaws.{not-both, is-false, and-both, or-left, or-right}
 use Rattle.base.proofs.ListLaws.{all-mono}
 use Rattle.instance.specs.Instance.{Instance}
 use Rattle.instance.specs.Arborescence.{is-arborescence, total}

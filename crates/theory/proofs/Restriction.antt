@@ -8,7 +8,7 @@ use Prim.Native.Nat.{ℕ, _+_, _*_, _/_, _%_, _≤_, _<_}
 use native.Mathlib.Omega.{arith}
 use lib.Dec.{eqb}
 use borrow.Author.Tests.{eq-eqb}
-use Rattle.base.proofs.Tests.{not-both, is-true, same-test, and-left, and-right, and-both}
+use Rattle.base.proofs.BoolLaws.{not-both, is-true, same-test, and-left, and-right, and-both}
 use Rattle.base.proofs.BoundedLaws.{sum-eq}
 use Rattle.base.proofs.ListLaws.{getD-tabulate}
 use Rattle.instance.specs.Limits.{no-arc, cells}

@@ -5,7 +5,7 @@ use mathlib.Core.List.{List, [], _∷_}
 use Prim.Native.Nat.{ℕ, zero, suc, _*_, _/_, _%_, _≤_, _<_}
 use lib.Dec.{eqb}
 use Rattle.base.specs.Lists.{tabulate, select}
-use Rattle.base.proofs.Tests.{same-test, is-false, not-both}
+use Rattle.base.proofs.BoolLaws.{same-test, is-false, not-both}
 use Rattle.instance.specs.Limits.{no-parent}
 use Rattle.instance.specs.Instance.{Instance}
 use Rattle.instance.specs.Arborescence.{is-arborescence, total}
@@ -13,7 +13,7 @@ use Rattle.instance.specs.Candidates.{prefixed, choices, candidates-from, candi
 use Rattle.instance.specs.declared.Outcome.{Outcome}
 use Rattle.instance.specs.States.{outcome, fits, fitting, state-over, state, states}
 use Rattle.instance.specs.Same.{Same-instance}
-use Rattle.instance.proofs.SameInstances.{same-turned, same-is-arc, same-arc-weight, same-remaining}
+use Rattle.instance.proofs.SameLaws.{same-turned, same-is-arc, same-arc-weight, same-remaining}
 use Rattle.theory.specs.Readings.{Least-total, No-arborescence, Outcome-reads}
 use Rattle.instance.proofs.ArcLaws.{remaining-arc}
 use Rattle.theory.proofs.SameArcs.{Same-arcs, same-arborescence, same-total}

@@ -12,7 +12,7 @@ use lib.Dec.{leb}
 use lib.ListN.{length, getD}
 use borrow.Author.Tests.{leb-true, le-leb}
 use Rattle.base.specs.Lists.{tabulate, any-of, all-of}
-use Rattle.base.proofs.Tests.{test, not-both, and-left, and-right, and-both}
+use Rattle.base.proofs.BoolLaws.{test, not-both, and-left, and-right, and-both}
 use Rattle.base.proofs.ListLaws.{length-tabulate, getD-tabulate, tabulate-is}
 use Rattle.base.proofs.GridLaws.{grid-row, grid-column}
 use Rattle.instance.specs.Instance.{Instance, is-arc}

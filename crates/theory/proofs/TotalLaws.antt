@@ -26,7 +26,7 @@ dearest = refl
 
 module _ (s : Instance) (valid : valid-instance s ≡ true) where
   pub weight-most : (t h : ℕ) → is-arc s t h ≡ true → weight s t h ≤ max-weight
-  weight-most t h a = leb-true (weight s t h) max-weight (arc-in-range s t h (valid-small s valid) (valid-cells s valid) a .weight-in)
+  weight-most t h a = leb-true (weight s t h) max-weight (arc-in-range s t h (valid-small s valid) (valid-cells s valid) a .weight-most)
 
   -- an arborescence has at most 31 arcs: the root has none
   pub total-most : (ps : List ℕ) → is-arborescence s ps ≡ true → total s ps ≤ max-budget

@@ -9,7 +9,7 @@ use lib.Dec.{eqb}
 use borrow.Author.Tests.{eq-eqb, not-true}
 use Rattle.base.specs.Bounded.{any-below}
 use Rattle.base.specs.Lists.{all-of}
-use Rattle.base.proofs.Tests.{test, not-both, is-true, is-false, and-left, and-right, and-both}
+use Rattle.base.proofs.BoolLaws.{test, not-both, is-true, is-false, and-left, and-right, and-both}
 use Rattle.base.proofs.BoundedLaws.{any-intro, any-found}
 use Rattle.instance.specs.Instance.{Instance, is-arc}
 use Rattle.instance.specs.Arborescence.{remaining, parent, uses}

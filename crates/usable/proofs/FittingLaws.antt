@@ -17,7 +17,7 @@ use Rattle.edmonds.proofs.ReducedLaws.{reduced-arc}
 use Rattle.usable.specs.Fitting.{Fitting-plan}
 
 pub planned-fitting : (n root : ℕ) (m m′ cuts cuts′ : List ℕ) (p : Planned) (b : ℕ) → Matrix-ok n root m → Planned-matrix m m′ n root cuts cuts′ p
-    → p .found ≡ true → p .total ≤ b → b ≤ max-budget → Fitting-plan n root m m′ (p .parents) (p .total) b
+    → p .found ≡ true → p .total ≤ b → b ≤ max-budget → Fitting-plan m m′ (p .parents) n root (p .total) b
 planned-fitting n root m m′ cuts cuts′ p b ok k e l most =
     let least = k .minimum e in
     let cs = cuts-in (p .count) cuts′ in

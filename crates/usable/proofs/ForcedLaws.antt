@@ -11,7 +11,7 @@ use lib.Dec.{ltb, eqb}
 use lib.ListN.{length, getD, set, take, length-set}
 use lib.Seq.{getD-set-same, getD-set-other}
 use borrow.Author.Tests.{lt-ltb, le-ltb, eq-eqb, ne-eqb}
-use Rattle.base.proofs.Tests.{test, is-false, and-left, and-right, and-false-right}
+use Rattle.base.proofs.BoolLaws.{test, is-false, and-left, and-right, and-false-right}
 use Rattle.base.proofs.ListLaws.{default}
 use Rattle.base.proofs.FillingLaws.{ltb-more}
 use Rattle.base.proofs.CondLaws.{cond-most}
@@ -188,5 +188,5 @@ module _ (n root : ℕ) (m w : List ℕ) (t₀ h₀ : ℕ) (ok : Matrix-ok n roo
               let is = k .is-total e in
               let same = forced-total qs c in
               omega arith;
-          shut = λ e qs b. is-false (uses qs t₀ h₀) (λ u. no-entry left qs (forced-uses qs .1 (b, u)) (record { set = p .set; value = 0 }) (k .no-entry e));
+          unused = λ e qs b. is-false (uses qs t₀ h₀) (λ u. no-entry left qs (forced-uses qs .1 (b, u)) (record { set = p .set; value = 0 }) (k .no-entry e));
         }

@@ -10,7 +10,7 @@ use lib.Dec.{ltb, eqb}
 use lib.ListN.{getD, set, replicate, length-set, length-replicate, getD-replicate}
 use lib.Seq.{getD-set-same, getD-set-other}
 use borrow.Author.Tests.{ne-eqb, lt-ltb}
-use Rattle.base.proofs.Tests.{test, not-both, same-test, and-right}
+use Rattle.base.proofs.BoolLaws.{test, not-both, same-test, and-right}
 use Rattle.instance.specs.Limits.{max-vertices, cells}
 use Rattle.instance.specs.Instance.{Instance, cell}
 use Rattle.instance.specs.Arborescence.{uses}

@@ -11,7 +11,7 @@ use lib.Dec.{ltb, eqb}
 use lib.ListN.{length, getD, set, length-set, replicate, getD-replicate}
 use lib.Seq.{getD-set-same, getD-set-other}
 use borrow.Author.Tests.{lt-ltb, le-ltb, eq-eqb, ne-eqb}
-use Rattle.base.proofs.Tests.{and-false-right}
+use Rattle.base.proofs.BoolLaws.{and-false-right}
 use Rattle.base.proofs.FillingLaws.{ltb-more}
 use Rattle.instance.specs.Limits.{max-vertices, cells}
 use Rattle.instance.specs.Instance.{Instance, cell}

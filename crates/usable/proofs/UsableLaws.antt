@@ -8,7 +8,7 @@ use native.Mathlib.Omega.{arith}
 use lib.Dec.{eqb}
 use lib.ListN.{getD}
 use borrow.Author.Tests.{eq-eqb, ne-eqb}
-use Rattle.base.proofs.Tests.{not-both, is-false}
+use Rattle.base.proofs.BoolLaws.{not-both, is-false}
 use Rattle.instance.specs.Limits.{max-vertices, no-arc}
 use Rattle.instance.specs.Instance.{Instance, cell, is-arc, weight}
 use Rattle.instance.specs.Arborescence.{remaining, parent, is-arborescence, total, uses}
@@ -41,13 +41,13 @@ module _ (n root : ℕ) (m : List ℕ) (ok : Matrix-ok n root m) (t h : ℕ) (l 
       let same = weight-on in
       matrix-arc n root m t h l k e z (λ x. w (same ∙ x))
 
-pub reduced-most : (n root v : ℕ) (m reduced : List ℕ) (t h : ℕ) → Reduced n root m reduced v → remaining (unmarked n root m) t h ≡ true
+pub reduced-most : (n root v : ℕ) (m reduced : List ℕ) (t h : ℕ) → Reduced m reduced n root v → remaining (unmarked n root m) t h ≡ true
     → getD reduced (cell t h) 0 ≤ weight (unmarked n root m) t h
 unfolding reduced-cost
 reduced-most n root v m reduced t h k r = let e = k .costs t h r in omega arith
 
 -- what an exchange of arcs offers, where rest is the total without the arc into the head
-pub detour-bound : (s : Instance) (ps : List ℕ) (t h rest d : ℕ) → Detour s ps h t d → rest + weight s (parent ps h) h ≡ total s ps → Upper-bound s t h rest d
+pub detour-bound : (s : Instance) (ps : List ℕ) (t h rest d : ℕ) → Detour s ps t h d → rest + weight s (parent ps h) h ≡ total s ps → Upper-bound s t h rest d
 detour-bound s ps t h rest d k e =
     record { tree = λ r l. let x = k .exchange r l in let c = x .cost in (x .made, x .arborescence, x .used, omega arith) }
 
@@ -96,7 +96,7 @@ module _ (n root b : ℕ) (m : List ℕ) where
         ne-eqb (parent ps h) t (λ w. omega arith))
 
     -- by reduced costs
-    pub unusable-reduced : (reduced : List ℕ) (v : ℕ) → Reduced n root m reduced v → remaining on t h ≡ true → b < v + getD reduced (cell t h) 0 → usable s t h ≡ false
+    pub unusable-reduced : (reduced : List ℕ) (v : ℕ) → Reduced m reduced n root v → remaining on t h ≡ true → b < v + getD reduced (cell t h) 0 → usable s t h ≡ false
     unfolding reduced-cost weight unmarked
     unusable-reduced reduced v k r past =
         let e = k .costs t h r in
@@ -104,8 +104,8 @@ module _ (n root b : ℕ) (m : List ℕ) where
         reduced-unusable s t h (k .cuts) (same-feasible on s (same-back s on (matrix-instance-same n root b m)) (k .cuts) (k .feasible)) (matrix-instance-remaining n root b m t h ∙ r) (omega arith)
 
     -- by planning
-    pub unusable-shut : (p : Planned) → Forced-plan m n root t h p → p .found ≡ false → usable s t h ≡ false
-    unusable-shut p k e = usable-none s t h .1 (λ qs f. k .shut e qs (matrix-instance-arborescence n root b m qs .0 (fits-arborescence s qs f)))
+    pub unusable-unplanned : (p : Planned) → Forced-plan m n root t h p → p .found ≡ false → usable s t h ≡ false
+    unusable-unplanned p k e = usable-none s t h .1 (λ qs f. k .unused e qs (matrix-instance-arborescence n root b m qs .0 (fits-arborescence s qs f)))
 
     pub unusable-dear : (p : Planned) → Forced-plan m n root t h p → p .found ≡ true → b < p .total → usable s t h ≡ false
     unusable-dear p k z past =

@@ -26,4 +26,4 @@ pub record Forced-plan (m : List ℕ) (n root t h : ℕ) (r : Planned) : Type 0 
   pub used : r .found ≡ true → uses (take n (r .parents)) t h ≡ true
   pub is-total : r .found ≡ true → r .total ≡ total (unmarked n root m) (take n (r .parents))
   pub least : r .found ≡ true → (qs : List ℕ) → is-arborescence (unmarked n root m) qs ≡ true → uses qs t h ≡ true → r .total ≤ total (unmarked n root m) qs
-  pub shut : r .found ≡ false → (qs : List ℕ) → is-arborescence (unmarked n root m) qs ≡ true → uses qs t h ≡ false
+  pub unused : r .found ≡ false → (qs : List ℕ) → is-arborescence (unmarked n root m) qs ≡ true → uses qs t h ≡ false

@@ -20,9 +20,9 @@ pub record Upper-bound (s : Instance) (t h rest d : ℕ) : Type 0 where
       → (qs : List ℕ) × (is-arborescence s qs ≡ true) × (uses qs t h ≡ true) × (total s qs ≤ rest + weight s t h + d)
 
 -- an arc to be judged: of a cheapest arborescence of total v
-pub record Candidate (n root : ℕ) (m reduced : List ℕ) (v rest d t h : ℕ) : Type 0 where
+pub record Judgeable-arc (m reduced : List ℕ) (n root v rest d t h : ℕ) : Type 0 where
   pub matrix-ok : Matrix-ok n root m
-  pub costs : Reduced n root m reduced v
+  pub costs : Reduced m reduced n root v
   pub rest-most : rest ≤ v
   pub most : v ≤ max-budget
   pub tail-below : t < n

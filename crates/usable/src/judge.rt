@@ -6,7 +6,7 @@ ghost use Rattle.instance.specs.Limits.{no-arc, max-budget};
 ghost use Rattle.instance.specs.Arborescence.{remaining};
 ghost use Rattle.instance.specs.Matrix.{matrix-instance, unmarked, Matrix-ok};
 ghost use Rattle.usable.specs.Fitting.{Fitting-plan};
-ghost use Rattle.usable.specs.Judge.{Candidate, Sound, Judged, Judged-head};
+ghost use Rattle.usable.specs.Judge.{Judgeable-arc, Sound, Judged, Judged-head};
 use super::forced::plan_with;
 use super::table::add_tree;
 use detours::detour_costs;
@@ -63,7 +63,7 @@ fn judge_arc(
     head: u32, // into this vertex
     used: &mut [u8; CELLS], // the arcs that are known to be usable
 )
-    requires { ⌜ Candidate n root (now m) (now reduced) total rest detour tail head × Sound (matrix-instance n root limit (now m)) (now used) ⌝ }
+    requires { ⌜ Judgeable-arc (now m) (now reduced) n root total rest detour tail head × Sound (matrix-instance n root limit (now m)) (now used) ⌝ }
     ensures { λ _. ⌜ Judged (matrix-instance n root limit (now (m .entry))) tail head (now (used .entry)) (now (used .exit)) ⌝ }
 {
     let i = (32 * tail + head) as usize;
@@ -100,7 +100,7 @@ pub fn judge_head(
     head: u32,
     used: &mut [u8; CELLS],
 )
-    requires { ⌜ Fitting-plan n root (now m) (now reduced) (now parents) total limit × (head < n) × Sound (matrix-instance n root limit (now m)) (now used) ⌝ }
+    requires { ⌜ Fitting-plan (now m) (now reduced) (now parents) n root total limit × (head < n) × Sound (matrix-instance n root limit (now m)) (now used) ⌝ }
     ensures { λ _. ⌜ Judged-head (matrix-instance n root limit (now (m .entry))) n head (now (used .entry)) (now (used .exit)) ⌝ }
 {
     if head == root {

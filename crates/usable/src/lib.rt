@@ -23,7 +23,7 @@ pub fn usable_arcs(
     total: u32, // the cheapest total
     limit: u32, // what a total may be at most: no less than the cheapest
 ) -> [u8; CELLS]
-    requires { ⌜ Fitting-plan n root (now m) (now reduced) (now parents) total limit ⌝ }
+    requires { ⌜ Fitting-plan (now m) (now reduced) (now parents) n root total limit ⌝ }
     ensures { λ r. ⌜ Usable-table (matrix-instance n root limit (now (m .entry))) r ⌝ }
 {
     let mut used = [0u8; CELLS];

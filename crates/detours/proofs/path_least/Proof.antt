@@ -14,11 +14,11 @@ use Rattle.detours.proofs.path_least.Statement.{statement}
 use Rattle.detours.proofs.path_least.Tie as tie
 
 abbrev Inv-loop : tie.InvT-loop
-Inv-loop parents table n root head tail least₀ v₀ least v =
-    (v < n) × Descends (take n parents) head v × On-path (take n parents) head tail v × Path-least (take n parents) table head tail least
+Inv-loop parents table n root tail head least₀ v₀ least v =
+    (v < n) × Descends (take n parents) head v × On-path (take n parents) tail head v × Path-least (take n parents) table tail head least
 
 abbrev μ-loop : tie.MeasureT-loop
-μ-loop parents table n root head tail least₀ v₀ least v = depth n root (take n parents) v
+μ-loop parents table n root tail head least₀ v₀ least v = depth n root (take n parents) v
 
 loop-holds : tie.Need-loop-holds Inv-loop μ-loop
 loop-holds c = (c .pre .5, c .pre .6, start, path-none _ _ _ _)

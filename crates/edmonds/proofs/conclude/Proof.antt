@@ -4,11 +4,11 @@ use borrow.Author.Tests.{not-true, not-false}
 use Rattle.edmonds.proofs.conclude.Statement.{statement}
 use Rattle.edmonds.proofs.conclude.Tie as tie
 
-shut-requires : tie.Need-shut-requires
-shut-requires c κs = search needs
+none-planned-requires : tie.Need-none-planned-requires
+none-planned-requires c κs = search needs
 
 returns : tie.Need-returns
-returns c = rw (not-true (c .before .before .before .args .tree .found) (c .before .if1 .taken)) (c .shut .ensures)
+returns c = rw (not-true (c .before .before .before .args .tree .found) (c .before .if1 .taken)) (c .none-planned .ensures)
 
 cut-total-requires : tie.Need-cut-total-requires
 cut-total-requires c κs = let st = c .before .before .before in st .pre (not-false (st .args .tree .found) (c .before .if1 .left))
@@ -17,4 +17,4 @@ returns-2 : tie.Need-returns-2
 returns-2 c = rw (not-false (c .before .before .before .before .args .tree .found) (c .before .before .if1 .left), c .cut-total .ensures)
 
 pub conclude-spec : {M : Type 1} → statement M
-conclude-spec = tie.close (tie.spec shut-requires returns cut-total-requires returns-2)
+conclude-spec = tie.close (tie.spec none-planned-requires returns cut-total-requires returns-2)

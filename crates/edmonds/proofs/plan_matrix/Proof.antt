@@ -33,12 +33,12 @@ charge-group-requires c κs =
     let small = al .before .before .pre .0 .small in
     (b .size, b .cuts-size, small, omega arith, omega arith)
 
-shut-requires : tie.Need-shut-requires Inv-loop μ-loop
-shut-requires c κs = search needs
+none-planned-requires : tie.Need-none-planned-requires Inv-loop μ-loop
+none-planned-requires c κs = search needs
 
 returns : tie.Need-returns Inv-loop μ-loop
 returns c =
-    let e = c .shut .ensures in
+    let e = c .none-planned .ensures in
     let t2 = c .before in
     let cg = t2 .before .before in
     let th = cg .before .before .before .before in
@@ -142,7 +142,7 @@ plan-matrix-spec =
     loop-holds
     cast-g
     charge-group-requires
-    shut-requires
+    none-planned-requires
     returns
     cast-tails
     array-write-tails

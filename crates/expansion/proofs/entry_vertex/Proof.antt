@@ -11,7 +11,7 @@ use Rattle.expansion.proofs.entry_vertex.Statement.{statement}
 use Rattle.expansion.proofs.entry_vertex.Tie as tie
 
 abbrev Inv-loop : tie.InvT-loop
-Inv-loop label stamp parents n at first bound u₀ u = (u ≤ n) × ((q : ℕ) → q < u → Cycle-entry parents label stamp n at q → ⊥)
+Inv-loop label stamp parents n at first bound u₀ u = (u ≤ n) × ((q : ℕ) → q < u → Cycle-entry label stamp parents n at q → ⊥)
 
 abbrev μ-loop : tie.MeasureT-loop
 μ-loop label stamp parents n at first bound u₀ u = n - u

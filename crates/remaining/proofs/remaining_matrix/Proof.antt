@@ -7,14 +7,14 @@ use native.Mathlib.Omega.{arith}
 use lib.ListN.{getD, getD-replicate}
 use Rattle.base.proofs.OverwriteLaws.{Overwritten, overwrite-none, overwrite-store, overwrite-pass}
 use Rattle.instance.specs.Limits.{no-arc, cells}
-use Rattle.instance.specs.Instance.{instance-with}
+use Rattle.instance.specs.Instance.{without-budget}
 use Rattle.instance.proofs.MatrixLaws.{matrix-cell}
 use Rattle.remaining.proofs.RemainingLaws.{cell-empty, cell-judged, cells-judged}
 use Rattle.remaining.proofs.remaining_matrix.Statement.{statement}
 use Rattle.remaining.proofs.remaining_matrix.Tie as tie
 
 abbrev Inv-loop : tie.InvT-loop
-Inv-loop weights marks n root pins w₀ i₀ w i = (i ≤ cells) × Overwritten cells w₀ w (matrix-cell (instance-with n root 0 weights marks)) i
+Inv-loop weights marks n root pins w₀ i₀ w i = (i ≤ cells) × Overwritten cells w₀ w (matrix-cell (without-budget n root weights marks)) i
 
 abbrev μ-loop : tie.MeasureT-loop
 μ-loop weights marks n root pins w₀ i₀ w i = cells - i
@@ -68,7 +68,7 @@ loop-again : tie.Need-loop-again Inv-loop μ-loop
 loop-again c =
     let l = c .before .before .before in
     let a = l .before .before .args in
-    let s = instance-with (a .n) (a .root) 0 (a .weights .now) (a .marks .now) in
+    let s = without-budget (a .n) (a .root) (a .weights .now) (a .marks .now) in
     let i = l .loop .i in
     let can = sym (c .before .can-be-arc .ensures) in
     let p = getD (l .before .pin-table .result) (i % 32) 0 in

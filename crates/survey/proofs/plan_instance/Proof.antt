@@ -108,7 +108,7 @@ usable-arcs-requires c κs =
     let s = inst (start-of p) in
     let r = p .plan-matrix .result in
     let within = shown-within (r .total) (s .budget) (subst (λ (y : Outcome). shows-tree y ≡ true) (o .outcome-at .ensures) (shown x)) in
-    subst (λ (m : List ℕ). Fitting-plan (s .n) (s .root) m (p .plan-matrix .last .0) (r .parents) (r .total) (s .budget)) (same-matrix o)
+    subst (λ (m : List ℕ). Fitting-plan m (p .plan-matrix .last .0) (r .parents) (s .n) (s .root) (r .total) (s .budget)) (same-matrix o)
     (planned-fitting (s .n) (s .root) _ _ _ _ r (s .budget) (ok (start-of p)) (planned p) (found o) within (valid-budget s (start-of p .pre .0)))
 
 returns-3 : tie.Need-returns-3

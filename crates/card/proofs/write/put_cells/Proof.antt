@@ -8,7 +8,7 @@ use Rattle.bits.specs.Writer.{Put}
 use Rattle.bits.specs.declared.BitWriter.{BitWriter}
 use Rattle.bits.proofs.WriterLaws.{put-none, put-then, ready-part}
 use Rattle.instance.specs.Limits.{cells}
-use Rattle.instance.specs.Instance.{Instance, instance-with}
+use Rattle.instance.specs.Instance.{Instance, without-budget}
 use Rattle.card_format.specs.Card.{one-cell, cell-bits}
 use Rattle.card_format.proofs.WrittenBits.{cell-bits-none, next-cell}
 use Rattle.card.proofs.write.put_cells.Statement.{statement}
@@ -17,12 +17,12 @@ use Rattle.card.proofs.write.put_cells.Tie as tie
 -- the bits of the first i cells are put, and those of the others are left
 record Putting (s : Instance) (before : List ℕ) (start : BitWriter) (out : List ℕ) (w : BitWriter) (i : ℕ) : Type 0 where
   done : List ℕ
-  put : Put before start done out w
+  put : Put done start before out w
   left : done ++ cell-bits (cells - i) i s ≡ cell-bits cells 0 s
   i-in : i ≤ cells
 
 abbrev Inv-loop : tie.InvT-loop
-Inv-loop weights marks n root out₀ w₀ i₀ out w i = Putting (instance-with n root 0 weights marks) out₀ w₀ out w i
+Inv-loop weights marks n root out₀ w₀ i₀ out w i = Putting (without-budget n root weights marks) out₀ w₀ out w i
 
 abbrev μ-loop : tie.MeasureT-loop
 μ-loop weights marks n root out₀ w₀ i₀ out w i = cells - i
@@ -46,7 +46,7 @@ put-cell-requires c κs =
     let a = s .args in
     let h : l .i < cells = omega arith in
     let one = one-cell (a .n) (a .root) (l .i) (getD (a .weights .now) (l .i) 0) (getD (a .marks .now) (l .i) 0) in
-    let more = cell-bits (cells - (l .i + 1)) (l .i + 1) (instance-with (a .n) (a .root) 0 (a .weights .now) (a .marks .now)) in
+    let more = cell-bits (cells - (l .i + 1)) (l .i + 1) (without-budget (a .n) (a .root) (a .weights .now) (a .marks .now)) in
     let e = next-cell (a .n) (a .root) 0 (a .weights .now) (a .marks .now) (l .i) h (s .pre .0 .0) (s .pre .0 .1) in
     (h, ready-part _ _ _ _ (l .inv .done) one more _ (l .inv .put) (rw e at (l .inv .left)) (s .pre .1))
 

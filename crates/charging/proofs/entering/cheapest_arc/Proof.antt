@@ -3,13 +3,13 @@
 use mathlib.Core.Logic.{⊎-elim}
 use Prim.Native.Nat.{_-_, _≤_}
 use native.Mathlib.Omega.{arith}
-use Rattle.charging.specs.Entering.{Cheapest}
+use Rattle.charging.specs.Entering.{Cheapest-arc}
 use Rattle.charging.proofs.EnteringLaws.{none-yet, skip-vertex, all-vertices}
 use Rattle.charging.proofs.entering.cheapest_arc.Statement.{statement}
 use Rattle.charging.proofs.entering.cheapest_arc.Tie as tie
 
 abbrev Inv-loop : tie.InvT-loop
-Inv-loop w label n g own best₀ h₀ best h = (h ≤ n) × Cheapest w label n (g .0) h (best .tail .0) (best .head .0) (best .weight)
+Inv-loop w label n g own best₀ h₀ best h = (h ≤ n) × Cheapest-arc w label n (g .0) h (best .tail .0) (best .head .0) (best .weight)
 
 abbrev μ-loop : tie.MeasureT-loop
 μ-loop w label n g own best₀ h₀ best h = n - h

@@ -8,7 +8,7 @@ use Rattle.charging.proofs.lower.lower_into.Statement.{statement}
 use Rattle.charging.proofs.lower.lower_into.Tie as tie
 
 abbrev Inv-loop : tie.InvT-loop
-Inv-loop w₀ label n h value group t₀ w t = (t ≤ n) × Lowered-into w₀ w label group value h t
+Inv-loop w₀ label n h value group t₀ w t = (t ≤ n) × Lowered-into w₀ w label t group h value
 
 abbrev μ-loop : tie.MeasureT-loop
 μ-loop w₀ label n h value group t₀ w t = n - t

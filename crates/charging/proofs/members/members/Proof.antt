@@ -9,7 +9,7 @@ use Rattle.charging.proofs.members.members.Statement.{statement}
 use Rattle.charging.proofs.members.members.Tie as tie
 
 abbrev Inv-loop : tie.InvT-loop
-Inv-loop label n group set₀ v₀ set v = (v ≤ n) × Members label group v set
+Inv-loop label n group set₀ v₀ set v = (v ≤ n) × Members label v group set
 
 abbrev μ-loop : tie.MeasureT-loop
 μ-loop label n group set₀ v₀ set v = n - v

@@ -2,7 +2,7 @@
 use mathlib.Core.Path.{sym, _∙_}
 use native.Mathlib.Omega.{arith}
 use borrow.Author.Needs.{needs}
-use Rattle.instance.specs.Instance.{instance-with}
+use Rattle.instance.specs.Instance.{without-budget}
 use Rattle.instance.proofs.ValidLaws.{cell-read, cell-passed}
 use Rattle.checks.proofs.valid.cell_valid.Statement.{statement}
 use Rattle.checks.proofs.valid.cell_valid.Tie as tie
@@ -33,13 +33,13 @@ returns c =
     let s = c .before .before .before .before .before in
     let a = s .args in
     c .cell-ok .ensures
-    ∙ cell-read (instance-with (a .n) (a .root) 0 (a .weights .now) (a .marks .now)) (a .i) (omega arith)
+    ∙ cell-read (without-budget (a .n) (a .root) (a .weights .now) (a .marks .now)) (a .i) (omega arith)
     (sym (c .before .before .before .before .can-be-arc .ensures) ∙ c .before .before .before .if1 .taken)
 
 returns-2 : tie.Need-returns-2
 returns-2 c =
     let a = c .before .before .args in
-    cell-passed (instance-with (a .n) (a .root) 0 (a .weights .now) (a .marks .now)) (a .i) (sym (c .before .can-be-arc .ensures) ∙ c .if1 .left)
+    cell-passed (without-budget (a .n) (a .root) (a .weights .now) (a .marks .now)) (a .i) (sym (c .before .can-be-arc .ensures) ∙ c .if1 .left)
 
 pub cell-valid-spec : {M : Type 1} → statement M
 cell-valid-spec =

@@ -6,14 +6,14 @@ use borrow.Author.Tests.{not-true, not-false}
 use Rattle.base.specs.Bounded.{all-below}
 use Rattle.base.proofs.BoundedLaws.{all-none, all-fail, all-pass}
 use Rattle.instance.specs.Valid.{cell-valid}
-use Rattle.instance.specs.Instance.{instance-with}
+use Rattle.instance.specs.Instance.{without-budget}
 use Rattle.checks.proofs.valid.cells_valid.Statement.{statement}
 use Rattle.checks.proofs.valid.cells_valid.Tie as tie
 
 abbrev Inv-loop : tie.InvT-loop
 Inv-loop weights marks n root k₀ k =
     (k ≤ 1024)
-    × (all-below 1024 (cell-valid (instance-with n root 0 weights marks)) ≡ all-below k (cell-valid (instance-with n root 0 weights marks)))
+    × (all-below 1024 (cell-valid (without-budget n root weights marks)) ≡ all-below k (cell-valid (without-budget n root weights marks)))
 
 abbrev μ-loop : tie.MeasureT-loop
 μ-loop weights marks n root k₀ k = k

@@ -10,10 +10,10 @@ use Rattle.detours.proofs.increases.increases.Statement.{statement}
 use Rattle.detours.proofs.increases.increases.Tie as tie
 
 abbrev Inv-loop : tie.InvT-loop
-Inv-loop m parents marked n root table₀ k₀ table k = (k ≤ n) × (length table ≡ max-vertices) × Increases m (take n parents) marked n k table
+Inv-loop m parents inner n root table₀ k₀ table k = (k ≤ n) × (length table ≡ max-vertices) × Increases m (take n parents) inner n k table
 
 abbrev μ-loop : tie.MeasureT-loop
-μ-loop m parents marked n root table₀ k₀ table k = n - k
+μ-loop m parents inner n root table₀ k₀ table k = n - k
 
 loop-holds : tie.Need-loop-holds Inv-loop μ-loop
 loop-holds c = (omega arith, refl, increases-none _ _ 0 _ _ _)

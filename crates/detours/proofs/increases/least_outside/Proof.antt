@@ -9,10 +9,10 @@ use Rattle.detours.proofs.increases.least_outside.Statement.{statement}
 use Rattle.detours.proofs.increases.least_outside.Tie as tie
 
 abbrev Inv-loop : tie.InvT-loop
-Inv-loop m marked n vertex least₀ x₀ least x = (x ≤ n) × Least-outside m marked x vertex least
+Inv-loop m inner n vertex least₀ x₀ least x = (x ≤ n) × Least-outside m inner x vertex least
 
 abbrev μ-loop : tie.MeasureT-loop
-μ-loop m marked n vertex least₀ x₀ least x = n - x
+μ-loop m inner n vertex least₀ x₀ least x = n - x
 
 loop-holds : tie.Need-loop-holds Inv-loop μ-loop
 loop-holds c = (omega arith, outside-none _ _ _)

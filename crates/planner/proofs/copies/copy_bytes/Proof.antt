@@ -4,7 +4,7 @@ use mathlib.Core.List.{_++_}
 use Prim.Native.Nat.{_+_, _-_, _≤_}
 use native.Mathlib.Omega.{arith}
 use lib.ListN.{length, take, drop, length-set}
-use Rattle.planner.proofs.CopiesLaws.{copy-step, copy-end}
+use Rattle.base.proofs.FrontLaws.{copy-step, copy-end}
 use Rattle.planner.proofs.copies.copy_bytes.Statement.{statement}
 use Rattle.planner.proofs.copies.copy_bytes.Tie as tie
 

@@ -6,7 +6,7 @@ use native.Mathlib.Omega.{arith}
 use lib.ListN.{length, take, drop, length-set}
 use lib.Seq.{take-all}
 use Rattle.base.specs.Lists.{in-front}
-use Rattle.planner.proofs.CopiesLaws.{copy-step, copy-end}
+use Rattle.base.proofs.FrontLaws.{copy-step, copy-end}
 use Rattle.planner.proofs.copies.copy_words.Statement.{statement}
 use Rattle.planner.proofs.copies.copy_words.Tie as tie
 

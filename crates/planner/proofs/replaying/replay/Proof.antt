@@ -1,4 +1,4 @@
--- The loop makes one call after the other; what it keeps is told by `Going`. Assumes nothing.
+-- The loop makes one call after the other; what it keeps is told by `Calls-made`. Assumes nothing.
 use mathlib.Core.Path.{_≡_, refl, sym, _∙_}
 use Prim.Native.Nat.{_-_}
 use native.Mathlib.Omega.{arith}
@@ -9,13 +9,13 @@ use Rattle.planner.specs.Looking.{buffers}
 use Rattle.board.specs.ModelOf.{model-of}
 use Rattle.commands.proofs.ValidLaws.{valid-parts}
 use Rattle.planner.proofs.OpeningLaws.{Starts, opened-answer, opened-starts}
-use Rattle.planner.proofs.ReplayingLaws.{Going, fitting, begun, again, not-opened, not-fitting, not-long, ended}
+use Rattle.planner.proofs.ReplayingLaws.{Calls-made, lists-enough, begun, again, not-opened, lists-refused, buffers-refused, ended}
 use Rattle.planner.proofs.replaying.replay.Statement.{statement}
 use Rattle.planner.proofs.replaying.replay.Tie as tie
 
 abbrev Inv-loop : tie.InvT-loop
 Inv-loop bytes kinds firsts seconds answers₀ parents₀ states₀ cuts₀ answer b₀ n i₀ answers parents states cuts b i =
-    Going bytes kinds firsts seconds answers₀ (buffers parents₀ states₀ cuts₀) b i answers (buffers parents states cuts)
+    Calls-made bytes kinds firsts seconds answers₀ (buffers parents₀ states₀ cuts₀) b i answers (buffers parents states cuts)
 
 abbrev μ-loop : tie.MeasureT-loop
 μ-loop bytes kinds firsts seconds answers₀ parents₀ states₀ cuts₀ answer b₀ n i₀ answers parents states cuts b i = length kinds - i
@@ -32,11 +32,11 @@ returns c =
     let o = c .before .open-card in
     not-opened _ _ _ _ _ _ _ (o .result .answer) (sym (opened-answer _ (o .result) (o .ensures))) (c .if1 .taken) refl
 
-is-unfit-requires : tie.Need-is-unfit-requires Inv-loop μ-loop
-is-unfit-requires c κs = search needs
+are-lists-short-requires : tie.Need-are-lists-short-requires Inv-loop μ-loop
+are-lists-short-requires c κs = search needs
 
 returns-2 : tie.Need-returns-2 Inv-loop μ-loop
-returns-2 c = not-fitting _ _ _ _ _ _ _ (opens (c .before .before)) refl (sym (c .before .is-unfit .ensures) ∙ c .if2 .taken)
+returns-2 c = lists-refused _ _ _ _ _ _ _ (opens (c .before .before)) refl (sym (c .before .are-lists-short .ensures) ∙ c .if2 .taken)
 
 -- THE BOARD as opened
 starts : (c : tie.Else1 Inv-loop μ-loop) → Starts (c .before .before .before .before .before .before .before .before .before .before .args .bytes .now) (c .before .open-card .result .board)
@@ -48,14 +48,14 @@ is-too-short-requires c κs = let e = c .before .before .before in valid-parts (
 returns-3 : tie.Need-returns-3 Inv-loop μ-loop
 returns-3 c =
     let e = c .before .before .before .before .before in
-    not-long _ _ _ _ _ _ _ (opens e) refl _ (starts e .same-n) (sym (c .before .is-too-short .ensures) ∙ c .if3 .taken)
+    buffers-refused _ _ _ _ _ _ _ (opens e) refl _ (starts e .same-n) (sym (c .before .is-too-short .ensures) ∙ c .if3 .taken)
 
 loop-holds : tie.Need-loop-holds Inv-loop μ-loop
 loop-holds c =
     let u = c .before .before .before in
     let e = u .before .before in
     let s = starts e in
-    let f = fitting _ _ _ _ (sym (u .before .is-unfit .ensures) ∙ u .if2 .left) in
+    let f = lists-enough _ _ _ _ (sym (u .before .are-lists-short .ensures) ∙ u .if2 .left) in
     begun _ _ _ _ _ _ (e .before .open-card .result .board) (s .tied) (s .good) (s .same-n) (f .enough-firsts) (f .enough-seconds) (f .room)
     (sym (c .before .is-too-short .ensures) ∙ c .if3 .left)
 
@@ -125,7 +125,7 @@ replay-spec =
     μ-loop
     open-card-requires
     returns
-    is-unfit-requires
+    are-lists-short-requires
     returns-2
     is-too-short-requires
     returns-3

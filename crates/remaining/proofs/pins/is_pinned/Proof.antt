@@ -6,7 +6,7 @@ use native.Mathlib.Omega.{arith}
 use borrow.Author.Tests.{not-true, not-false}
 use borrow.Author.Needs.{needs}
 use Rattle.instance.specs.Limits.{cells}
-use Rattle.instance.specs.Instance.{mark, is-arc, instance-with}
+use Rattle.instance.specs.Instance.{mark, is-arc, without-budget}
 use Rattle.instance.specs.Matrix.{unmarked}
 use Rattle.instance.proofs.ArcLaws.{arc-ends}
 use Rattle.remaining.proofs.PinLaws.{not-arc-unpinned, arc-pinned}
@@ -19,7 +19,7 @@ is-arc-requires c κs = search needs
 returns : tie.Need-returns
 returns c =
     let a = c .before .before .args in
-    not-arc-unpinned (instance-with (a .n) (a .root) 0 (a .weights .now) (a .marks .now)) (a .tail) (a .head)
+    not-arc-unpinned (without-budget (a .n) (a .root) (a .weights .now) (a .marks .now)) (a .tail) (a .head)
     (sym (c .before .is-arc .ensures) ∙ not-true (c .before .is-arc .result) (c .if1 .taken))
 
 arc : (c : tie.Else1)
@@ -51,7 +51,7 @@ unfolding mark
 returns-2 c =
     let b = c .before in
     let a = b .before .before .args in
-    arc-pinned (instance-with (a .n) (a .root) 0 (a .weights .now) (a .marks .now)) (a .tail) (a .head) (arc b)
+    arc-pinned (without-budget (a .n) (a .root) (a .weights .now) (a .marks .now)) (a .tail) (a .head) (arc b)
 
 pub is-pinned-spec : {M : Type 1} → statement M
 is-pinned-spec =

@@ -4,7 +4,7 @@ use Prim.Native.Nat.{_-_, _≤_}
 use native.Mathlib.Omega.{arith}
 use lib.ListN.{length, length-set}
 use Rattle.instance.specs.Limits.{max-vertices}
-use Rattle.instance.specs.Instance.{instance-with}
+use Rattle.instance.specs.Instance.{without-budget}
 use Rattle.remaining.specs.Pins.{Pin-table}
 use Rattle.remaining.proofs.PinLaws.{table-none, table-more}
 use Rattle.remaining.proofs.pins.pin_table.Statement.{statement}
@@ -12,7 +12,7 @@ use Rattle.remaining.proofs.pins.pin_table.Tie as tie
 
 abbrev Inv-loop : tie.InvT-loop
 Inv-loop weights marks n root table₀ head₀ table head =
-    (head ≤ n) × (length table ≡ max-vertices) × Pin-table (instance-with n root 0 weights marks) head table
+    (head ≤ n) × (length table ≡ max-vertices) × Pin-table (without-budget n root weights marks) head table
 
 abbrev μ-loop : tie.MeasureT-loop
 μ-loop weights marks n root table₀ head₀ table head = n - head

@@ -4,14 +4,14 @@ use mathlib.Core.Logic.{⊎-elim}
 use Prim.Native.Nat.{_<_, _-_, _≤_}
 use native.Mathlib.Omega.{arith}
 use Rattle.instance.specs.Limits.{max-vertices}
-use Rattle.instance.specs.Instance.{instance-with}
+use Rattle.instance.specs.Instance.{without-budget}
 use Rattle.remaining.specs.Pins.{Pins}
 use Rattle.remaining.proofs.PinLaws.{pins-none, pins-pass, pins-first, pins-again}
 use Rattle.remaining.proofs.pins.pins_into.Statement.{statement}
 use Rattle.remaining.proofs.pins.pins_into.Tie as tie
 
 abbrev Inv-loop : tie.InvT-loop
-Inv-loop weights marks n root head pin₀ g₀ pin g = (g ≤ n) × Pins (instance-with n root 0 weights marks) head g pin
+Inv-loop weights marks n root head pin₀ g₀ pin g = (g ≤ n) × Pins (without-budget n root weights marks) head g pin
 
 abbrev μ-loop : tie.MeasureT-loop
 μ-loop weights marks n root head pin₀ g₀ pin g = n - g

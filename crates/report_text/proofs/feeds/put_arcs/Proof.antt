@@ -12,7 +12,7 @@ use Rattle.report_text.proofs.feeds.put_arcs.Tie as tie
 
 abbrev Inv-loop : tie.InvT-loop
 Inv-loop weights parents n root out₀ at v₀ next₀ out v next =
-    Puts (join-below v (feed-at weights parents root)) out₀ at out next × (v ≤ n) × (length out ≡ length out₀)
+    Puts (join-below v (feed-at weights parents root)) out₀ out at next × (v ≤ n) × (length out ≡ length out₀)
 
 abbrev μ-loop : tie.MeasureT-loop
 μ-loop weights parents n root out₀ at v₀ next₀ out v next = n - v

@@ -12,7 +12,7 @@ use Rattle.report_text.proofs.rows.put_rows.Tie as tie
 
 abbrev Inv-loop : tie.InvT-loop
 Inv-loop states n out₀ at tail₀ next₀ out tail next =
-    Puts (join-below tail (row-line states n)) out₀ at out next × (tail ≤ n) × (length out ≡ length out₀)
+    Puts (join-below tail (row-line states n)) out₀ out at next × (tail ≤ n) × (length out ≡ length out₀)
 
 abbrev μ-loop : tie.MeasureT-loop
 μ-loop states n out₀ at tail₀ next₀ out tail next = n - tail

@@ -12,7 +12,7 @@ use Rattle.report_text.proofs.rows.put_states.Tie as tie
 
 abbrev Inv-loop : tie.InvT-loop
 Inv-loop states n from out₀ at h₀ next₀ out h next =
-    Puts (join-below h (λ i. decimal (getD states (from + i) 0))) out₀ at out next × (h ≤ n) × (length out ≡ length out₀)
+    Puts (join-below h (λ i. decimal (getD states (from + i) 0))) out₀ out at next × (h ≤ n) × (length out ≡ length out₀)
 
 abbrev μ-loop : tie.MeasureT-loop
 μ-loop states n from out₀ at h₀ next₀ out h next = n - h

@@ -31,14 +31,14 @@ loop-holds : tie.Need-loop-holds Inv-loop μ-loop
 loop-holds c = (omega arith, refl, front-none _ _)
 
 -- the cell of a turn is a tail and a head below n
-record Ends (n k : ℕ) : Type 0 where
+record Cell-ends (n k : ℕ) : Type 0 where
   small : n ≤ max-vertices
   cells : n * n ≤ max-vertices * max-vertices
   some : 0 < n
   tail : k / n < n
   head : k % n < n
 
-ends : (c : tie.In-loop Inv-loop μ-loop) → Ends (c .before .before .before .before .args .n) (c .before .loop .k)
+ends : (c : tie.In-loop Inv-loop μ-loop) → Cell-ends (c .before .before .before .before .args .n) (c .before .loop .k)
 ends c =
     let b = c .before .before .before .before in
     let n = b .args .n in

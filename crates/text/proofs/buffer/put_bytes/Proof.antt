@@ -10,7 +10,7 @@ use Rattle.text.proofs.buffer.put_bytes.Statement.{statement}
 use Rattle.text.proofs.buffer.put_bytes.Tie as tie
 
 abbrev Inv-loop : tie.InvT-loop
-Inv-loop bytes out₀ at i₀ next₀ out i next = Puts (take i bytes) out₀ at out next × (i ≤ length bytes) × (length out ≡ length out₀)
+Inv-loop bytes out₀ at i₀ next₀ out i next = Puts (take i bytes) out₀ out at next × (i ≤ length bytes) × (length out ≡ length out₀)
 
 abbrev μ-loop : tie.MeasureT-loop
 μ-loop bytes out₀ at i₀ next₀ out i next = length bytes - i

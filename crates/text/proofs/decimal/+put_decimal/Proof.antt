@@ -53,8 +53,8 @@ put-decimal-returns t c = rw (decimal-few (c .before .before .args .v) (omega ar
 in-32 : {v : ℕ} → v < 2 ^ 32 → v < 10 ^ 10
 in-32 h = omega arith
 
-last : (v : ℕ) {old mid : List ℕ} {at m : ℕ} → 10 ≤ v → v < 2 ^ 32 → Room (decimal v) old at → Puts (decimal (v / 10)) old at mid m
-    → (m < length mid) × Puts (decimal v) old at (set mid m (48 + v % 10)) (m + 1)
+last : (v : ℕ) {old mid : List ℕ} {at m : ℕ} → 10 ≤ v → v < 2 ^ 32 → Room (decimal v) old at → Puts (decimal (v / 10)) old mid at m
+    → (m < length mid) × Puts (decimal v) old (set mid m (48 + v % 10)) at (m + 1)
 last v {old} {mid} {at} {m} h b room w =
     let e = decimal-more v h (in-32 b) in
     let r : Room (decimal (v / 10) ++ ((48 + v % 10) ∷ [])) old at = rw e at room in

@@ -63,7 +63,7 @@ element-copy-out-least : tie.Need-element-copy-out-least
 element-copy-out-least c = search needs
 
 -- once it is past the first three tests, the cell holds an arc
-record Known (n root : ℕ) (m reduced : List ℕ) (t h : ℕ) : Type 0 where
+record Arc-facts (n root : ℕ) (m reduced : List ℕ) (t h : ℕ) : Type 0 where
   small : n ≤ max-vertices
   arc : remaining (unmarked n root m) t h ≡ true
   same : getD m (cell t h) 0 ≡ weight (unmarked n root m) t h
@@ -71,7 +71,7 @@ record Known (n root : ℕ) (m reduced : List ℕ) (t h : ℕ) : Type 0 where
   lower : getD reduced (cell t h) 0 ≤ no-arc
 
 known : (c : tie.Else3)
-    → Known (c .before .before .before .before .before .args .n) (c .before .before .before .before .before .args .root)
+    → Arc-facts (c .before .before .before .before .before .args .n) (c .before .before .before .before .before .args .root)
     (c .before .before .before .before .before .args .m .now) (c .before .before .before .before .before .args .reduced .now)
     (c .before .before .before .before .before .args .tail)
     (c .before .before .before .before .before .args .head)

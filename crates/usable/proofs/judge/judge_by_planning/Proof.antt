@@ -11,7 +11,7 @@ use Rattle.instance.specs.Matrix.{unmarked}
 use Rattle.instance.proofs.MatrixLaws.{matrix-ends}
 use Rattle.paths.specs.Tree.{Matrix-tree}
 use Rattle.paths.proofs.TreeLaws.{tree-rooted}
-use Rattle.usable.proofs.UsableLaws.{usable-tree, unusable-shut, unusable-dear}
+use Rattle.usable.proofs.UsableLaws.{usable-tree, unusable-unplanned, unusable-dear}
 use Rattle.usable.proofs.JudgeLaws.{judged-unusable, judged-added}
 use Rattle.usable.proofs.judge.judge_by_planning.Statement.{statement}
 use Rattle.usable.proofs.judge.judge_by_planning.Tie as tie
@@ -24,7 +24,7 @@ returns c =
     let p = c .before .before in
     let a = p .before .args in
     judged-unusable _ (a .used .now) (p .before .pre .2) (a .tail) (a .head)
-    (unusable-shut (a .n) (a .root) (a .limit) (a .m .now) (a .tail) (a .head) (p .plan-with .result) (p .plan-with .ensures)
+    (unusable-unplanned (a .n) (a .root) (a .limit) (a .m .now) (a .tail) (a .head) (p .plan-with .result) (p .plan-with .ensures)
     (not-true (p .plan-with .result .found) (c .if1 .taken)))
 
 found : (c : tie.Else1) → c .before .before .plan-with .result .found ≡ true

@@ -1,26 +1,17 @@
 -- Instances that are the same where an arc can be have the same arcs and the same remaining arcs, and are equally
 -- valid. Assumes nothing.
-use mathlib.Core.Path.{_≡_, refl, sym, ap, _∙_, fun-ext}
-use mathlib.Core.Bool.{Bool, true, false, _&&_, not, cond}
+use mathlib.Core.Path.{_≡_, sym, ap, _∙_, fun-ext}
+use mathlib.Core.Bool.{Bool, true, _&&_, not, cond}
 use Prim.Native.Nat.{ℕ, _/_, _%_}
 use native.Mathlib.Omega.{arith}
 use lib.Dec.{eqb}
 use Rattle.base.specs.Bounded.{all-below, any-below}
-use Rattle.base.proofs.Tests.{and-left}
+use Rattle.base.proofs.BoolLaws.{and-left, and-where, cond-where}
 use Rattle.instance.specs.Limits.{no-arc, pinned, banned, cells}
 use Rattle.instance.specs.Instance.{Instance, cell, weight-at, mark-at, weight, mark, can-be-arc, is-arc}
 use Rattle.instance.specs.Arborescence.{is-pinned, other-pinned, remaining}
 use Rattle.instance.specs.Valid.{cell-ok, cell-valid, header-valid, valid-instance}
 use Rattle.instance.specs.Same.{Same-instance}
-
--- two tests after a first one have to agree only where that passes
-guarded : (c x y : Bool) → (c ≡ true → x ≡ y) → c && x ≡ c && y
-guarded true x y h = h refl
-guarded false x y h = refl
-
-chosen : (c x y d : Bool) → (c ≡ true → x ≡ y) → cond c x d ≡ cond c y d
-chosen true x y d h = h refl
-chosen false x y d h = refl
 
 module _ (a b : Instance) (e : Same-instance a b) where
   pub same-can-be : (t h : ℕ) → can-be-arc (a .n) (a .root) t h ≡ can-be-arc (b .n) (b .root) t h
@@ -41,7 +32,7 @@ module _ (a b : Instance) (e : Same-instance a b) where
   unfolding is-arc
   same-is-arc t h =
       ap (λ (c : Bool). c && not (eqb (weight a t h) no-arc)) (same-can-be t h)
-      ∙ guarded (can-be-arc (b .n) (b .root) t h) (not (eqb (weight a t h) no-arc)) (not (eqb (weight b t h) no-arc))
+      ∙ and-where (can-be-arc (b .n) (b .root) t h) (not (eqb (weight a t h) no-arc)) (not (eqb (weight b t h) no-arc))
       (λ c. ap (λ (w : ℕ). not (eqb w no-arc)) (e .same-weights t h c))
 
   can-be : (t h : ℕ) → is-arc b t h ≡ true → can-be-arc (b .n) (b .root) t h ≡ true
@@ -58,7 +49,7 @@ module _ (a b : Instance) (e : Same-instance a b) where
   unfolding is-pinned
   same-is-pinned t h =
       ap (λ (c : Bool). c && eqb (mark a t h) pinned) (same-is-arc t h)
-      ∙ guarded (is-arc b t h) (eqb (mark a t h) pinned) (eqb (mark b t h) pinned) (λ x. ap (λ (m : ℕ). eqb m pinned) (same-arc-mark t h x))
+      ∙ and-where (is-arc b t h) (eqb (mark a t h) pinned) (eqb (mark b t h) pinned) (λ x. ap (λ (m : ℕ). eqb m pinned) (same-arc-mark t h x))
 
   same-other-pinned : (t h : ℕ) → other-pinned a t h ≡ other-pinned b t h
   unfolding other-pinned
@@ -70,7 +61,7 @@ module _ (a b : Instance) (e : Same-instance a b) where
   unfolding remaining
   same-remaining t h =
       ap (λ (c : Bool). c && (not (eqb (mark a t h) banned) && not (other-pinned a t h))) (same-is-arc t h)
-      ∙ guarded (is-arc b t h) (not (eqb (mark a t h) banned) && not (other-pinned a t h)) (not (eqb (mark b t h) banned) && not (other-pinned b t h))
+      ∙ and-where (is-arc b t h) (not (eqb (mark a t h) banned) && not (other-pinned a t h)) (not (eqb (mark b t h) banned) && not (other-pinned b t h))
       (λ x. rw (same-arc-mark t h x, same-other-pinned t h))
 
   -- VALID
@@ -79,7 +70,7 @@ module _ (a b : Instance) (e : Same-instance a b) where
   same-cell-valid i =
       let at : cell (i / 32) (i % 32) ≡ i = omega arith in
       ap (λ (c : Bool). cond c (cell-ok (weight-at a i) (mark-at a i)) true) (same-can-be (i / 32) (i % 32))
-      ∙ chosen (can-be-arc (b .n) (b .root) (i / 32) (i % 32)) (cell-ok (weight-at a i) (mark-at a i)) (cell-ok (weight-at b i) (mark-at b i)) true
+      ∙ cond-where (can-be-arc (b .n) (b .root) (i / 32) (i % 32)) (cell-ok (weight-at a i) (mark-at a i)) (cell-ok (weight-at b i) (mark-at b i)) true
       (λ c.
       let w : weight-at a i ≡ weight-at b i = rw at at (e .same-weights (i / 32) (i % 32) c) in
       let m : mark-at a i ≡ mark-at b i = rw at at (e .same-marks (i / 32) (i % 32) c) in

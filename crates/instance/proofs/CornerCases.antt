@@ -1,4 +1,4 @@
--- Edges of the definitions, computed: document 01's cuts for P1 and its traps, sets that are no cut, two pins into one
+-- Corner cases of the definitions, computed: document 01's cuts for P1 and its traps, sets that are no cut, two pins into one
 -- vertex, lists that are no arborescence, a matrix that is too short, a root other than 0 and weights of 0. Assumes
 -- nothing.
 use mathlib.Core.Path.{_≡_, refl}
@@ -18,7 +18,7 @@ use Rattle.instance.specs.Candidates.{prefixed, choices, candidates-from
 use Rattle.instance.specs.Cuts.{Cut, cuts-from, cuts-in, inside, enters, charged, values, set-ok, sets-ok, all-positive, Proves, reduced-cost, No-entry}
 use Rattle.instance.specs.declared.Outcome.the-variants.{Plan}
 use Rattle.instance.specs.States.{outcome-at, outcome, fits, fitting, state-over, state, states}
-use Rattle.instance.proofs.WorkedCases.{At, arc, filled, instance-of, instance-q, two, optimal-in, computed}
+use Rattle.instance.proofs.WorkedCases.{At, arc, filled, instance-from, instance-q, two, optimal-in, computed}
 use Rattle.instance.proofs.ArcLaws.{remaining-ends}
 
 -- A TABLE OF CELLS: a test of every remaining arc, computed, holds of every remaining arc
@@ -41,16 +41,16 @@ p1-cuts = cut 2 2 ∷ cut 4 1 ∷ cut 8 4 ∷ cut 6 5 ∷ cut 14 3 ∷ []
 
 p1-covered : each-remaining (instance-q 16 []) (λ t h. leb (charged p1-cuts t h) (weight (instance-q 16 []) t h)) ≡ true
 unfolding
-    each-remaining all-below any-below instance-q instance-of filled weight mark can-be-arc is-arc is-pinned other-pinned remaining inside enters
+    each-remaining all-below any-below instance-q instance-from filled weight mark can-be-arc is-arc is-pinned other-pinned remaining inside enters
     charged p1-cuts
 p1-covered = refl
 
 p1-sets : sets-ok (instance-q 16 []) p1-cuts ≡ true
-unfolding sets-ok set-ok inside instance-q instance-of p1-cuts
+unfolding sets-ok set-ok inside instance-q instance-from p1-cuts
 p1-sets = refl
 
 pub p1-proves : Proves (instance-q 16 []) p1-cuts 15
-unfolding all-positive values p1-cuts instance-q instance-of
+unfolding all-positive values p1-cuts instance-q instance-from
 p1-proves =
     record {
       feasible =
@@ -71,24 +71,24 @@ unfoldable pub p1-reduced : List At
 p1-reduced = arc 0 1 0 ∷ arc 0 2 1 ∷ arc 0 3 1 ∷ arc 1 2 0 ∷ arc 1 3 0 ∷ arc 2 1 0 ∷ arc 2 3 5 ∷ arc 3 1 0 ∷ []
 
 pub reduced-costs : map (λ a. reduced-cost (instance-q 15 []) p1-cuts (a .tail) (a .head)) p1-reduced ≡ map (λ a. a .is) p1-reduced
-unfolding reduced-cost charged enters inside weight instance-q instance-of filled p1-cuts p1-reduced
+unfolding reduced-cost charged enters inside weight instance-q instance-from filled p1-cuts p1-reduced
 reduced-costs = refl
 
 -- "in P3, 2→1 has reduced price 0 under the cuts above, yet the cheapest tree with it costs 16": it is closed
 pub p3-excluded : state (instance-q 15 []) 2 1 ≡ 1
 unfolding
-    instance-q instance-of filled all-below any-below sum-below tabulate-from tabulate select any-of all-of weight mark can-be-arc is-arc is-pinned
+    instance-q instance-from filled all-below any-below sum-below tabulate-from tabulate select any-of all-of weight mark can-be-arc is-arc is-pinned
     other-pinned remaining reaches parent-ok is-arborescence total uses prefixed choices candidates-from candidates fits fitting state-over state
 p3-excluded = refl
 
 -- "n = 2, root 0, link banned": "none, cut pair (2, 0)"
 banned-shut : each-remaining (two 5 (arc 0 1 banned ∷ [])) (λ t h. not (enters 2 t h)) ≡ true
 unfolding
-    each-remaining all-below any-below two instance-of filled weight mark can-be-arc is-arc is-pinned other-pinned remaining inside enters
+    each-remaining all-below any-below two instance-from filled weight mark can-be-arc is-arc is-pinned other-pinned remaining inside enters
 banned-shut = refl
 
 pub banned-no-entry : No-entry (two 5 (arc 0 1 banned ∷ [])) (cut 2 0)
-unfolding set-ok inside two instance-of
+unfolding set-ok inside two instance-from
 banned-no-entry =
     record {
       set-good = refl;
@@ -107,7 +107,7 @@ pairs-read = refl
 
 -- A SET is no cut if it is empty, has the root, or has a vertex that the instance lacks; {1,2,3} is one
 pub sets-judged : map (set-ok (instance-q 16 [])) (0 ∷ 3 ∷ 16 ∷ 14 ∷ []) ≡ false ∷ false ∷ false ∷ true ∷ []
-unfolding set-ok inside instance-q instance-of
+unfolding set-ok inside instance-q instance-from
 sets-judged = refl
 
 -- "each amount is at least 1"
@@ -117,12 +117,12 @@ zero-value = refl
 
 -- "Two pins into one position therefore leave it with none": with 0→1 and 2→1 pinned none of 0→1, 2→1, 3→1 remains
 pub two-pins : map (λ t. remaining (instance-q 16 (arc 0 1 pinned ∷ arc 2 1 pinned ∷ [])) t 1) (0 ∷ 2 ∷ 3 ∷ []) ≡ false ∷ false ∷ false ∷ []
-unfolding any-below instance-q instance-of filled weight mark can-be-arc is-arc is-pinned other-pinned remaining
+unfolding any-below instance-q instance-from filled weight mark can-be-arc is-arc is-pinned other-pinned remaining
 two-pins = refl
 
 -- a banned arc is an arc that does not remain
 pub banned-arc : is-arc (instance-q 16 (arc 0 1 banned ∷ [])) 0 1 && not (remaining (instance-q 16 (arc 0 1 banned ∷ [])) 0 1) ≡ true
-unfolding any-below instance-q instance-of filled weight mark can-be-arc is-arc is-pinned other-pinned remaining
+unfolding any-below instance-q instance-from filled weight mark can-be-arc is-arc is-pinned other-pinned remaining
 banned-arc = refl
 
 -- LISTS: P1's; 255 elsewhere than at the root, something else at the root, too short, too long, a cycle, a vertex that
@@ -133,12 +133,12 @@ pub lists-judged :
     ∷ (255 ∷ 2 ∷ 1 ∷ 1 ∷ []) ∷ (255 ∷ 0 ∷ 2 ∷ 1 ∷ []) ∷ (255 ∷ 4 ∷ 1 ∷ 1 ∷ []) ∷ (255 ∷ 0 ∷ 3 ∷ 1 ∷ []) ∷ [])
     ≡ true ∷ false ∷ false ∷ false ∷ false ∷ false ∷ false ∷ false ∷ false ∷ []
 unfolding
-    all-below any-below instance-q instance-of filled weight mark can-be-arc is-arc is-pinned other-pinned remaining reaches parent-ok is-arborescence
+    all-below any-below instance-q instance-from filled weight mark can-be-arc is-arc is-pinned other-pinned remaining reaches parent-ok is-arborescence
 lists-judged = refl
 
 -- "Taking the cheapest feeder everywhere: Q gives 7, with a ring and no console."
 pub cheapest-each : total (instance-q 16 []) (255 ∷ 2 ∷ 1 ∷ 1 ∷ []) ≡ 7
-unfolding sum-below instance-q instance-of filled weight total
+unfolding sum-below instance-q instance-from filled weight total
 cheapest-each = refl
 
 -- a cell that the list of weights lacks is no arc
@@ -151,12 +151,12 @@ missing = refl
 -- that with 1→0 costs 7
 unfoldable pub root-two : Instance
 root-two =
-    instance-of 3 2 3 (arc 2 0 0 ∷ arc 0 1 0 ∷ arc 2 1 3 ∷ arc 1 0 4 ∷ arc 0 2 7 ∷ arc 1 1 0 ∷ arc 3 1 0 ∷ [])
+    instance-from 3 2 3 (arc 2 0 0 ∷ arc 0 1 0 ∷ arc 2 1 3 ∷ arc 1 0 4 ∷ arc 0 2 7 ∷ arc 1 1 0 ∷ arc 3 1 0 ∷ [])
     (arc 0 2 pinned ∷ arc 1 1 pinned ∷ arc 3 1 pinned ∷ [])
 
 pub root-two-worked : computed root-two ≡ record { gives = Plan 0; optimal = (2 ∷ 0 ∷ 255 ∷ []) ∷ []; shows = 0 ∷ 2 ∷ 0 ∷ 1 ∷ 0 ∷ 0 ∷ 3 ∷ 2 ∷ 0 ∷ [] }
 unfolding
-    computed root-two instance-of filled optimal-in all-below any-below sum-below tabulate-from tabulate select any-of all-of weight mark can-be-arc
+    computed root-two instance-from filled optimal-in all-below any-below sum-below tabulate-from tabulate select any-of all-of weight mark can-be-arc
     is-arc is-pinned other-pinned remaining reaches parent-ok is-arborescence total uses prefixed choices candidates-from candidates arborescences
     lesser least-total cheapest outcome-at outcome fits fitting state-over states
 root-two-worked = refl

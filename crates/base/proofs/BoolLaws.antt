@@ -1,6 +1,6 @@
 -- Tests joined by &&, || and not, and choices by cond. Assumes nothing.
 use mathlib.Core.Path.{_≡_, refl, sym, _∙_}
-use mathlib.Core.Bool.{Bool, true, false, _&&_, _||_, cond, true≢false}
+use mathlib.Core.Bool.{Bool, true, false, _&&_, _||_, not, cond, true≢false}
 use mathlib.Core.Logic.{_⊎_, inl, inr}
 use Prim.Native.Nat.{ℕ, suc}
 use native.Mathlib.Omega.{arith}
@@ -74,3 +74,20 @@ or-both-false a b p q = rw (p, q)
 pub passed : (t : Bool) (k r : ℕ) → cond t (suc k) r ≡ 0 → (t ≡ false) × (r ≡ 0)
 passed true k r e = absurd (omega arith)
 passed false k r e = (refl, e)
+
+-- two tests after a first one have to agree only where that passes
+pub and-where : (c x y : Bool) → (c ≡ true → x ≡ y) → c && x ≡ c && y
+and-where true x y h = h refl
+and-where false x y h = refl
+
+pub cond-where : (c x y d : Bool) → (c ≡ true → x ≡ y) → cond c x d ≡ cond c y d
+cond-where true x y d h = h refl
+cond-where false x y d h = refl
+
+pub cond-true : (b : Bool) → cond b true true ≡ true
+cond-true true = refl
+cond-true false = refl
+
+pub not-and-self : (b : Bool) → not b && b ≡ false
+not-and-self true = refl
+not-and-self false = refl
