@@ -1,7 +1,7 @@
 -- DEMAND 1, stated once: whatever a public call was handed, its answer is 0 or one of document 01's refusals for that
 -- call ("None is returned under any other condition."); after a refusal the board and all lent buffers are as they
--- were; what is accepted leaves a valid board. Of `report`, which is there to print, 14 leaves the buffer as it was, and
--- a refused card gets its line. (That every call ends, and that nothing is required of the caller, is what each
+-- were; what is accepted leaves a valid board. Of `report`, which is there to print, 14 leaves the buffer as it was,
+-- and a refused card gets its line. (That every call ends, and that nothing is required of the caller, is what each
 -- function's own proof says.) Assumes nothing.
 use mathlib.Core.Path.{_≡_, refl, sym, ap, _∙_, subst}
 use mathlib.Core.Bool.{Bool, true, false}

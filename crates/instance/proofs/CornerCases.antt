@@ -1,6 +1,6 @@
--- Corner cases of the definitions, computed: document 01's cuts for P1 and its traps, sets that are no cut, two pins into one
--- vertex, lists that are no arborescence, a matrix that is too short, a root other than 0 and weights of 0. Assumes
--- nothing.
+-- Corner cases of the definitions, computed: document 01's cuts for P1 and its traps, sets that are no cut, two pins
+-- into one vertex, lists that are no arborescence, a matrix that is too short, a root other than 0 and weights of 0.
+-- Assumes nothing.
 use mathlib.Core.Path.{_≡_, refl}
 use mathlib.Core.Bool.{Bool, true, false, _&&_, not, cond}
 use mathlib.Core.List.{List, [], _∷_, map}
