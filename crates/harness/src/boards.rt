@@ -3,11 +3,11 @@ use board::Board;
 use board::Replaced;
 use board::UndoRecord;
 use reference::access;
+use reference::log::RECORDS;
 use reference::problem;
+use reference::problem::CELLS;
 use reference::problem::Problem;
-
-// How many records a board has room for.
-pub const RECORDS: usize = 200;
+use reference::problem::STRIDE;
 
 // The records of an arc's mark, and of a budget.
 pub fn mark_record(tail: u32, head: u32, mark: u8) -> UndoRecord {
@@ -84,8 +84,8 @@ fn is_compared(n: u32, root: u32, tail: u32, head: u32, every_cell: bool) -> boo
 pub fn equal_problems(p: Problem, q: Problem, every_cell: bool) -> bool {
     let n = p.n;
     let root = p.root;
-    for k in 0..1024 {
-        if is_compared(n, root, k / 32, k % 32, every_cell) {
+    for k in 0..CELLS as u32 {
+        if is_compared(n, root, k / STRIDE, k % STRIDE, every_cell) {
             let at = k as usize;
             if p.weights[at] != q.weights[at] {
                 return false;

@@ -15,9 +15,11 @@ use reference::outcome;
 // The kind of a look that is refused, beside those of the reference.
 pub const REFUSED: u32 = 3;
 
-// What a look gave: its kind, the total or the refusal's number, the number of pairs, and the buffers.
+// What a look gave: its kind; the answer, 0 where it was not refused; the total, 0 where there is no tree; the number
+// of pairs; and the buffers.
 pub struct Shown {
     pub kind: u32,
+    pub answer: u32,
     pub total: u32,
     pub pairs: u32,
     pub parents: [u8; buffers::PARENTS],
@@ -28,6 +30,7 @@ pub struct Shown {
 // The view's part of it.
 struct Summary {
     kind: u32,
+    answer: u32,
     total: u32,
     pairs: u32,
 }
@@ -36,16 +39,19 @@ fn of_outcome(o: Outcome, pairs: u32) -> Summary {
     match o {
         Outcome::Plan(total) => Summary {
             kind: outcome::PLAN,
+            answer: 0,
             total: total,
             pairs: pairs,
         },
         Outcome::Over(total) => Summary {
             kind: outcome::OVER,
+            answer: 0,
             total: total,
             pairs: pairs,
         },
         Outcome::NoTree => Summary {
             kind: outcome::NONE,
+            answer: 0,
             total: 0,
             pairs: pairs,
         },
@@ -57,7 +63,8 @@ fn of_view(v: View) -> Summary {
         View::Shown(o, pairs) => of_outcome(o, pairs),
         View::Refused(answer) => Summary {
             kind: REFUSED,
-            total: answer,
+            answer: answer,
+            total: 0,
             pairs: 0,
         },
     }
@@ -72,6 +79,7 @@ pub fn as_shown(
     let s = of_view(v);
     Shown {
         kind: s.kind,
+        answer: s.answer,
         total: s.total,
         pairs: s.pairs,
         parents: parents,
@@ -95,29 +103,34 @@ pub fn look_with(b: Board, parents_lent: u32, states_lent: u32, cuts_lent: u32) 
 }
 
 pub fn look(b: Board) -> Shown {
-    look_with(b, 40, 1100, 130)
+    look_with(
+        b,
+        buffers::PARENTS as u32,
+        buffers::STATES as u32,
+        buffers::CUTS as u32,
+    )
 }
 
-// A written card: the answer, the length and the buffer.
-pub struct Wrote {
+// What a write gave: the answer, the length and the buffer.
+pub struct CardOut {
     pub answer: u32,
     pub length: usize,
     pub bytes: [u8; CARD_ROOM],
 }
 
 // A write with the first so many bytes of the buffer lent.
-pub fn write_with(b: Board, lent: u32) -> Wrote {
+pub fn write_with(b: Board, lent: u32) -> CardOut {
     let mut bytes = [buffers::BYTE; CARD_ROOM];
     let w = planner::write_card(b, buffers::front_mut(&mut bytes, lent));
-    Wrote {
+    CardOut {
         answer: w.answer,
         length: w.length,
         bytes: bytes,
     }
 }
 
-pub fn write(b: Board) -> Wrote {
-    write_with(b, 2700)
+pub fn write(b: Board) -> CardOut {
+    write_with(b, CARD_ROOM as u32)
 }
 
 pub fn open(c: Card) -> Answered {

@@ -28,12 +28,12 @@ pub struct Lent {
 // All of it.
 pub fn whole() -> Lent {
     Lent {
-        firsts: 300,
-        seconds: 300,
-        answers: 300,
-        parents: 40,
-        states: 1100,
-        cuts: 130,
+        firsts: CALLS as u32,
+        seconds: CALLS as u32,
+        answers: CALLS as u32,
+        parents: buffers::PARENTS as u32,
+        states: buffers::STATES as u32,
+        cuts: buffers::CUTS as u32,
     }
 }
 

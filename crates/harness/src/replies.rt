@@ -5,6 +5,7 @@ use crate::calls;
 use crate::verdict;
 use board::Answered;
 use board::Board;
+use reference::card::CARD_ROOM;
 
 pub struct Reply {
     pub answer: u32,
@@ -34,14 +35,8 @@ pub fn of_call(before: Board, r: Answered) -> Reply {
 // Of a look with so much lent of each buffer.
 pub fn of_look(b: Board, parents: u32, states: u32, cuts: u32) -> Reply {
     let s = calls::look_with(b, parents, states, cuts);
-    if s.kind != calls::REFUSED {
-        return Reply {
-            answer: 0,
-            untouched: false,
-        };
-    }
     Reply {
-        answer: s.total,
+        answer: s.answer,
         untouched: verdict::all_untouched(s),
     }
 }
@@ -52,6 +47,6 @@ pub fn of_write(b: Board, lent: u32) -> Reply {
     let bytes = w.bytes;
     Reply {
         answer: w.answer,
-        untouched: buffers::bytes_untouched(&bytes, 0, 2700),
+        untouched: buffers::bytes_untouched(&bytes, 0, CARD_ROOM as u32),
     }
 }

@@ -1,13 +1,14 @@
 // A board opened from a card, beside the log of the calls that were made on it.
 use crate::buffers;
 use crate::calls;
-use crate::calls::Wrote;
+use crate::calls::CardOut;
 use crate::replies;
 use crate::replies::Reply;
 use crate::verdict;
 use board::Board;
 use reference::access;
 use reference::call::Call;
+use reference::card::CARD_ROOM;
 use reference::card::Card;
 use reference::log;
 use reference::log::Log;
@@ -72,7 +73,7 @@ pub fn look_right(s: Session) -> bool {
 }
 
 // Whether a written card is that card, and no other byte was touched.
-pub fn is_written(w: Wrote, c: Card) -> bool {
+pub fn is_written(w: CardOut, c: Card) -> bool {
     let written = w.bytes;
     let right = c.bytes;
     if w.answer != 0 {
@@ -84,7 +85,7 @@ pub fn is_written(w: Wrote, c: Card) -> bool {
     if !access::equal_bytes(&written, &right, c.length) {
         return false;
     }
-    buffers::bytes_untouched(&written, c.length, 2700)
+    buffers::bytes_untouched(&written, c.length, CARD_ROOM as u32)
 }
 
 // Whether the board is written as that.

@@ -1,6 +1,6 @@
 // Whether what a look showed is right: 0, or the number of the first thing that is not.
-use crate::buffers::bytes_untouched;
-use crate::buffers::words_untouched;
+use crate::buffers;
+use crate::calls;
 use crate::calls::Shown;
 use reference::access;
 use reference::outcome;
@@ -28,13 +28,13 @@ fn untouched_from(s: Shown, parents_from: u32, states_from: u32, cuts_from: u32)
     let parents = s.parents;
     let states = s.states;
     let cuts = s.cuts;
-    if !bytes_untouched(&parents, parents_from, 40) {
+    if !buffers::bytes_untouched(&parents, parents_from, buffers::PARENTS as u32) {
         return false;
     }
-    if !bytes_untouched(&states, states_from, 1100) {
+    if !buffers::bytes_untouched(&states, states_from, buffers::STATES as u32) {
         return false;
     }
-    words_untouched(&cuts, cuts_from, 130)
+    buffers::words_untouched(&cuts, cuts_from, buffers::CUTS as u32)
 }
 
 pub fn all_untouched(s: Shown) -> bool {
@@ -42,10 +42,13 @@ pub fn all_untouched(s: Shown) -> bool {
 }
 
 // The parents and the cuts of what was shown, by document 01's conditions, for any n. The table holds the weights of
-// the remaining arcs.
+// the remaining arcs. A refused look is not right, whatever stands in the buffers.
 pub fn certified(table: &[u32; CELLS], n: u32, root: u32, s: Shown) -> u32 {
     let parents = s.parents;
     let cuts = s.cuts;
+    if s.kind == calls::REFUSED {
+        return KIND;
+    }
     if !shown::parents_right(table, &parents, n, root, s.kind, s.total) {
         return PARENTS;
     }

@@ -1,5 +1,6 @@
 // The calls that change a board, by number, and random ones with arguments inside and outside their ranges.
 use crate::problem::MAX_BUDGET;
+use crate::problem::MAX_VERTICES;
 use crate::random;
 use crate::random::Random;
 
@@ -25,7 +26,7 @@ pub struct Call {
 fn some_vertex(g: Random, n: u32) -> u32 {
     match random::below(g, 64) {
         0 => 4294967295,
-        1 => 32,
+        1 => MAX_VERTICES,
         2 => n,
         _ => random::below(random::next(g), n),
     }

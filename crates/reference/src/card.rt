@@ -6,10 +6,12 @@ use crate::access::times;
 use crate::problem;
 use crate::problem::CELLS;
 use crate::problem::MAX_BUDGET;
+use crate::problem::MAX_VERTICES;
 use crate::problem::MAX_WEIGHT;
 use crate::problem::NO_ARC;
 use crate::problem::NO_MARK;
 use crate::problem::Problem;
+use crate::problem::STRIDE;
 use crate::refusals::BAD_CARD_BUDGET;
 use crate::refusals::BAD_COUNT;
 use crate::refusals::BAD_FILLING;
@@ -90,8 +92,8 @@ fn put_cell(out: &mut [u8], at: u32, p: Problem, tail: u32, head: u32) -> u32 {
 // "for each feeder upwards, each fed position upwards, leaving out feeder = fed and fed = root: price 20 bits, mark 2."
 fn put_cells(out: &mut [u8], p: Problem) {
     let mut at = CELLS_AT;
-    for k in 0..1024 {
-        at = put_cell(out, at, p, k / 32, k % 32);
+    for k in 0..CELLS as u32 {
+        at = put_cell(out, at, p, k / STRIDE, k % STRIDE);
     }
 }
 
@@ -126,7 +128,7 @@ fn field(card: &[u8], from: u32, width: u32) -> u32 {
 }
 
 // "6: price field 1,000,001 to 1,048,574"; "7: mark 3, or a mark other than 0 on no link"; "6 before 7".
-fn cell_fault(cell: u32) -> u32 {
+fn cell_answer(cell: u32) -> u32 {
     let weight = cell / 4;
     let mark = cell % 4;
     if weight == NO_ARC {
@@ -141,18 +143,18 @@ fn cell_fault(cell: u32) -> u32 {
     0
 }
 
-// The first of two faults, 0 for none.
-fn first(fault: u32, later: u32) -> u32 {
-    if fault == 0 { later } else { fault }
+// The first of two answers that is a refusal, 0 where none is.
+fn first(answer: u32, later: u32) -> u32 {
+    if answer == 0 { later } else { answer }
 }
 
-// What a card says: its refusal, 0 where it opens, and then the instance, with 0 in the cells that can hold no arc.
+// What a card says: the answer, 0 where it opens, and then the instance, with 0 in the cells that can hold no arc.
 pub struct Reading {
-    pub refusal: u32,
+    pub answer: u32,
     pub problem: Problem,
 }
 
-// The cells of a card with this header, and the fault of "the first faulty cell in card order".
+// The cells of a card with this header, and the answer to "the first faulty cell in card order".
 fn read_cells(card: &[u8], n: u32, root: u32) -> Reading {
     let mut p = Problem {
         n: n,
@@ -162,31 +164,31 @@ fn read_cells(card: &[u8], n: u32, root: u32) -> Reading {
         marks: [0; CELLS],
     };
     let mut at = CELLS_AT;
-    let mut fault = 0;
-    for k in 0..1024 {
-        if problem::can_hold(n, root, k / 32, k % 32) {
+    let mut answer = 0;
+    for k in 0..CELLS as u32 {
+        if problem::can_hold(n, root, k / STRIDE, k % STRIDE) {
             let cell = field(card, at, CELL_BITS);
             p.weights[k as usize] = cell / 4;
             p.marks[k as usize] = narrow(cell % 4);
-            fault = first(fault, cell_fault(cell));
+            answer = first(answer, cell_answer(cell));
             at = plus(at, CELL_BITS);
         }
     }
     Reading {
-        refusal: fault,
+        answer: answer,
         problem: p,
     }
 }
 
 // "1 to 5 in that order", 0 where the header is in order.
-fn header_fault(card: &[u8], n: u32, root: u32) -> u32 {
+fn header_answer(card: &[u8], n: u32, root: u32) -> u32 {
     if card.len() < 5 {
         return CARD_SHORT;
     }
     if n == 0 {
         return BAD_COUNT;
     }
-    if 32 < n {
+    if MAX_VERTICES < n {
         return BAD_COUNT;
     }
     if card.len() != bytes_of(n) as usize {
@@ -201,8 +203,8 @@ fn header_fault(card: &[u8], n: u32, root: u32) -> u32 {
     0
 }
 
-// Whether a bit after the last cell is 1.
-fn filling_fault(card: &[u8], n: u32) -> u32 {
+// 8 where a bit after the last cell is 1.
+fn filling_answer(card: &[u8], n: u32) -> u32 {
     if field(card, bits_of(n), 8) == 0 {
         0
     } else {
@@ -215,7 +217,7 @@ pub fn read(card: &[u8]) -> Reading {
     let n = field(card, 0, N_BITS);
     let root = field(card, ROOT_AT, ROOT_BITS);
     let mut r = read_cells(card, n, root);
-    let fault = first(header_fault(card, n, root), r.refusal);
-    r.refusal = first(fault, filling_fault(card, n));
+    let answer = first(header_answer(card, n, root), r.answer);
+    r.answer = first(answer, filling_answer(card, n));
     r
 }

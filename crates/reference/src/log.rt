@@ -41,7 +41,7 @@ pub fn empty() -> Log {
 }
 
 // "refused with 9 if a position is not below n, else with 10 if the card has no such link".
-fn mark_fault(card: Problem, tail: u32, head: u32) -> u32 {
+fn mark_answer(card: Problem, tail: u32, head: u32) -> u32 {
     if card.n <= tail {
         return NO_VERTEX;
     }
@@ -56,20 +56,24 @@ fn mark_fault(card: Problem, tail: u32, head: u32) -> u32 {
 }
 
 // "else with 12 if 200 stand".
-fn full_fault(fault: u32, count: u32) -> u32 {
-    if fault != 0 {
-        return fault;
+fn full_answer(answer: u32, count: u32) -> u32 {
+    if answer != 0 {
+        return answer;
     }
-    if count < 200 { 0 } else { HISTORY_FULL }
+    if count < RECORDS as u32 {
+        0
+    } else {
+        HISTORY_FULL
+    }
 }
 
 // "refused with 11 if above 31,000,000"; of a take-back "refused with 13 if none stands". 0 where the call is accepted.
-fn refusal(count: u32, card: Problem, c: Call) -> u32 {
+fn answer_to(count: u32, card: Problem, c: Call) -> u32 {
     let kind = c.kind;
     match kind {
         call::TAKE_BACK => if count == 0 { HISTORY_EMPTY } else { 0 },
-        call::BUDGET => full_fault(if MAX_BUDGET < c.first { BAD_BUDGET } else { 0 }, count),
-        _ => full_fault(mark_fault(card, c.first, c.second), count),
+        call::BUDGET => full_answer(if MAX_BUDGET < c.first { BAD_BUDGET } else { 0 }, count),
+        _ => full_answer(mark_answer(card, c.first, c.second), count),
     }
 }
 
@@ -80,7 +84,7 @@ fn changed(log: Log, c: Call) -> Log {
         l.count = std::num::wrapping_sub_u32(l.count, 1);
         return l;
     }
-    let at = (l.count % 200) as usize;
+    let at = (l.count % RECORDS as u32) as usize;
     l.calls[at] = c;
     l.count = plus(l.count, 1);
     l
@@ -88,7 +92,7 @@ fn changed(log: Log, c: Call) -> Log {
 
 // The log's answer to a call, and the log after it: "A refused call leaves the book as it was."
 pub fn note(log: Log, card: Problem, c: Call) -> Logged {
-    let answer = refusal(log.count, card, c);
+    let answer = answer_to(log.count, card, c);
     if answer != 0 {
         return Logged {
             answer: answer,
@@ -114,7 +118,7 @@ fn mark_set(kind: u32) -> u8 {
 // or the card's if none does", the budget "that of the last standing budget press, or the card's if there is none".
 pub fn problem_now(log: Log, card: Problem) -> Problem {
     let mut p = card;
-    for k in 0..200 {
+    for k in 0..RECORDS as u32 {
         if k < log.count {
             let c = log.calls[k as usize];
             if c.kind == call::BUDGET {

@@ -1,8 +1,13 @@
 // An instance as the reference holds it, and the arcs that remain under its marks.
 ghost use Prim.Native.Nat.{_<_};
 
-// Cells, one for each pair of 32 vertices, with stride 32.
-pub const CELLS: usize = 1024;
+// "A sheet has 1 to 32 positions".
+pub const MAX_VERTICES: u32 = 32;
+
+// A cell for each pair of vertices, at STRIDE times tail plus head, whatever n is.
+pub const STRIDE: u32 = MAX_VERTICES;
+
+pub const CELLS: usize = (STRIDE * STRIDE) as usize;
 
 pub struct Problem {
     pub n: u32,
@@ -35,7 +40,7 @@ pub const ABSENT: u32 = 4294967295;
 pub fn cell(tail: u32, head: u32) -> usize
     ensures { λ r. ⌜ r < 1024 ⌝ }
 {
-    (tail % 32 * 32 + head % 32) as usize
+    (tail % STRIDE * STRIDE + head % STRIDE) as usize
 }
 
 // Whether a cell can hold an arc: both vertices are there and differ, and the head is not the root.
@@ -72,7 +77,7 @@ pub fn mark_of(p: Problem, tail: u32, head: u32) -> u8 {
 
 // Whether head has a pinned arc from another tail.
 fn pinned_elsewhere(p: Problem, tail: u32, head: u32) -> bool {
-    for other in 0..32 {
+    for other in 0..MAX_VERTICES {
         if other != tail {
             if mark_of(p, other, head) == PINNED {
                 return true;
@@ -96,9 +101,9 @@ pub fn costs(p: Problem) -> [u32; CELLS] {
     let mut table = [ABSENT; CELLS];
     let n = p.n;
     let root = p.root;
-    for k in 0..1024 {
-        let tail = k / 32;
-        let head = k % 32;
+    for k in 0..CELLS as u32 {
+        let tail = k / STRIDE;
+        let head = k % STRIDE;
         if can_hold(n, root, tail, head) {
             if remains(p, tail, head) {
                 let at = k as usize;

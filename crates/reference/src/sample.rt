@@ -9,6 +9,7 @@ use crate::problem::MAX_WEIGHT;
 use crate::problem::NO_ARC;
 use crate::problem::PINNED;
 use crate::problem::Problem;
+use crate::problem::STRIDE;
 use crate::random;
 use crate::random::Random;
 
@@ -86,8 +87,8 @@ pub fn instance(seed: Random, n: u32, root: u32, mix: Mixture) -> Problem {
         marks: [77; CELLS],
     };
     let mut g = seed;
-    for k in 0..1024 {
-        if problem::can_hold(n, root, k / 32, k % 32) {
+    for k in 0..CELLS as u32 {
+        if problem::can_hold(n, root, k / STRIDE, k % STRIDE) {
             let c = some_cell(g, mix);
             g = random::next(random::next(random::next(random::next(g))));
             let at = k as usize;

@@ -11,6 +11,7 @@ use crate::call::Call;
 // How many bytes of a script are read.
 pub const SCRIPT_ROOM: usize = 8192;
 
+// More than the numbers of any line.
 pub const NUMBERS: usize = 16;
 
 // What was read of a line: its numbers stand from place 1 on, those that it expects after the inputs.
@@ -37,7 +38,7 @@ pub fn empty() -> Line {
 }
 
 pub fn number(line: Line, k: u32) -> u32 {
-    let at = (k % 16) as usize;
+    let at = (k % NUMBERS as u32) as usize;
     line.numbers[at]
 }
 
@@ -49,7 +50,7 @@ pub fn expected(line: Line, k: u32) -> u32 {
 // The line with another number at a place.
 pub fn with_fault(line: Line, k: u32) -> Line {
     let mut l = line;
-    let at = (k % 16) as usize;
+    let at = (k % NUMBERS as u32) as usize;
     l.numbers[at] = plus(l.numbers[at], 1);
     l
 }
@@ -60,7 +61,7 @@ fn with_digit(line: Line, digit: u32) -> Line {
         l.count = plus(l.count, 1);
         l.in_number = true;
     }
-    let at = (l.count % 16) as usize;
+    let at = (l.count % NUMBERS as u32) as usize;
     l.numbers[at] = plus(times(10, l.numbers[at]), digit);
     l
 }

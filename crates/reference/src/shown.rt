@@ -11,11 +11,13 @@ use crate::outcome::PLAN;
 use crate::problem;
 use crate::problem::ABSENT;
 use crate::problem::CELLS;
+use crate::problem::MAX_VERTICES;
+use crate::problem::STRIDE;
 
 // Cuts are shown in 122 words, as 61 pairs.
 pub const PAIRS: u32 = 61;
 
-pub const CUT_WORDS: u32 = 122;
+pub const CUT_WORDS: u32 = 2 * PAIRS;
 
 // The byte at the root, and everywhere where no tree is shown.
 pub const NO_PARENT: u32 = 255;
@@ -36,7 +38,7 @@ fn cost_into(table: &[u32; CELLS], root: u32, tail: u32, vertex: u32) -> u32 {
     if vertex == root {
         return if tail == NO_PARENT { 0 } else { ABSENT };
     }
-    if 31 < tail {
+    if MAX_VERTICES <= tail {
         return ABSENT;
     }
     table[problem::cell(tail, vertex)]
@@ -54,7 +56,7 @@ pub fn tree_total(table: &[u32; CELLS], parents: &[u8], n: u32, root: u32) -> u3
 // Whether the parents lead from a vertex to the root.
 fn comes_from_root(parents: &[u8], root: u32, vertex: u32) -> bool {
     let mut v = vertex;
-    for step in 0u32..33 {
+    for step in 0..MAX_VERTICES + 1 {
         if v == root {
             return true;
         }
@@ -75,12 +77,12 @@ pub fn tree_spans(parents: &[u8], n: u32, root: u32) -> bool {
 // The parents of what is shown: a tree "picks one remaining link into each position except the root, so that every
 // position is reached from the root", with that total; "255 at the root, and everywhere when over or none."
 pub fn parents_right(
-    table: &[u32; CELLS],
-    parents: &[u8],
-    n: u32,
-    root: u32,
-    kind: u32,
-    total: u32,
+    table: &[u32; CELLS], // the weights of the remaining arcs
+    parents: &[u8], // the bytes that were shown, the parent of vertex k at place k
+    n: u32, // how many vertices there are
+    root: u32, // the one that has no parent
+    kind: u32, // the kind of outcome that was shown
+    total: u32, // the total that was shown with it
 ) -> bool {
     if kind != PLAN {
         return all_bytes(parents, 0, n, NO_PARENT);
@@ -104,7 +106,7 @@ fn is_cut_set(n: u32, root: u32, set: u32) -> bool {
     if holds(set, root) {
         return false;
     }
-    if 31 < n {
+    if MAX_VERTICES <= n {
         return true;
     }
     set >> (n % 32) == 0
@@ -131,10 +133,10 @@ fn charge(cuts: &[u32], tail: u32, head: u32) -> u64 {
 
 // "for each remaining link, the amounts of the cuts it enters add to at most its price".
 fn none_overcharged(table: &[u32; CELLS], cuts: &[u32]) -> bool {
-    for k in 0..1024 {
+    for k in 0..CELLS as u32 {
         let weight = table[k as usize];
         if weight != ABSENT {
-            if wide(weight) < charge(cuts, k / 32, k) {
+            if wide(weight) < charge(cuts, k / STRIDE, k % STRIDE) {
                 return false;
             }
         }
@@ -170,7 +172,7 @@ fn cut_count_allowed(n: u32, count: u32) -> bool {
     if n < 2 {
         return count == 0;
     }
-    if 32 < n {
+    if MAX_VERTICES < n {
         return false;
     }
     count <= 2 * n - 3
@@ -195,8 +197,8 @@ fn are_cuts(table: &[u32; CELLS], cuts: &[u32], n: u32, root: u32, count: u32, t
 
 // Whether a remaining arc enters a set.
 fn is_entered(table: &[u32; CELLS], set: u32) -> bool {
-    for k in 0..1024 {
-        if enters(set, k / 32, k) {
+    for k in 0..CELLS as u32 {
+        if enters(set, k / STRIDE, k % STRIDE) {
             if table[k as usize] != ABSENT {
                 return true;
             }
@@ -223,13 +225,13 @@ fn is_unentered(table: &[u32; CELLS], cuts: &[u32], n: u32, root: u32, count: u3
 
 // The cuts of what is shown, and how many: those that prove the total where there is a tree, and otherwise one set.
 pub fn cuts_right(
-    table: &[u32; CELLS],
-    cuts: &[u32],
-    n: u32,
-    root: u32,
-    count: u32,
-    kind: u32,
-    total: u32,
+    table: &[u32; CELLS], // the weights of the remaining arcs
+    cuts: &[u32], // the words that were shown: a set and its amount, pair after pair
+    n: u32, // how many vertices there are
+    root: u32, // the one that is in no set
+    count: u32, // how many pairs were shown
+    kind: u32, // the kind of outcome that was shown
+    total: u32, // the total that was shown with it
 ) -> bool {
     if kind == NONE {
         return is_unentered(table, cuts, n, root, count);

@@ -2,6 +2,7 @@
 // planted, and how many of these its comparison reported: "A comparison that can not fail is no test".
 use crate::access::plus;
 
+// More than any program counts.
 pub const COUNTS: usize = 32;
 
 // The first three counts; a program's own follow.
@@ -24,13 +25,13 @@ pub fn zero() -> Tally {
 }
 
 pub fn count(tally: Tally, which: u32) -> u32 {
-    let at = (which % 32) as usize;
+    let at = (which % COUNTS as u32) as usize;
     tally.counts[at]
 }
 
 pub fn with(tally: Tally, which: u32, more: u32) -> Tally {
     let mut t = tally;
-    let at = (which % 32) as usize;
+    let at = (which % COUNTS as u32) as usize;
     t.counts[at] = plus(t.counts[at], more);
     t
 }
@@ -87,7 +88,7 @@ fn print_names(tally: Tally, names: &[u8], from: u32) {
     }
 }
 
-// The program's counts by name, then the three that all have, and an empty line.
+// The program's counts by name, then the three that all have.
 pub fn report(tally: Tally, names: &[u8]) {
     print_names(tally, names, OWN);
     print_names(

@@ -1,6 +1,7 @@
 // Document 01's worked instances: sheet Q and the small ones beside it.
 use crate::access::narrow;
 use crate::card;
+use crate::card::CARD_ROOM;
 use crate::card::Card;
 use crate::problem;
 use crate::problem::CELLS;
@@ -70,7 +71,7 @@ pub fn sheet(name: u8, budget: u32) -> Problem {
 pub fn card(p: Problem, weight: u32, mark: u32, filling: u32, length: u32) -> Card {
     let q = with_mark(with_weight(p, 0, 1, weight), 0, 1, narrow(mark));
     let mut c = card::build(q);
-    let last = (std::num::wrapping_sub_u32(c.length, 1) % 2700) as usize;
+    let last = (std::num::wrapping_sub_u32(c.length, 1) % CARD_ROOM as u32) as usize;
     c.bytes[last] = c.bytes[last] | narrow(filling);
     c.length = length;
     c

@@ -4,17 +4,20 @@ use crate::damage;
 use crate::damage::Damaged;
 use board::Board;
 use harness::boards;
+use harness::buffers;
 use harness::calls;
 use harness::replies;
 use harness::replies::Reply;
-use reference::access;
 use reference::call;
 use reference::call::Call;
+use reference::card::CARD_ROOM;
+use reference::problem::MAX_VERTICES;
 use reference::random;
 use reference::random::Random;
 use reference::refusals::BUFFER_SHORT;
 use reference::refusals::INVALID_BOARD;
 use reference::sample;
+use reference::shown::CUT_WORDS;
 use reference::tally;
 use reference::tally::Tally;
 
@@ -37,6 +40,8 @@ const LOOK: u32 = 7;
 
 const SHORT_WRITE: u32 = 8;
 
+const SHORT_LOOK: u32 = 9;
+
 fn nth_call(k: u32) -> Call {
     match k {
         0 => new_call(call::PIN, 0, 1),
@@ -58,10 +63,15 @@ fn new_call(kind: u32, first: u32, second: u32) -> Call {
 
 fn reply_of(b: Board, k: u32) -> Reply {
     match k {
-        WRITE => replies::of_write(b, 2700),
-        LOOK => replies::of_look(b, 40, 1100, 130),
+        WRITE => replies::of_write(b, CARD_ROOM as u32),
+        LOOK => replies::of_look(
+            b,
+            buffers::PARENTS as u32,
+            buffers::STATES as u32,
+            buffers::CUTS as u32,
+        ),
         SHORT_WRITE => replies::of_write(b, 4),
-        9 => replies::of_look(b, 1, 3, 121),
+        SHORT_LOOK => replies::of_look(b, 1, 3, CUT_WORDS - 1),
         _ => replies::of_call(b, calls::made(b, nth_call(k))),
     }
 }
@@ -115,10 +125,13 @@ fn tried(tally: Tally, d: Damaged) -> Tally {
     t
 }
 
-// A sound board of 2 to 32 vertices with some history.
+// Boards here have from 2 vertices, so that there is an arc to damage, to the most.
+const SIZES: u32 = MAX_VERTICES - 1;
+
+// A sound board of each size in turn, with some history.
 fn some_board(k: u32) -> Board {
     let g = random::seeded(k);
-    let n = k % 31 + 2;
+    let n = k % SIZES + 2;
     let mut b = boards::of_problem(sample::any_instance(g, n));
     let mut r = random::next(g);
     for step in 0u32..40 {

@@ -9,6 +9,7 @@ use reference::card;
 use reference::card::CARD_ROOM;
 use reference::card::Card;
 use reference::card::Reading;
+use reference::problem::MAX_VERTICES;
 use reference::random;
 use reference::random::Random;
 use reference::sample;
@@ -40,10 +41,10 @@ fn opened_right(o: Answered, r: Reading, c: Card) -> bool {
 
 // Whether the answer is the reference's, with the right board, or with none: one that every call refuses.
 fn is_right(o: Answered, r: Reading, c: Card) -> bool {
-    if o.answer != r.refusal {
+    if o.answer != r.answer {
         return false;
     }
-    if r.refusal == 0 {
+    if r.answer == 0 {
         return opened_right(o, r, c);
     }
     let b = o.board;
@@ -53,13 +54,13 @@ fn is_right(o: Answered, r: Reading, c: Card) -> bool {
 fn tried(tally: Tally, c: Card) -> Tally {
     let r = reading_of(c);
     let t = tally::checked(tally, CARDS, is_right(calls::open(c), r, c));
-    tally::with(t, access::plus(ANSWERS, r.refusal), 1)
+    tally::with(t, access::plus(ANSWERS, r.answer), 1)
 }
 
 // The card with one bit of its first bits changed.
 fn with_bit_changed(c: Card, k: u32) -> Card {
     let mut d = c;
-    let at = (k / 8 % 2700) as usize;
+    let at = (k / 8 % CARD_ROOM as u32) as usize;
     d.bytes[at] = d.bytes[at] ^ 128u8 >> (k % 8);
     d
 }
@@ -104,7 +105,7 @@ fn run_damaged(count: u32) -> Tally {
     let mut t = tally::zero();
     for k in 0..count {
         let g = random::seeded(k);
-        let c = card::build(sample::any_instance(g, k % 32 + 1));
+        let c = card::build(sample::any_instance(g, k % MAX_VERTICES + 1));
         t = tried_damaged(t, c, random::next(random::next(g)));
     }
     t
@@ -117,17 +118,17 @@ fn noise(seed: Random, length: u32) -> Card {
         length: length,
     };
     let mut g = seed;
-    for k in 0..2700 {
+    for k in 0..CARD_ROOM {
         c.bytes[k] = access::narrow(random::below(g, 256));
         g = random::next(g);
     }
     c
 }
 
-// Noise of every length from 0 to 2,699 bytes.
+// Noise of every length that there is room for.
 fn run_noise(tally: Tally) -> Tally {
     let mut t = tally;
-    for length in 0..2700 {
+    for length in 0..CARD_ROOM as u32 {
         t = tried(t, noise(random::seeded(length), length));
     }
     t

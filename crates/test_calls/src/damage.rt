@@ -3,8 +3,10 @@ use board::Board;
 use board::UndoRecord;
 use harness::boards;
 use reference::access;
+use reference::log::RECORDS;
 use reference::problem;
 use reference::problem::MAX_BUDGET;
+use reference::problem::MAX_VERTICES;
 use reference::problem::MAX_WEIGHT;
 use reference::problem::NO_ARC;
 use reference::random;
@@ -46,8 +48,8 @@ fn with_record(b: Board, g: Random, record: UndoRecord) -> Board {
     if c.count == 0 {
         c.count = 1;
     }
-    let below = random::below(g, (c.count % 201) as u32);
-    c.records[(below % 200) as usize] = record;
+    let below = random::below(g, (c.count % (RECORDS + 1)) as u32);
+    c.records[(below % RECORDS as u32) as usize] = record;
     c
 }
 
@@ -56,13 +58,13 @@ fn number_damaged(b: Board, kind: u32) -> Board {
     let mut c = b;
     match kind {
         0 => c.n = 0,
-        1 => c.n = 33,
+        1 => c.n = MAX_VERTICES + 1,
         2 => c.n = 4294967295,
         3 => c.root = c.n,
         4 => c.root = 4294967295,
         5 => c.budget = MAX_BUDGET + 1,
         6 => c.budget = 4294967295,
-        7 => c.count = 201,
+        7 => c.count = RECORDS + 1,
         _ => c.count = 18446744073709551615,
     }
     c
@@ -118,7 +120,7 @@ fn record_changed(b: Board, kind: u32, g: Random, tail: u32, head: u32) -> Board
 // Rubbish in a place past the count.
 fn with_rubbish_record(b: Board) -> Board {
     let mut c = b;
-    if c.count < 200 {
+    if c.count < RECORDS {
         let at = c.count;
         c.records[at] = boards::mark_record(250, 251, 252);
     }
@@ -128,7 +130,7 @@ fn with_rubbish_record(b: Board) -> Board {
 // What is no damage: rubbish where no arc can be and past the count, and a lawful record.
 fn sound(b: Board, kind: u32, g: Random, tail: u32, head: u32) -> Board {
     match kind {
-        23 => with_cell(b, tail, tail, 1000001, 3),
+        23 => with_cell(b, tail, tail, MAX_WEIGHT + 1, 3),
         24 => with_cell(b, tail, b.root, 4294967295, 255),
         25 => with_rubbish_record(b),
         _ => record_changed(b, kind, g, tail, head),

@@ -64,10 +64,10 @@ fn stepped(p: Progress, n: u32, crowded: bool, seed: u32, step: u32) -> Progress
     let before = p.session;
     let c = session::with_call(before, nth_call(random::next(g), n, crowded, step));
     let reply = c.reply;
-    let right = c.log_answer;
-    let t = tally::checked(p.tally, CALLS, replies::is_reply(reply, right));
-    let u = tally::planted(t, !replies::is_reply(reply, access::plus(right, 1)));
-    let v = tally::with(u, access::plus(ANSWERS, right), 1);
+    let answer = c.log_answer;
+    let t = tally::checked(p.tally, CALLS, replies::is_reply(reply, answer));
+    let u = tally::planted(t, !replies::is_reply(reply, access::plus(answer, 1)));
+    let v = tally::with(u, access::plus(ANSWERS, answer), 1);
     let s = c.session;
     Progress {
         session: s,
@@ -83,13 +83,16 @@ fn list_of_calls(start: Progress, n: u32, crowded: bool, seed: u32, length: u32)
     p
 }
 
-// How long a list is: the crowded ones have 300 calls, one in eight of the others up to 300, the rest up to 60.
+// Enough for the 200 records to be reached and for take-backs after.
+const LONGEST: u32 = 300;
+
+// How long a list is: the crowded ones are the longest, one in eight of the others at most as long, the rest up to 60.
 fn length_of(g: Random, crowded: bool) -> u32 {
     if crowded {
-        return 300;
+        return LONGEST;
     }
     if random::below(g, 8) == 0 {
-        return random::below(random::next(g), 301);
+        return random::below(random::next(g), LONGEST + 1);
     }
     random::below(random::next(g), 61)
 }
@@ -140,6 +143,7 @@ fn run(count: u32) -> Tally {
 pub fn all() {
     tally::report(
         run(2000),
-        b"lists\ncalls\nlooks\nwrites\nanswer 0:\nanswer 1:\nanswer 2:\nanswer 3:\nanswer 4:\nanswer 5:\nanswer 6:\nanswer 7:\nanswer 8:\nanswer 9:\nanswer 10:\nanswer 11:\nanswer 12:\nanswer 13:\n",
+        b"lists\ncalls\nlooks\nwrites\nanswer 0:\nanswer 1:\nanswer 2:\nanswer 3:\nanswer 4:\nanswer 5:\nanswer 6:\n\
+        answer 7:\nanswer 8:\nanswer 9:\nanswer 10:\nanswer 11:\nanswer 12:\nanswer 13:\n",
     );
 }

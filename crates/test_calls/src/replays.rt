@@ -21,6 +21,7 @@ use reference::random::Random;
 use reference::refusals::BAD_LENGTH;
 use reference::refusals::BUFFER_SHORT;
 use reference::sample;
+use reference::shown::CUT_WORDS;
 use reference::tally;
 use reference::tally::Tally;
 
@@ -48,7 +49,7 @@ fn some_list(seed: Random, n: u32) -> Calls {
         seconds: [0; CALLS],
     };
     let mut g = seed;
-    for k in 0..300 {
+    for k in 0..CALLS {
         let c = call::some_call(g, n, 4);
         g = random::next(random::next(random::next(random::next(random::next(g)))));
         l.kinds[k] = access::narrow(kind_or_between(g, c.kind));
@@ -63,9 +64,13 @@ fn some_list(seed: Random, n: u32) -> Calls {
 // limit.
 fn with_other_call(list: Calls, at: u32) -> Calls {
     let mut l = list;
-    let k = (at % 300) as usize;
-    let other = if l.kinds[k] == 3 { 0 } else { 3 };
-    l.kinds[k] = other;
+    let k = (at % CALLS as u32) as usize;
+    let other = if access::of_byte(l.kinds[k]) == call::BUDGET {
+        call::PIN
+    } else {
+        call::BUDGET
+    };
+    l.kinds[k] = access::narrow(other);
     l.firsts[k] = 4294967295;
     l
 }
@@ -97,7 +102,7 @@ fn read(list: Calls, answers: [u32; CALLS], p: Problem) -> Reading {
         log: log::empty(),
         right: true,
     };
-    for k in 0..300 {
+    for k in 0..CALLS {
         let c = Call {
             kind: access::of_byte(list.kinds[k]),
             first: list.firsts[k],
@@ -120,32 +125,32 @@ fn is_right(r: Replayed, list: Calls, p: Problem) -> bool {
     verdict::judged(log::problem_now(log, p), shown) == 0
 }
 
-// Whether a replay gave this refusal and touched nothing.
+// Whether a replay was refused with this answer and touched nothing.
 fn is_refused(r: Replayed, answer: u32) -> bool {
     let shown = r.shown;
     let answers = r.answers;
     if shown.kind != calls::REFUSED {
         return false;
     }
-    if shown.total != answer {
+    if shown.answer != answer {
         return false;
     }
     if !verdict::all_untouched(shown) {
         return false;
     }
-    buffers::words_untouched(&answers, 0, 300)
+    buffers::words_untouched(&answers, 0, CALLS as u32)
 }
 
 // One list or one buffer too short by one, the others whole.
 fn one_short(which: u32, n: u32) -> Lent {
     let mut l = replays::whole();
     match which {
-        0 => l.firsts = 299,
-        1 => l.seconds = 299,
-        2 => l.answers = 299,
+        0 => l.firsts = CALLS as u32 - 1,
+        1 => l.seconds = CALLS as u32 - 1,
+        2 => l.answers = CALLS as u32 - 1,
         3 => l.parents = std::num::wrapping_sub_u32(n, 1),
         4 => l.states = std::num::wrapping_sub_u32(access::times(n, n), 1),
-        _ => l.cuts = 121,
+        _ => l.cuts = CUT_WORDS - 1,
     }
     l
 }
@@ -173,7 +178,7 @@ fn tried_refused(tally: Tally, c: Card, list: Calls, n: u32) -> Tally {
 fn tried(tally: Tally, p: Problem, g: Random) -> Tally {
     let c = card::build(p);
     let list = some_list(g, p.n);
-    let other = with_other_call(list, random::below(g, 300));
+    let other = with_other_call(list, random::below(g, CALLS as u32));
     let whole = replays::whole();
     let t = tally::checked(
         tally,

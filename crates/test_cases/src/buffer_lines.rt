@@ -41,7 +41,7 @@ pub fn lent_right(line: Line, s: Session) -> bool {
     replies::is_reply(r, script::expected(line, 1))
 }
 
-// "card 2 0 5 5 0 0 8: 0": the refusal of a card of n positions, root, budget, price and mark from 0 to 1, filling bit,
+// "card 2 0 5 5 0 0 8: 0": the answer to a card of n positions, root, budget, price and mark from 0 to 1, filling bit,
 // length; the reference's and the planner's.
 pub fn card_right(line: Line) -> bool {
     let p = worked::without_arcs(
@@ -57,9 +57,9 @@ pub fn card_right(line: Line) -> bool {
         script::number(line, 7),
     );
     let bytes = c.bytes;
-    let right = script::expected(line, 1);
-    if card::read(access::front(&bytes, c.length)).refusal != right {
+    let answer = script::expected(line, 1);
+    if card::read(access::front(&bytes, c.length)).answer != answer {
         return false;
     }
-    calls::open(c).answer == right
+    calls::open(c).answer == answer
 }

@@ -9,8 +9,10 @@ use reference::problem;
 use reference::problem::ABSENT;
 use reference::problem::BANNED;
 use reference::problem::CELLS;
+use reference::problem::MAX_VERTICES;
 use reference::problem::PINNED;
 use reference::problem::Problem;
+use reference::problem::STRIDE;
 use reference::worked;
 
 pub fn look_at(p: Problem) -> Shown {
@@ -44,17 +46,21 @@ fn fits_at(table: &[u32; CELLS], p: Problem, s: Shown, tail: u32, head: u32) -> 
 }
 
 pub fn states_fit(table: &[u32; CELLS], p: Problem, s: Shown) -> bool {
-    for k in 0..1024 {
-        if !fits_at(table, p, s, k / 32, k % 32) {
+    for k in 0..CELLS as u32 {
+        if !fits_at(table, p, s, k / STRIDE, k % STRIDE) {
             return false;
         }
     }
     true
 }
 
+// A state of an instance of 32 vertices, whose states stand n to a row.
 fn state_at(s: Shown, tail: u32, head: u32) -> u32 {
     let states = s.states;
-    access::byte(&states, tail % 32 * 32 + head % 32)
+    access::byte(
+        &states,
+        tail % MAX_VERTICES * MAX_VERTICES + head % MAX_VERTICES,
+    )
 }
 
 // The kind of an instance by a look whose tree and cuts prove it, and UNPROVED where they do not.

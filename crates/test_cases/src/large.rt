@@ -9,6 +9,7 @@ use reference::access;
 use reference::outcome;
 use reference::problem;
 use reference::problem::MAX_BUDGET;
+use reference::problem::MAX_VERTICES;
 use reference::problem::Problem;
 use reference::random;
 use reference::random::Random;
@@ -54,8 +55,8 @@ fn with_look(tally: Tally, p: Problem, s: Shown) -> Tally {
 
 // One arc that the generator picks, exactly.
 fn with_arc(tally: Tally, p: Problem, s: Shown, g: Random) -> Tally {
-    let tail = random::below(g, 32);
-    let head = random::below(random::next(g), 32);
+    let tail = random::below(g, MAX_VERTICES);
+    let head = random::below(random::next(g), MAX_VERTICES);
     tally::checked(tally, ARCS, exact::arc_right(p, s, tail, head))
 }
 
@@ -101,7 +102,12 @@ fn tried_all(tally: Tally, p: Problem, g: Random) -> Tally {
     if s.kind != outcome::PLAN {
         return t;
     }
-    tried_around(planted(t, q, s, random::below(g, 32)), p, s.total, g)
+    tried_around(
+        planted(t, q, s, random::below(g, MAX_VERTICES)),
+        p,
+        s.total,
+        g,
+    )
 }
 
 fn run(count: u32) -> Tally {

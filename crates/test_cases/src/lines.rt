@@ -39,15 +39,15 @@ fn called(line: Line, s: Session) -> Called {
 // "mark 1 on 2 1: 0", "budget 16: 0", "take-back: 13": the board's answer is the line's, and the log's is the same. 15
 // is no answer of the log's, which knows the card alone.
 fn answer_right(line: Line, s: Session) -> bool {
-    let right = script::expected(line, 1);
+    let answer = script::expected(line, 1);
     let c = called(line, s);
-    if c.log_answer != right {
-        if right != INVALID_BOARD {
+    if c.log_answer != answer {
+        if answer != INVALID_BOARD {
             return false;
         }
     }
     let reply = c.reply;
-    replies::is_reply(reply, right)
+    replies::is_reply(reply, answer)
 }
 
 // Whether a line is right.

@@ -1,17 +1,20 @@
 // Large instances.
+use reference::problem::MAX_VERTICES;
 use reference::problem::Problem;
 use reference::random;
 use reference::sample;
 use reference::sample::Mixture;
 use reference::worked;
 
-// Arcs both ways between neighbours from 1 to 31, dearer as the numbers grow: 1 and 2 close the first cycle, which 3
-// joins, and so on, so that the cycles lie within one another; and arcs from vertex 0, the root, to every vertex from
-// one on.
+const LAST: u32 = MAX_VERTICES - 1;
+
+// Arcs both ways between neighbours from 1 to the last, dearer as the numbers grow: 1 and 2 close the first cycle,
+// which 3 joins, and so on, so that the cycles lie within one another; and arcs from vertex 0, the root, to every
+// vertex from one on.
 fn nested(entered_from: u32) -> Problem {
-    let mut p = worked::without_arcs(32, 0, 0);
-    for k in 1..32 {
-        if k < 31 {
+    let mut p = worked::without_arcs(MAX_VERTICES, 0, 0);
+    for k in 1..MAX_VERTICES {
+        if k < LAST {
             p = worked::with_weight(p, k, k + 1, 100 * k + 100);
             p = worked::with_weight(p, k + 1, k, 100 * k + 100);
         }
@@ -29,7 +32,12 @@ fn mixed(k: u32, weights: u32, missing: u32, pinned: u32, banned: u32) -> Proble
         pinned: pinned,
         banned: banned,
     };
-    sample::instance(random::seeded(k), 32, k % 32 * 5 % 32, mix)
+    sample::instance(
+        random::seeded(k),
+        MAX_VERTICES,
+        k % MAX_VERTICES * 5 % MAX_VERTICES,
+        mix,
+    )
 }
 
 // Nested cycles, with a way in at every vertex, at the one that joins last, and at none: there the set that no arc
@@ -38,8 +46,8 @@ fn mixed(k: u32, weights: u32, missing: u32, pinned: u32, banned: u32) -> Proble
 pub fn nth_instance(k: u32) -> Problem {
     match k {
         0 => nested(1),
-        1 => nested(31),
-        2 => nested(32),
+        1 => nested(LAST),
+        2 => nested(MAX_VERTICES),
         3 => mixed(3, 2, 0, 0, 0),
         4 => mixed(4, 1, 0, 0, 4),
         5 => mixed(5, 3, 0, 0, 0),

@@ -1,4 +1,5 @@
 // Results with one fault planted. The comparison has to report each of them, or the test could not fail.
+use harness::buffers;
 use harness::calls::Shown;
 use reference::access;
 use reference::random;
@@ -7,20 +8,20 @@ use reference::shown::CUT_WORDS;
 
 fn with_parent(shown: Shown, vertex: u32) -> Shown {
     let mut s = shown;
-    s.parents[(vertex % 40) as usize] = 0;
+    s.parents[(vertex % buffers::PARENTS as u32) as usize] = 0;
     s
 }
 
 fn with_word(shown: Shown, at: u32) -> Shown {
     let mut s = shown;
-    let k = (at % 130) as usize;
+    let k = (at % buffers::CUTS as u32) as usize;
     s.cuts[k] = access::plus(s.cuts[k], 1);
     s
 }
 
 fn with_state(shown: Shown, at: u32) -> Shown {
     let mut s = shown;
-    let k = (at % 1100) as usize;
+    let k = (at % buffers::STATES as u32) as usize;
     s.states[k] = (s.states[k] % 4 + 1) % 4;
     s
 }

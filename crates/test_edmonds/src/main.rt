@@ -12,15 +12,16 @@ use instance::Vertex;
 use instance::limits::CELLS;
 use instance::limits::CUT_WORDS;
 use instance::limits::NO_ARC;
+use instance::limits::VERTICES;
 
 fn put_arc(w: &mut [u32; CELLS], tail: usize, head: usize, weight: u32)
     requires { ⌜ (length (now w) ≡ cells) × Weights (now w) ⌝ }
     ensures { λ _. ⌜ (length (now (w .exit)) ≡ cells) × Weights (now (w .exit)) ⌝ }
 {
-    if tail < 32 {
-        if head < 32 {
+    if tail < VERTICES {
+        if head < VERTICES {
             if weight <= NO_ARC {
-                w[32 * tail + head] = weight;
+                w[VERTICES * tail + head] = weight;
             }
         }
     }
@@ -50,22 +51,22 @@ fn put_cycles(w: &mut [u32; CELLS])
     put_arc(w, 2, 1, 1);
     put_arc(w, 1, 2, 1);
     let mut v: usize = 3;
-    while v < 32 {
+    while v < VERTICES {
         put_arc(w, v - 1, v, 1);
         put_arc(w, v, v - 1, 2);
         v += 1;
     }
 }
 
-fn tree_total(w: &[u32; CELLS], parents: &[u8; 32], n: usize) -> u64
+fn tree_total(w: &[u32; CELLS], parents: &[u8; VERTICES], n: usize) -> u64
     requires { ⌜ n ≤ max-vertices ⌝ }
 {
     let mut total: u64 = 0;
     let mut v: usize = 0;
     while v < n {
         let p = wide(parents[v]);
-        if p < 32 {
-            total += wide32(w[32 * p + v]);
+        if p < VERTICES {
+            total += wide32(w[VERTICES * p + v]);
         }
         v += 1;
     }
@@ -114,16 +115,16 @@ fn main() {
     put_cycles(&mut inner);
     put_arc(&mut inner, 0, 1, 40);
     io::write_all(1, b"cycles entered at the innermost vertex: ");
-    show(inner, 32);
+    show(inner, VERTICES);
 
     let mut outer = [NO_ARC; CELLS];
     put_cycles(&mut outer);
     put_arc(&mut outer, 0, 31, 40);
     io::write_all(1, b"cycles entered at the outermost vertex: ");
-    show(outer, 32);
+    show(outer, VERTICES);
 
     let mut shut = [NO_ARC; CELLS];
     put_cycles(&mut shut);
     io::write_all(1, b"cycles with no way in: ");
-    show(shut, 32);
+    show(shut, VERTICES);
 }
