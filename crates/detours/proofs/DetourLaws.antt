@@ -30,7 +30,7 @@ module _ (ps table : List ℕ) (h t : ℕ) where
   pub path-take : (k d : ℕ) → On-path ps t h k → k ≢ h → getD table k 0 ≡ d → Path-least ps table t h d
   path-take k d w e q = record { at = λ l. (k, w, e, q) }
 
--- whatever lies on the way from a vertex to h is a vertex
+-- whatever lies on the path from a vertex to h is a vertex
 path-within : (n root : ℕ) (ps : List ℕ) (h t v : ℕ) → Rooted n root ps → n ≤ max-vertices → h < n → h ≢ root → t < n → Descends ps h t → On-path ps t h v → v < n
 path-within n root ps h t v k small l e b u start = b
 path-within n root ps h t v k small l e b u (onward {v = w} way ne) =
@@ -62,7 +62,7 @@ module _ (n root : ℕ) (m ps : List ℕ) (k : Matrix-tree n root m ps) (h t : �
       }
 
   module _ (inside : h < n) (no-root : h ≢ root) (t-inside : t < n) (below : List ℕ) (b : Descendants tree h n below) (under : Descends tree h t) where
-    -- the arc behind the increase at a vertex on the way
+    -- the arc behind the increase at a vertex on the path
     record Step (v d : ℕ) : Type 0 where
       tail : ℕ
       out : Avoids tree h tail

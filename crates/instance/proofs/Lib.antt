@@ -1,5 +1,5 @@
--- Document 01's worked cases, the definitions' edges and which instances are valid, computed; laws of arcs, valid and
--- same instances, paths, sets, cuts and matrices. Assumes nothing.
+-- Document 01's worked cases, corner cases of the definitions and which instances are valid, computed; laws of arcs,
+-- arborescences, valid and same instances, paths, sets, cuts and matrices. Assumes nothing.
 pub mod WorkedCases
 pub mod CornerCases
 pub mod WorkedValidity

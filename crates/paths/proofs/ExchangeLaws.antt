@@ -1,5 +1,5 @@
 -- Exchanging arcs of an arborescence. A vertex h can take any parent t that is no descendant of it; and where t is one,
--- after some vertex on the way from t to h has taken a parent that is none. Assumes nothing.
+-- after some vertex on the path from t to h has taken a parent that is none. Assumes nothing.
 use mathlib.Core.Path.{_≡_, refl, sym, ap, _∙_}
 use mathlib.Core.Bool.{true, false, cond}
 use mathlib.Core.List.{List}

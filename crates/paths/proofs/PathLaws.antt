@@ -67,7 +67,7 @@ avoids-above ps h k v a b j =
     ⊎-elim (λ (e : reaches j k ps v ≡ true). absurd (descends-not ps h v (descends-trans ps h k v (j, e) b) a)) (λ (e : reaches j k ps v ≡ false). e)
     (test (reaches j k ps v))
 
--- whatever lies on the way from a descendant of h is one too
+-- whatever lies on the path from a descendant of h is one too
 pub path-descends : (ps : List ℕ) (h t v : ℕ) → On-path ps t h v → Descends ps h t → Descends ps h v
 path-descends ps h t v start b = b
 path-descends ps h t v (onward {v = u} w e) b = descends-on ps h u e (path-descends ps h t u w b)
