@@ -15,24 +15,24 @@ pub const BYTE: u8 = 170;
 pub const WORD: u32 = 2863311530;
 
 // The first so many words of a buffer, or all of it; and so for a buffer that is lent to be written.
-pub fn front_words(s: &[u32], lent: u32) -> &[u32] {
-    let l = lent as usize;
+pub fn front_words(s: &[u32], room: u32) -> &[u32] {
+    let l = room as usize;
     if l < s.len() {
         return &s[0..l];
     }
     s
 }
 
-pub fn front_mut(s: &mut [u8], lent: u32) -> &mut [u8] {
-    let l = lent as usize;
+pub fn front_mut(s: &mut [u8], room: u32) -> &mut [u8] {
+    let l = room as usize;
     if l < s.len() {
         return &mut s[0..l];
     }
     s
 }
 
-pub fn front_words_mut(s: &mut [u32], lent: u32) -> &mut [u32] {
-    let l = lent as usize;
+pub fn front_words_mut(s: &mut [u32], room: u32) -> &mut [u32] {
+    let l = room as usize;
     if l < s.len() {
         return &mut s[0..l];
     }

@@ -89,15 +89,15 @@ pub fn as_shown(
 }
 
 // A look with the first so many bytes and words of the buffers lent.
-pub fn look_with(b: Board, parents_lent: u32, states_lent: u32, cuts_lent: u32) -> Shown {
+pub fn look_with(b: Board, parents_room: u32, states_room: u32, cuts_room: u32) -> Shown {
     let mut parents = [buffers::BYTE; buffers::PARENTS];
     let mut states = [buffers::BYTE; buffers::STATES];
     let mut cuts = [buffers::WORD; buffers::CUTS];
     let v = planner::look(
         b,
-        buffers::front_mut(&mut parents, parents_lent),
-        buffers::front_mut(&mut states, states_lent),
-        buffers::front_words_mut(&mut cuts, cuts_lent),
+        buffers::front_mut(&mut parents, parents_room),
+        buffers::front_mut(&mut states, states_room),
+        buffers::front_words_mut(&mut cuts, cuts_room),
     );
     as_shown(v, parents, states, cuts)
 }
@@ -119,9 +119,9 @@ pub struct CardOut {
 }
 
 // A write with the first so many bytes of the buffer lent.
-pub fn write_with(b: Board, lent: u32) -> CardOut {
+pub fn write_with(b: Board, room: u32) -> CardOut {
     let mut bytes = [buffers::BYTE; CARD_ROOM];
-    let w = planner::write_card(b, buffers::front_mut(&mut bytes, lent));
+    let w = planner::write_card(b, buffers::front_mut(&mut bytes, room));
     CardOut {
         answer: w.answer,
         length: w.length,

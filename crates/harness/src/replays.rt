@@ -16,7 +16,7 @@ pub struct Calls {
 }
 
 // How much is lent of each list and each buffer.
-pub struct Lent {
+pub struct Rooms {
     pub firsts: u32,
     pub seconds: u32,
     pub answers: u32,
@@ -26,8 +26,8 @@ pub struct Lent {
 }
 
 // All of it.
-pub fn whole() -> Lent {
-    Lent {
+pub fn whole() -> Rooms {
+    Rooms {
         firsts: CALLS as u32,
         seconds: CALLS as u32,
         answers: CALLS as u32,
@@ -42,7 +42,7 @@ pub struct Replayed {
     pub answers: [u32; CALLS],
 }
 
-pub fn replay(c: Card, list: Calls, lent: Lent) -> Replayed {
+pub fn replay(c: Card, list: Calls, rooms: Rooms) -> Replayed {
     let bytes = c.bytes;
     let kinds = list.kinds;
     let firsts = list.firsts;
@@ -54,12 +54,12 @@ pub fn replay(c: Card, list: Calls, lent: Lent) -> Replayed {
     let v = planner::replay(
         access::front(&bytes, c.length),
         &kinds,
-        buffers::front_words(&firsts, lent.firsts),
-        buffers::front_words(&seconds, lent.seconds),
-        buffers::front_words_mut(&mut answers, lent.answers),
-        buffers::front_mut(&mut parents, lent.parents),
-        buffers::front_mut(&mut states, lent.states),
-        buffers::front_words_mut(&mut cuts, lent.cuts),
+        buffers::front_words(&firsts, rooms.firsts),
+        buffers::front_words(&seconds, rooms.seconds),
+        buffers::front_words_mut(&mut answers, rooms.answers),
+        buffers::front_mut(&mut parents, rooms.parents),
+        buffers::front_mut(&mut states, rooms.states),
+        buffers::front_words_mut(&mut cuts, rooms.cuts),
     );
     Replayed {
         shown: calls::as_shown(v, parents, states, cuts),

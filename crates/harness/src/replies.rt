@@ -42,8 +42,8 @@ pub fn of_look(b: Board, parents: u32, states: u32, cuts: u32) -> Reply {
 }
 
 // Of a write with so many bytes lent.
-pub fn of_write(b: Board, lent: u32) -> Reply {
-    let w = calls::write_with(b, lent);
+pub fn of_write(b: Board, room: u32) -> Reply {
+    let w = calls::write_with(b, room);
     let bytes = w.bytes;
     Reply {
         answer: w.answer,

@@ -58,7 +58,7 @@ pub fn two(budget: u32) -> Problem {
 }
 
 // The instance that a line of a script names: sheet Q, two positions or one.
-pub fn sheet(name: u8, budget: u32) -> Problem {
+pub fn instance_named(name: u8, budget: u32) -> Problem {
     match name {
         b'Q' => q(budget),
         b'T' => two(budget),

@@ -5,8 +5,8 @@ use harness::calls;
 use harness::replays;
 use harness::replays::CALLS;
 use harness::replays::Calls;
-use harness::replays::Lent;
 use harness::replays::Replayed;
+use harness::replays::Rooms;
 use harness::verdict;
 use reference::access;
 use reference::call;
@@ -142,7 +142,7 @@ fn is_refused(r: Replayed, answer: u32) -> bool {
 }
 
 // One list or one buffer too short by one, the others whole.
-fn one_short(which: u32, n: u32) -> Lent {
+fn one_short(which: u32, n: u32) -> Rooms {
     let mut l = replays::whole();
     match which {
         0 => l.firsts = CALLS as u32 - 1,

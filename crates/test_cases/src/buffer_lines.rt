@@ -35,7 +35,7 @@ pub fn look_right(line: Line, s: Session) -> bool {
 }
 
 // "into 29 bytes: 14": a write.
-pub fn lent_right(line: Line, s: Session) -> bool {
+pub fn buffers_right(line: Line, s: Session) -> bool {
     let board = s.board;
     let r = replies::of_write(board, script::number(line, 1));
     replies::is_reply(r, script::expected(line, 1))

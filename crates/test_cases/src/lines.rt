@@ -62,7 +62,7 @@ fn is_right(line: Line, s: Session) -> bool {
         b's' => look_lines::set_right(line, s),
         b'w' => buffer_lines::write_right(line, s),
         b'l' => buffer_lines::look_right(line, s),
-        b'i' => buffer_lines::lent_right(line, s),
+        b'i' => buffer_lines::buffers_right(line, s),
         b'c' => buffer_lines::card_right(line),
         _ => !line.expects,
     }
@@ -82,7 +82,10 @@ fn damaged() -> Session {
 fn after(line: Line, s: Session) -> Session {
     let first = line.first;
     match first {
-        b'Q' | b'T' | b'O' => session::opened(worked::sheet(first, script::number(line, 1))),
+        b'Q' | b'T' | b'O' => session::opened(worked::instance_named(
+            first,
+            script::number(line, 1),
+        )),
         b'D' => damaged(),
         b'm' | b'b' | b't' => session_of(called(line, s)),
         _ => s,
