@@ -61,7 +61,7 @@ module _ (n root : ℕ) (m ps : List ℕ) (k : Matrix-tree n root m ps) (h t : �
             };
       }
 
-  module _ (inside : h < n) (no-root : h ≢ root) (t-inside : t < n) (below : List ℕ) (b : Descendants tree h n below) (under : Descends tree h t) where
+  module _ (inside : h < n) (no-root : h ≢ root) (t-inside : t < n) (below : List ℕ) (b : Descendants tree n h below) (under : Descends tree h t) where
     -- the arc behind the increase at a vertex on the path
     record Step (v d : ℕ) : Type 0 where
       tail : ℕ

@@ -11,5 +11,5 @@ pub record Descendant-flag (parents : List ℕ) (h v flag : ℕ) : Type 0 where
   pub under : flag ≡ 1 → Descends parents h v
   pub apart : flag ≢ 1 → Avoids parents h v
 
-pub record Descendants (parents : List ℕ) (h bound : ℕ) (table : List ℕ) : Type 0 where
+pub record Descendants (parents : List ℕ) (bound h : ℕ) (table : List ℕ) : Type 0 where
   pub at : (v : ℕ) → v < bound → Descendant-flag parents h v (getD table v 0)

@@ -25,7 +25,7 @@ fn is_descendant(parents: &[u8; VERTICES], n: u32, root: u32, head: u32, vertex:
 
 pub fn descendants(parents: &[u8; VERTICES], n: u32, root: u32, head: u32) -> [u8; VERTICES]
     requires { ⌜ (n ≤ max-vertices) × (length (now parents) ≡ max-vertices) × Rooted n root (take n (now parents)) × (head < n) × (head ≢ root) ⌝ }
-    ensures { λ r. ⌜ Descendants (take n (now (parents .entry))) head n r ⌝ }
+    ensures { λ r. ⌜ Descendants (take n (now (parents .entry))) n head r ⌝ }
 {
     let mut table = [0u8; VERTICES];
     let mut v: u32 = 0;

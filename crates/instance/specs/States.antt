@@ -33,7 +33,7 @@ outcome-at b (some v) = cond (leb v b) (Plan v) (Over v)
 unfoldable pub outcome : Instance → Outcome
 outcome s = outcome-at (s .budget) (cheapest s)
 
--- what a total may be at most for the states: today the budget
+-- what a total may be at most for the states: the budget
 abbrev pub total-limit : Instance → ℕ
 total-limit s = s .budget
 

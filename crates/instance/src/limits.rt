@@ -3,7 +3,7 @@
 pub const MAX_VERTICES: u32 = 32;
 
 // A place for each vertex in an array.
-pub const VERTICES: usize = 32;
+pub const VERTICES: usize = MAX_VERTICES as usize;
 
 pub const MAX_WEIGHT: u32 = 1_000_000;
 
@@ -23,8 +23,8 @@ pub const NO_PARENT: u8 = 255;
 
 pub const MAX_RECORDS: usize = 200;
 
-// Weights and marks are kept with a stride of 32: 32 times 32 cells.
-pub const CELLS: usize = 1024;
+// Weights and marks are kept with a stride of 32, whatever n is.
+pub const CELLS: usize = VERTICES * VERTICES;
 
 // Words for 61 cuts, a set and a value each.
 pub const CUT_WORDS: usize = 122;

@@ -69,18 +69,18 @@ split : (ks fs gs : List ℕ) (i : ℕ) → i < length ks → length ks ≤ leng
 unfolding calls
 split ks fs gs i h p q = rw (drop-cons ks i 0 h, drop-cons fs i 0 (omega arith), drop-cons gs i 0 (omega arith))
 
-lists-long : (ks fs gs xs : List ℕ) → length ks ≤ length fs → length ks ≤ length gs → length ks ≤ length xs → lists-short (length ks) (length fs) (length gs) (length xs) ≡ false
+lists-not-short : (ks fs gs xs : List ℕ) → length ks ≤ length fs → length ks ≤ length gs → length ks ≤ length xs → lists-short (length ks) (length fs) (length gs) (length xs) ≡ false
 unfolding lists-short
-lists-long ks fs gs xs p q r = simp (le-ltb (length fs) (length ks) p, le-ltb (length gs) (length ks) q, le-ltb (length xs) (length ks) r)
+lists-not-short ks fs gs xs p q r = simp (le-ltb (length fs) (length ks) p, le-ltb (length gs) (length ks) q, le-ltb (length xs) (length ks) r)
 
-pub record Lists-long (kinds firsts seconds answers : ℕ) : Type 0 where
+pub record Long-lists (kinds firsts seconds answers : ℕ) : Type 0 where
   pub enough-firsts : kinds ≤ firsts
   pub enough-seconds : kinds ≤ seconds
   pub room : kinds ≤ answers
 
-pub lists-enough : (k f s a : ℕ) → lists-short k f s a ≡ false → Lists-long k f s a
+pub long-lists : (k f s a : ℕ) → lists-short k f s a ≡ false → Long-lists k f s a
 unfolding lists-short
-lists-enough k f s a e =
+long-lists k f s a e =
     let P = ltb f k in
     let Q = ltb s k in
     let R = ltb a k in
@@ -242,5 +242,5 @@ module _ (ws ks fs gs xs₀ : List ℕ) (old : Buffers) where
     pub ended : card-refusal ws ≡ 0 → Replays ws ks fs gs xs₀ xs old new v
     unfolding Replays
     ended z =
-        rw (z, or-both-false (lists-short (length ks) (length fs) (length gs) (length xs₀)) (short-for (instance-in ws .n) old) (lists-long ks fs gs xs₀ (g .firsts) (g .seconds) (g .room)) (g .long))
+        rw (z, or-both-false (lists-short (length ks) (length fs) (length gs) (length xs₀)) (short-for (instance-in ws .n) old) (lists-not-short ks fs gs xs₀ (g .firsts) (g .seconds) (g .room)) (g .long))
         (finish (calls ks fs gs) start v xs₀ xs old new answers-made (subst (λ (s : Instance). Shows s old new v) shown-of shown))

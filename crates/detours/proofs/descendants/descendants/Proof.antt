@@ -10,7 +10,7 @@ use Rattle.detours.proofs.descendants.descendants.Statement.{statement}
 use Rattle.detours.proofs.descendants.descendants.Tie as tie
 
 abbrev Inv-loop : tie.InvT-loop
-Inv-loop parents n root head table₀ v₀ table v = (v ≤ n) × (length table ≡ max-vertices) × Descendants (take n parents) head v table
+Inv-loop parents n root head table₀ v₀ table v = (v ≤ n) × (length table ≡ max-vertices) × Descendants (take n parents) v head table
 
 abbrev μ-loop : tie.MeasureT-loop
 μ-loop parents n root head table₀ v₀ table v = n - v

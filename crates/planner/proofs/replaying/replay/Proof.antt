@@ -9,7 +9,7 @@ use Rattle.planner.specs.Looking.{buffers}
 use Rattle.board.specs.ModelOf.{model-of}
 use Rattle.commands.proofs.ValidLaws.{valid-parts}
 use Rattle.planner.proofs.OpeningLaws.{Starts, opened-answer, opened-starts}
-use Rattle.planner.proofs.ReplayingLaws.{Calls-made, lists-enough, begun, again, not-opened, lists-refused, buffers-refused, ended}
+use Rattle.planner.proofs.ReplayingLaws.{Calls-made, long-lists, begun, again, not-opened, lists-refused, buffers-refused, ended}
 use Rattle.planner.proofs.replaying.replay.Statement.{statement}
 use Rattle.planner.proofs.replaying.replay.Tie as tie
 
@@ -55,7 +55,7 @@ loop-holds c =
     let u = c .before .before .before in
     let e = u .before .before in
     let s = starts e in
-    let f = lists-enough _ _ _ _ (sym (u .before .are-lists-short .ensures) ∙ u .if2 .left) in
+    let f = long-lists _ _ _ _ (sym (u .before .are-lists-short .ensures) ∙ u .if2 .left) in
     begun _ _ _ _ _ _ (e .before .open-card .result .board) (s .tied) (s .good) (s .same-n) (f .enough-firsts) (f .enough-seconds) (f .room)
     (sym (c .before .is-too-short .ensures) ∙ c .if3 .left)
 
