@@ -18,7 +18,7 @@ use Rattle.contraction.specs.Trees.{none-left, more, Proper}
 use Rattle.contraction.proofs.Lowering.{lowered-none, lowered-there}
 use Rattle.contraction.proofs.Charging.{entering, enters-no, lowered-charge, charge-tree}
 use Rattle.instance.proofs.SetBits.{inside-some}
-use Rattle.contraction.specs.Cells.{at, cost}
+use Rattle.contraction.specs.Cells.{nth, cost}
 use Rattle.charging.specs.Entering.{Cheapest-arc}
 use Rattle.charging.specs.Lower.{Affords, Lowered-cells, lowered-weight}
 use Rattle.charging.specs.Members.{Members}
@@ -31,12 +31,12 @@ pub unentered-before : {n root : ℕ} {ws ws′ : List ℕ} {cs : List Cut} {s :
 unentered-before lo c = record { proper = c .proper; shut = λ t h l m th. c .shut t h l m (lowered-there lo t h l m th) }
 
 -- the vertices of a group other than the root's
-group-proper : {ls : List ℕ} {n g s : ℕ} → Members ls n g s → (root : ℕ) → root < n → at ls root ≢ g → (v : ℕ) → v < n → at ls v ≡ g → Proper n root s
+group-proper : {ls : List ℕ} {n g s : ℕ} → Members ls n g s → (root : ℕ) → root < n → nth ls root ≢ g → (v : ℕ) → v < n → nth ls v ≡ g → Proper n root s
 group-proper {ls} {n} {g} {s} ms root rl ne v l e =
     record {
-      some = inside-some s v (ms .is v l ∙ eq-eqb (at ls v) g e);
+      some = inside-some s v (ms .is v l ∙ eq-eqb (nth ls v) g e);
       below = ms .below;
-      no-root = ms .is root rl ∙ ne-eqb (at ls root) g ne;
+      no-root = ms .is root rl ∙ ne-eqb (nth ls root) g ne;
     }
 
 module _ (ws ls : List ℕ) (n g : ℕ) (small : n ≤ max-vertices) {t h a : ℕ} (b : Cheapest-arc ws ls n g n t h a) where
@@ -47,10 +47,10 @@ module _ (ws ls : List ℕ) (n g : ℕ) (small : n ≤ max-vertices) {t h a : �
     at-cell : (u v : ℕ) → u < n → v < n → cost ws′ u v ≡ lowered-weight ls g a u v (cost ws u v)
     at-cell u v l m = lo .done u v l m
 
-    same-cell : (u v : ℕ) → u < n → v < n → (at ls v ≢ g) ⊎ ((at ls u ≡ g) ⊎ (no-arc ≤ cost ws u v)) → cost ws′ u v ≡ cost ws u v
+    same-cell : (u v : ℕ) → u < n → v < n → (nth ls v ≢ g) ⊎ ((nth ls u ≡ g) ⊎ (no-arc ≤ cost ws u v)) → cost ws′ u v ≡ cost ws u v
     same-cell u v l m why = at-cell u v l m ∙ low-out ls g a u v why
 
-    lowered-cell : (u v : ℕ) → u < n → v < n → cost ws u v < no-arc → at ls v ≡ g → at ls u ≢ g → cost ws′ u v + a ≡ cost ws u v
+    lowered-cell : (u v : ℕ) → u < n → v < n → cost ws u v < no-arc → nth ls v ≡ g → nth ls u ≢ g → cost ws′ u v + a ≡ cost ws u v
     lowered-cell u v l m th e ne =
         let x = at-cell u v l m ∙ low-in ls g a u v e ne th in
         let y = affords v m e u l ne in
@@ -90,7 +90,7 @@ module _ (ws ls : List ℕ) (n g : ℕ) (small : n ≤ max-vertices) {t h a : �
                 getD-set-other (set cuts (2 * k) s) (2 * k + 1) i a 0 (off .1) ∙ getD-set-other cuts (2 * k) i s 0 (off .0);
             lowered =
                 rw is-one
-                (lowered-charge n (at ls) g cut (ms .is) (cost ws) (cost ws′) lowered-cell
+                (lowered-charge n (nth ls) g cut (ms .is) (cost ws) (cost ws′) lowered-cell
                 (λ u v l m why. same-cell u v l m (⊎-elim (λ d. inl d) (λ d. inr (inl d)) why)) beyond-or-none);
             arc =
                 λ _.
@@ -104,7 +104,7 @@ module _ (ws ls : List ℕ) (n g : ℕ) (small : n ≤ max-vertices) {t h a : �
                       let y = lowered-cell t h (b .tail-below lt) (b .head-below lt) (omega arith) (b .head-in lt) (b .tail-out lt) in
                       omega arith;
                 };
-            lifts = λ _ root off w cs parent tr. rw is-one (charge-tree n (at ls) g cut (ms .is) root w cs parent tr off h (b .head-below lt) (b .head-in lt));
+            lifts = λ _ root off w cs parent tr. rw is-one (charge-tree n (nth ls) g cut (ms .is) root w cs parent tr off h (b .head-below lt) (b .head-in lt));
             proper-cuts = λ _ root rl ne. rw is-one (more (record { proper = group-proper ms root rl ne h (b .head-below lt) (b .head-in lt); value = pos }) none-left);
             unentered = λ e. absurd (not-both true refl e);
           }
@@ -155,7 +155,7 @@ module _ (ws ls : List ℕ) (n g : ℕ) (small : n ≤ max-vertices) {t h a : �
               proper = group-proper ms root rl ne v l ve;
               shut =
                   λ p q x y th.
-                  ⊎-elim (λ (d : (at ls q ≡ g) × (at ls p ≢ g)). absurd (omega (arith, affords q y (d .0) p x (d .1))))
-                  (λ (d : (at ls q ≢ g) ⊎ (at ls p ≡ g)). enters-no n (at ls) g (record { set = s; value = 0 }) (ms .is) p q x y d) (entering (at ls) g p q);
+                  ⊎-elim (λ (d : (nth ls q ≡ g) × (nth ls p ≢ g)). absurd (omega (arith, affords q y (d .0) p x (d .1))))
+                  (λ (d : (nth ls q ≢ g) ⊎ (nth ls p ≡ g)). enters-no n (nth ls) g (record { set = s; value = 0 }) (ms .is) p q x y d) (entering (nth ls) g p q);
             };
       }

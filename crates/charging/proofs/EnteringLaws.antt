@@ -9,13 +9,13 @@ use lib.Dec.{ltb}
 use borrow.Author.Tests.{ltb-true, ltb-false}
 use Rattle.base.proofs.BoolLaws.{test}
 use Rattle.instance.specs.Limits.{no-arc, no-parent}
-use Rattle.contraction.specs.Cells.{at, cost}
+use Rattle.contraction.specs.Cells.{nth, cost}
 use Rattle.charging.specs.Entering.{Cheapest-arc}
 
 -- the cheapest into the vertices below h, and into h from the tails below a bound
 pub record Cheapest-so-far (ws ls : List ℕ) (n g h bound t v best : ℕ) : Type 0 where
   pub earlier : Cheapest-arc ws ls n g h t v best
-  pub here : (u : ℕ) → u < bound → at ls u ≢ g → best ≤ cost ws u h
+  pub here : (u : ℕ) → u < bound → nth ls u ≢ g → best ≤ cost ws u h
 
 module _ (ws ls : List ℕ) (n g : ℕ) where
   pub none-yet : Cheapest-arc ws ls n g 0 no-parent no-parent no-arc
@@ -31,7 +31,7 @@ module _ (ws ls : List ℕ) (n g : ℕ) where
       }
 
   -- nothing cheaper into vertex h
-  widen : (h : ℕ) {t v best : ℕ} → Cheapest-arc ws ls n g h t v best → ((u : ℕ) → u < n → at ls h ≡ g → at ls u ≢ g → best ≤ cost ws u h)
+  widen : (h : ℕ) {t v best : ℕ} → Cheapest-arc ws ls n g h t v best → ((u : ℕ) → u < n → nth ls h ≡ g → nth ls u ≢ g → best ≤ cost ws u h)
       → Cheapest-arc ws ls n g (h + 1) t v best
   widen h c more =
       record {
@@ -47,7 +47,7 @@ module _ (ws ls : List ℕ) (n g : ℕ) where
         is = c .is;
       }
 
-  pub skip-vertex : (h : ℕ) {t v best : ℕ} → Cheapest-arc ws ls n g h t v best → at ls h ≢ g → Cheapest-arc ws ls n g (h + 1) t v best
+  pub skip-vertex : (h : ℕ) {t v best : ℕ} → Cheapest-arc ws ls n g h t v best → nth ls h ≢ g → Cheapest-arc ws ls n g (h + 1) t v best
   skip-vertex h c ne = widen h c (λ u l e ne′. absurd (ne e))
 
   pub all-vertices : (h : ℕ) {t v best : ℕ} → Cheapest-arc ws ls n g h t v best → h ≤ n → n ≤ h → Cheapest-arc ws ls n g n t v best
@@ -57,7 +57,7 @@ module _ (ws ls : List ℕ) (n g : ℕ) where
     pub no-tail : {t v best : ℕ} → Cheapest-arc ws ls n g h t v best → Cheapest-so-far ws ls n g h 0 t v best
     no-tail c = record { earlier = c; here = λ u l ne. absurd (omega arith) }
 
-    pub pass-tail : (t : ℕ) {u v best : ℕ} → Cheapest-so-far ws ls n g h t u v best → (at ls t ≡ g) ⊎ (best ≤ cost ws t h)
+    pub pass-tail : (t : ℕ) {u v best : ℕ} → Cheapest-so-far ws ls n g h t u v best → (nth ls t ≡ g) ⊎ (best ≤ cost ws t h)
         → Cheapest-so-far ws ls n g h (t + 1) u v best
     pass-tail t {best = best} c why =
         record {
@@ -68,11 +68,11 @@ module _ (ws ls : List ℕ) (n g : ℕ) where
               (λ (d : ltb x t ≡ false).
               let q = ltb-false x t d in
               let s : x ≡ t = omega arith in
-              ⊎-elim (λ (e : at ls t ≡ g). absurd (ne (rw s e))) (λ (b : best ≤ cost ws t h). rw s b) why)
+              ⊎-elim (λ (e : nth ls t ≡ g). absurd (ne (rw s e))) (λ (b : best ≤ cost ws t h). rw s b) why)
               (test (ltb x t));
         }
 
-    pub take-tail : (t : ℕ) {u v best : ℕ} → Cheapest-so-far ws ls n g h t u v best → t < n → h < n → at ls h ≡ g → at ls t ≢ g → cost ws t h < best
+    pub take-tail : (t : ℕ) {u v best : ℕ} → Cheapest-so-far ws ls n g h t u v best → t < n → h < n → nth ls h ≡ g → nth ls t ≢ g → cost ws t h < best
         → Cheapest-so-far ws ls n g h (t + 1) t h (cost ws t h)
     take-tail t {best = best} c l m e ne lt =
         pass-tail t

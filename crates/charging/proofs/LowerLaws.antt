@@ -12,18 +12,18 @@ use borrow.Author.Tests.{ltb-true, ltb-false, lt-ltb, le-ltb, eq-eqb, ne-eqb}
 use Rattle.base.proofs.BoolLaws.{test, and-false-right}
 use Rattle.instance.specs.Limits.{max-vertices, no-arc, cells}
 use Rattle.instance.specs.Instance.{cell}
-use Rattle.contraction.specs.Cells.{at, cost}
+use Rattle.contraction.specs.Cells.{nth, cost}
 use Rattle.charging.specs.Lower.{lowered-weight, Lowered-into, Lowered-cells}
 
 module _ (ls : List ℕ) (g a : ℕ) where
-  pub low-in : (t h : ℕ) {x : ℕ} → at ls h ≡ g → at ls t ≢ g → x < no-arc → lowered-weight ls g a t h x ≡ x - a
-  low-in t h {x} e ne lt = rw (eq-eqb (at ls h) g e, ne-eqb (at ls t) g ne, lt-ltb x no-arc lt)
+  pub low-in : (t h : ℕ) {x : ℕ} → nth ls h ≡ g → nth ls t ≢ g → x < no-arc → lowered-weight ls g a t h x ≡ x - a
+  low-in t h {x} e ne lt = rw (eq-eqb (nth ls h) g e, ne-eqb (nth ls t) g ne, lt-ltb x no-arc lt)
 
-  pub low-out : (t h : ℕ) {x : ℕ} → (at ls h ≢ g) ⊎ ((at ls t ≡ g) ⊎ (no-arc ≤ x)) → lowered-weight ls g a t h x ≡ x
-  low-out t h {x} (inl ne) = rw (ne-eqb (at ls h) g ne)
-  low-out t h {x} (inr (inl e)) = rw (eq-eqb (at ls t) g e, and-false-right (eqb (at ls h) g) false refl)
+  pub low-out : (t h : ℕ) {x : ℕ} → (nth ls h ≢ g) ⊎ ((nth ls t ≡ g) ⊎ (no-arc ≤ x)) → lowered-weight ls g a t h x ≡ x
+  low-out t h {x} (inl ne) = rw (ne-eqb (nth ls h) g ne)
+  low-out t h {x} (inr (inl e)) = rw (eq-eqb (nth ls t) g e, and-false-right (eqb (nth ls h) g) false refl)
   low-out t h {x} (inr (inr le)) =
-      rw (le-ltb x no-arc le, and-false-right (not (eqb (at ls t) g)) false refl, and-false-right (eqb (at ls h) g) false refl)
+      rw (le-ltb x no-arc le, and-false-right (not (eqb (nth ls t) g)) false refl, and-false-right (eqb (nth ls h) g) false refl)
 
 -- INTO ONE VERTEX
 module _ (ws ls : List ℕ) (g a h : ℕ) (small : h < max-vertices) where
@@ -36,7 +36,7 @@ module _ (ws ls : List ℕ) (g a h : ℕ) (small : h < max-vertices) where
   pub all-tails : (ws′ : List ℕ) (t n : ℕ) → Lowered-into ws ws′ ls t g h a → t ≤ n → n ≤ t → Lowered-into ws ws′ ls n g h a
   all-tails ws′ t n c le end = let e : t ≡ n = omega arith in rw e at c
 
-  pub pass-tail : (ws′ : List ℕ) (t : ℕ) → Lowered-into ws ws′ ls t g h a → (at ls t ≡ g) ⊎ (no-arc ≤ cost ws′ t h) → Lowered-into ws ws′ ls (t + 1) g h a
+  pub pass-tail : (ws′ : List ℕ) (t : ℕ) → Lowered-into ws ws′ ls t g h a → (nth ls t ≡ g) ⊎ (no-arc ≤ cost ws′ t h) → Lowered-into ws ws′ ls (t + 1) g h a
   pass-tail ws′ t c why =
       let here = not-yet ws′ t c in
       record {
@@ -52,7 +52,7 @@ module _ (ws ls : List ℕ) (g a h : ℕ) (small : h < max-vertices) where
         rest = λ u v l w. c .rest u v l (⊎-elim (λ (d : t + 1 ≤ u). inl (omega arith)) (λ (d : v ≢ h). inr d) w);
       }
 
-  pub lower-tail : (ws′ : List ℕ) (t : ℕ) → Lowered-into ws ws′ ls t g h a → t < max-vertices → at ls h ≡ g → at ls t ≢ g → cost ws′ t h < no-arc
+  pub lower-tail : (ws′ : List ℕ) (t : ℕ) → Lowered-into ws ws′ ls t g h a → t < max-vertices → nth ls h ≡ g → nth ls t ≢ g → cost ws′ t h < no-arc
       → Lowered-into ws (set ws′ (cell t h) (cost ws′ t h - a)) ls (t + 1) g h a
   lower-tail ws′ t c lt e ne th =
       let size = c .size in
@@ -85,7 +85,7 @@ module _ (ws ls : List ℕ) (n g a : ℕ) where
   pub none-lowered : length ws ≡ cells → Lowered-cells ws ws ls n g a 0
   none-lowered e = record { size = e; done = λ t h l m. absurd (omega arith); rest = λ t h l why. refl }
 
-  pub skip-vertex : (ws′ : List ℕ) (h : ℕ) → h < max-vertices → Lowered-cells ws ws′ ls n g a h → at ls h ≢ g → Lowered-cells ws ws′ ls n g a (h + 1)
+  pub skip-vertex : (ws′ : List ℕ) (h : ℕ) → h < max-vertices → Lowered-cells ws ws′ ls n g a h → nth ls h ≢ g → Lowered-cells ws ws′ ls n g a (h + 1)
   skip-vertex ws′ h small c ne =
       record {
         size = c .size;

@@ -9,7 +9,7 @@ use native.Mathlib.Numerals.{add-one}
 use lib.Pow.{pow-mono, pow-lt}
 use borrow.Author.Tests.{eq-eqb, ne-eqb}
 use Rattle.instance.proofs.SetBits.{inside-low, inside-top, inside-none}
-use Rattle.contraction.specs.Cells.{at}
+use Rattle.contraction.specs.Cells.{nth}
 use Rattle.charging.specs.Members.{Members}
 
 shifted : (v : ℕ) → v < 32 → 1 * 2 ^ v % 4294967296 ≡ 2 ^ v
@@ -28,7 +28,7 @@ module _ (ls : List ℕ) (g v r : ℕ) (m : Members ls v g r) (l : v < 32) where
       let b : 2 ^ (v + 1) ≤ 4294967296 = pow-mono {i = v + 1} {j = 32} (omega arith) in
       rw (shifted v l) (omega (arith, double v))
 
-  pub one-member : at ls v ≡ g → Members ls (v + 1) g (r + 1 * 2 ^ v % 4294967296)
+  pub one-member : nth ls v ≡ g → Members ls (v + 1) g (r + 1 * 2 ^ v % 4294967296)
   one-member e =
       let a = m .below in
       rw (shifted v l)
@@ -36,17 +36,17 @@ module _ (ls : List ℕ) (g v r : ℕ) (m : Members ls v g r) (l : v < 32) where
         below = omega (arith, double v);
         is =
             λ u l′.
-            ⊎-elim (λ (s : u ≡ v). rw s (inside-top r v a ∙ sym (eq-eqb (at ls v) g e)))
+            ⊎-elim (λ (s : u ≡ v). rw s (inside-top r v a ∙ sym (eq-eqb (nth ls v) g e)))
             (λ (s : u < v). inside-low r v u s ∙ m .is u s) (eq-or-lt-of-le {n = u} {m = v} (omega arith));
       })
 
-  pub no-member : at ls v ≢ g → Members ls (v + 1) g r
+  pub no-member : nth ls v ≢ g → Members ls (v + 1) g r
   no-member ne =
       let a = m .below in
       record {
         below = omega (arith, double v);
         is =
             λ u l′.
-            ⊎-elim (λ (s : u ≡ v). rw s (inside-none r v a ∙ sym (ne-eqb (at ls v) g ne)))
+            ⊎-elim (λ (s : u ≡ v). rw s (inside-none r v a ∙ sym (ne-eqb (nth ls v) g ne)))
             (λ (s : u < v). m .is u s) (eq-or-lt-of-le {n = u} {m = v} (omega arith));
       }

@@ -9,14 +9,14 @@ use Rattle.instance.specs.Limits.{no-arc, cells, cut-words}
 use Rattle.instance.specs.Cuts.{Cut, cuts-from, enters}
 use Rattle.contraction.specs.Groups.{Lowered}
 use Rattle.contraction.specs.Trees.{Each, Tree, Proper, Proper-cut}
-use Rattle.contraction.specs.Cells.{at, cost}
+use Rattle.contraction.specs.Cells.{nth, cost}
 
 -- an arc of weight 0 into group g
 pub record Chosen-arc (ws ls : List ℕ) (n g t h : ℕ) : Type 0 where
   pub tail-below : t < n
   pub head-below : h < n
-  pub tail-out : at ls t ≢ g
-  pub head-in : at ls h ≡ g
+  pub tail-out : nth ls t ≢ g
+  pub head-in : nth ls h ≡ g
   pub tight : cost ws t h ≡ 0
 
 -- a set of vertices that no arc enters
@@ -31,11 +31,11 @@ pub record Charged-group (ws ws′ ls : List ℕ) (n g k : ℕ) (cuts cuts′ : 
   pub cuts-size : length cuts′ ≡ cut-words
   pub least : k ≤ next
   pub most : next ≤ k + 1
-  pub frame : (i : ℕ) → (i < 2 * k) ⊎ (2 * next ≤ i) → at cuts′ i ≡ at cuts i
+  pub frame : (i : ℕ) → (i < 2 * k) ⊎ (2 * next ≤ i) → nth cuts′ i ≡ nth cuts i
   pub lowered : Lowered n (cost ws) (cost ws′) (cuts-from (next - k) k cuts′)
   pub arc : found ≡ true → Chosen-arc ws′ ls n g t h
   pub lifts :
-      found ≡ true → (root : ℕ) → at ls root ≢ g → (w : ℕ → ℕ → ℕ) (cs : List Cut) (parent : ℕ → ℕ) → Tree n root w (at ls) cs parent
-      → Tree n root w (at ls) (cuts-from (next - k) k cuts′ ++ cs) parent
-  pub proper-cuts : found ≡ true → (root : ℕ) → root < n → at ls root ≢ g → Each (Proper-cut n root) (cuts-from (next - k) k cuts′)
-  pub unentered : found ≡ false → (root : ℕ) → root < n → at ls root ≢ g → (v : ℕ) → v < n → at ls v ≡ g → Unentered n root ws set
+      found ≡ true → (root : ℕ) → nth ls root ≢ g → (w : ℕ → ℕ → ℕ) (cs : List Cut) (parent : ℕ → ℕ) → Tree n root w (nth ls) cs parent
+      → Tree n root w (nth ls) (cuts-from (next - k) k cuts′ ++ cs) parent
+  pub proper-cuts : found ≡ true → (root : ℕ) → root < n → nth ls root ≢ g → Each (Proper-cut n root) (cuts-from (next - k) k cuts′)
+  pub unentered : found ≡ false → (root : ℕ) → root < n → nth ls root ≢ g → (v : ℕ) → v < n → nth ls v ≡ g → Unentered n root ws set

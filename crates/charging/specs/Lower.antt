@@ -7,19 +7,19 @@ use Prim.Native.Nat.{ℕ, _-_, _≤_, _<_}
 use lib.Dec.{ltb, eqb}
 use lib.ListN.{length}
 use Rattle.instance.specs.Limits.{max-vertices, no-arc, cells}
-use Rattle.contraction.specs.Cells.{at, cost}
+use Rattle.contraction.specs.Cells.{nth, cost}
 
 -- a value that no arc into vertex h of the group is below
 abbrev pub Affords-into : (ws ls : List ℕ) (n g h value : ℕ) → Type 0
-Affords-into ws ls n g h a = (t : ℕ) → t < n → at ls t ≢ g → a ≤ cost ws t h
+Affords-into ws ls n g h a = (t : ℕ) → t < n → nth ls t ≢ g → a ≤ cost ws t h
 
 -- a value that no arc into the group is below
 abbrev pub Affords : (ws ls : List ℕ) (n g value : ℕ) → Type 0
-Affords ws ls n g a = (h : ℕ) → h < n → at ls h ≡ g → Affords-into ws ls n g h a
+Affords ws ls n g a = (h : ℕ) → h < n → nth ls h ≡ g → Affords-into ws ls n g h a
 
 -- what an arc of weight x becomes
 abbrev pub lowered-weight : (ls : List ℕ) (g value t h x : ℕ) → ℕ
-lowered-weight ls g a t h x = cond (eqb (at ls h) g && (not (eqb (at ls t) g) && ltb x no-arc)) (x - a) x
+lowered-weight ls g a t h x = cond (eqb (nth ls h) g && (not (eqb (nth ls t) g) && ltb x no-arc)) (x - a) x
 
 -- the arcs into h from tails below a bound are lowered, all others are as they were
 pub record Lowered-into (ws ws′ ls : List ℕ) (bound g h value : ℕ) : Type 0 where

@@ -4,7 +4,7 @@
 ghost use mathlib.Core.Path.{_≡_};
 ghost use Prim.Native.Nat.{_+_, _≤_, _<_};
 ghost use Rattle.instance.specs.Limits.{max-vertices};
-ghost use Rattle.contraction.specs.Cells.{at};
+ghost use Rattle.contraction.specs.Cells.{nth};
 ghost use Rattle.charging.specs.Entering.{Cheapest-arc};
 use instance::Vertex;
 use instance::limits::CELLS;
@@ -31,7 +31,7 @@ fn cheapest_into(
     h: usize,
     best: Entering,
 ) -> Entering
-    requires { ⌜ (n ≤ max-vertices) × (g .0 < n) × (h < n) × (at (now label) h ≡ g .0) ⌝ }
+    requires { ⌜ (n ≤ max-vertices) × (g .0 < n) × (h < n) × (nth (now label) h ≡ g .0) ⌝ }
     requires { ⌜ Cheapest-arc (now w) (now label) n (g .0) h (best .tail .0) (best .head .0) (best .weight) ⌝ }
     ensures { λ r. ⌜ Cheapest-arc (now (w .entry)) (now (label .entry)) n (g .0) (h + 1) (r .tail .0) (r .head .0) (r .weight) ⌝ }
 {

@@ -4,7 +4,7 @@ ghost use mathlib.Core.Path.{_≡_};
 ghost use Prim.Native.Nat.{_≤_, _<_};
 ghost use lib.ListN.{length};
 ghost use Rattle.instance.specs.Limits.{max-vertices, cells};
-ghost use Rattle.contraction.specs.Cells.{at};
+ghost use Rattle.contraction.specs.Cells.{nth};
 ghost use Rattle.charging.specs.Lower.{Affords, Affords-into, Lowered-into, Lowered-cells};
 use instance::Vertex;
 use instance::limits::CELLS;
@@ -20,7 +20,7 @@ fn lower_into(
     h: usize,
     value: u32,
 )
-    requires { ⌜ (length (now w) ≡ cells) × (n ≤ max-vertices) × (g .0 < n) × (h < n) × (at (now label) h ≡ g .0) ⌝ }
+    requires { ⌜ (length (now w) ≡ cells) × (n ≤ max-vertices) × (g .0 < n) × (h < n) × (nth (now label) h ≡ g .0) ⌝ }
     requires { ⌜ Affords-into (now w) (now label) n (g .0) h value ⌝ }
     ensures { λ _. ⌜ Lowered-into (now (w .entry)) (now (w .exit)) (now (label .entry)) n (g .0) h value ⌝ }
 {

@@ -6,17 +6,17 @@ use lib.ListN.{getD}
 use Rattle.instance.specs.Limits.{max-vertices}
 use Rattle.instance.specs.Instance.{cell}
 
-abbrev pub at : List ℕ → ℕ → ℕ
-at l i = getD l i 0
+abbrev pub nth : List ℕ → ℕ → ℕ
+nth l i = getD l i 0
 
 -- what a matrix holds for the arc from tail to head: its weight, less what was charged so far
 abbrev pub cost : (matrix : List ℕ) → (tail head : ℕ) → ℕ
-cost ws t h = at ws (cell t h)
+cost ws t h = nth ws (cell t h)
 
 -- each vertex is its own label
 abbrev pub Own-labels : List ℕ → Type 0
-Own-labels ls = (v : ℕ) → v < max-vertices → at ls v ≡ v
+Own-labels ls = (v : ℕ) → v < max-vertices → nth ls v ≡ v
 
 -- each label is a vertex
 abbrev pub Labels-below : (n : ℕ) → List ℕ → Type 0
-Labels-below n ls = (v : ℕ) → v < n → at ls v < n
+Labels-below n ls = (v : ℕ) → v < n → nth ls v < n

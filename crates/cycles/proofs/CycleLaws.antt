@@ -16,7 +16,7 @@ use Rattle.instance.specs.Limits.{max-vertices}
 use Rattle.contraction.specs.Groups.{Along, stop}
 use Rattle.contraction.specs.Search.{Walk}
 use Rattle.contraction.proofs.SearchLaws.{ended, onward, restart}
-use Rattle.contraction.specs.Cells.{at}
+use Rattle.contraction.specs.Cells.{nth}
 use Rattle.cycles.specs.Cycle.{Searchable, Met, No-cycle}
 
 -- how many places hold 0
@@ -24,7 +24,7 @@ unfoldable pub zeros : List ℕ → ℕ
 zeros [] = 0
 zeros (x ∷ xs) = cond (eqb x 0) 1 0 + zeros xs
 
-zeros-set : (l : List ℕ) (i x : ℕ) → i < length l → at l i ≡ 0 → x ≢ 0 → zeros (set l i x) + 1 ≡ zeros l
+zeros-set : (l : List ℕ) (i x : ℕ) → i < length l → nth l i ≡ 0 → x ≢ 0 → zeros (set l i x) + 1 ≡ zeros l
 unfolding zeros
 zeros-set [] i x l z nz = absurd (omega arith)
 zeros-set (y ∷ ys) zero x l z nz =
@@ -33,7 +33,7 @@ zeros-set (y ∷ ys) zero x l z nz =
     omega arith
 zeros-set (y ∷ ys) (suc i) x l z nz = let ih = zeros-set ys i x (omega arith) z nz in omega arith
 
-all-zero : (k g : ℕ) → _≡_ {A = ℕ} (at (replicate k 0) g) 0
+all-zero : (k g : ℕ) → _≡_ {A = ℕ} (nth (replicate k 0) g) 0
 all-zero zero g = refl
 all-zero (suc k) zero = refl
 all-zero (suc k) (suc g) = all-zero k g
@@ -41,23 +41,23 @@ all-zero (suc k) (suc g) = all-zero k g
 -- every group below s has led to the root's
 pub record Between (ls tails : List ℕ) (n root : ℕ) (stamp : List ℕ) (now s : ℕ) : Type 0 where
   pub size : length stamp ≡ max-vertices
-  pub walk : Walk n root (at ls) (at tails) (at stamp) now now (at ls root)
-  pub passed : (v : ℕ) → v < s → at ls v ≡ v → (v ≡ at ls root) ⊎ (1 ≤ at stamp v)
+  pub walk : Walk n root (nth ls) (nth tails) (nth stamp) now now (nth ls root)
+  pub passed : (v : ℕ) → v < s → nth ls v ≡ v → (v ≡ nth ls root) ⊎ (1 ≤ nth stamp v)
   pub room : now + zeros stamp ≡ max-vertices + 1
 
 -- the walk from s has come to v
 pub record Walking (ls tails : List ℕ) (n root : ℕ) (stamp : List ℕ) (first now s v : ℕ) : Type 0 where
   pub size : length stamp ≡ max-vertices
-  pub walk : Walk n root (at ls) (at tails) (at stamp) first now v
-  pub passed : (u : ℕ) → u < s → at ls u ≡ u → (u ≡ at ls root) ⊎ (1 ≤ at stamp u)
-  pub start : (s ≡ v) ⊎ (1 ≤ at stamp s)
+  pub walk : Walk n root (nth ls) (nth tails) (nth stamp) first now v
+  pub passed : (u : ℕ) → u < s → nth ls u ≡ u → (u ≡ nth ls root) ⊎ (1 ≤ nth stamp u)
+  pub start : (s ≡ v) ⊎ (1 ≤ nth stamp s)
   pub room : now + zeros stamp ≡ max-vertices + 1
 
 module _ (ls tails : List ℕ) (n root : ℕ) (sb : Searchable ls tails n root) where
   pub none-stamped : Between ls tails n root (replicate max-vertices 0) 1 0
   unfolding zeros
   none-stamped =
-      let z : (g : ℕ) → at (replicate max-vertices 0) g ≡ 0 = λ g. all-zero max-vertices g in
+      let z : (g : ℕ) → nth (replicate max-vertices 0) g ≡ 0 = λ g. all-zero max-vertices g in
       record {
         size = refl;
         walk =
@@ -77,18 +77,18 @@ module _ (ls tails : List ℕ) (n root : ℕ) (sb : Searchable ls tails n root) 
       }
 
   module _ (stamp : List ℕ) (now s : ℕ) (b : Between ls tails n root stamp now s) where
-    pub set-out : s < n → at ls s ≡ s → Walking ls tails n root stamp now now s s
+    pub set-out : s < n → nth ls s ≡ s → Walking ls tails n root stamp now now s s
     set-out l e =
         record {
           size = b .size;
-          walk = restart n root (at ls) (at tails) (at stamp) now now (at ls root) (b .walk) s (stop refl) l e;
+          walk = restart n root (nth ls) (nth tails) (nth stamp) now now (nth ls root) (b .walk) s (stop refl) l e;
           passed = b .passed;
           start = inl refl;
           room = b .room;
         }
 
     -- s is no group's label
-    pub pass : at ls s ≢ s → Between ls tails n root stamp now (s + 1)
+    pub pass : nth ls s ≢ s → Between ls tails n root stamp now (s + 1)
     pass ne =
         record {
           size = b .size;
@@ -99,55 +99,55 @@ module _ (ls tails : List ℕ) (n root : ℕ) (sb : Searchable ls tails n root) 
 
     pub no-cycle : n ≤ s → No-cycle ls tails n root
     no-cycle l v m =
-        let g = at ls v in
+        let g = nth ls v in
         let gl = sb .labels .below v m in
-        ⊎-elim (λ (e : g ≡ at ls root). stop e)
-        (λ (e : 1 ≤ at stamp g). ended n root (at ls) (at tails) (at stamp) now now (at ls root) (b .walk) (stop refl) g e)
+        ⊎-elim (λ (e : g ≡ nth ls root). stop e)
+        (λ (e : 1 ≤ nth stamp g). ended n root (nth ls) (nth tails) (nth stamp) now now (nth ls root) (b .walk) (stop refl) g e)
         (b .passed g (omega arith) (sb .labels .self v m))
 
   module _ (stamp : List ℕ) (first now s v : ℕ) (k : Walking ls tails n root stamp first now s v) where
-    pub met : first ≤ at stamp v → Met ls tails stamp n root v
+    pub met : first ≤ nth stamp v → Met ls tails stamp n root v
     met l = record { first = first; last = now; walk = k .walk; met = l }
 
     pub in-range : v < max-vertices
     in-range = omega (arith, k .walk .v-below, sb .small)
 
-    pub tail-below : v ≢ at ls root → at tails v < n
+    pub tail-below : v ≢ nth ls root → nth tails v < n
     tail-below ne = sb .arc v (k .walk .v-below, k .walk .v-label, ne)
 
-    pub onwards : v ≢ at ls root → at stamp v ≡ 0 → Walking ls tails n root (set stamp v now) first (now + 1) s (at ls (at tails v))
+    pub onwards : v ≢ nth ls root → nth stamp v ≡ 0 → Walking ls tails n root (set stamp v now) first (now + 1) s (nth ls (nth tails v))
     onwards ne z =
         let size = k .size in
         let inside = in-range in
-        let same : at (set stamp v now) v ≡ now = getD-set-same stamp v now 0 (omega arith) in
-        let others : (g : ℕ) → g ≢ v → at (set stamp v now) g ≡ at stamp g = λ g off. getD-set-other stamp v g now 0 off in
+        let same : nth (set stamp v now) v ≡ now = getD-set-same stamp v now 0 (omega arith) in
+        let others : (g : ℕ) → g ≢ v → nth (set stamp v now) g ≡ nth stamp g = λ g off. getD-set-other stamp v g now 0 off in
         let pos : 1 ≤ now = omega (arith, k .walk .first-pos, k .walk .first-now) in
-        let still : (u : ℕ) → 1 ≤ at stamp u → 1 ≤ at (set stamp v now) u =
+        let still : (u : ℕ) → 1 ≤ nth stamp u → 1 ≤ nth (set stamp v now) u =
         λ u l. ⊎-elim (λ (e : eqb u v ≡ true). rw (eqb-true u v e, same) pos) (λ (e : eqb u v ≡ false). omega (arith, others u (eqb-false u v e))) (test (eqb u v)) in
         record {
           size = simp length-set size;
-          walk = onward n root (at ls) (at tails) (at stamp) first now v (k .walk) (sb .labels) (sb .arc) (at (set stamp v now)) z ne same others;
-          passed = λ u l e. ⊎-elim (λ (d : u ≡ at ls root). inl d) (λ (d : 1 ≤ at stamp u). inr (still u d)) (k .passed u l e);
-          start = inr (⊎-elim (λ (d : s ≡ v). rw (d, same) pos) (λ (d : 1 ≤ at stamp s). still s d) (k .start));
+          walk = onward n root (nth ls) (nth tails) (nth stamp) first now v (k .walk) (sb .labels) (sb .arc) (nth (set stamp v now)) z ne same others;
+          passed = λ u l e. ⊎-elim (λ (d : u ≡ nth ls root). inl d) (λ (d : 1 ≤ nth stamp u). inr (still u d)) (k .passed u l e);
+          start = inr (⊎-elim (λ (d : s ≡ v). rw (d, same) pos) (λ (d : 1 ≤ nth stamp s). still s d) (k .start));
           room = omega (arith, zeros-set stamp v now (omega arith) z (omega arith), k .room);
         }
 
-    pub ends : (v ≡ at ls root) ⊎ ((1 ≤ at stamp v) × (at stamp v < first)) → Between ls tails n root stamp now (s + 1)
+    pub ends : (v ≡ nth ls root) ⊎ ((1 ≤ nth stamp v) × (nth stamp v < first)) → Between ls tails n root stamp now (s + 1)
     ends why =
-        let home : Along (λ x. at ls (at tails x)) (at ls root) v =
-        ⊎-elim (λ (d : v ≡ at ls root). stop d) (λ (d : (1 ≤ at stamp v) × (at stamp v < first)). k .walk .old v (d .0) (d .1)) why in
-        let at-s : (s ≡ at ls root) ⊎ (1 ≤ at stamp s) =
+        let home : Along (λ x. nth ls (nth tails x)) (nth ls root) v =
+        ⊎-elim (λ (d : v ≡ nth ls root). stop d) (λ (d : (1 ≤ nth stamp v) × (nth stamp v < first)). k .walk .old v (d .0) (d .1)) why in
+        let at-s : (s ≡ nth ls root) ⊎ (1 ≤ nth stamp s) =
         ⊎-elim
-        (λ (e : s ≡ v). ⊎-elim (λ (d : v ≡ at ls root). inl (e ∙ d)) (λ (d : (1 ≤ at stamp v) × (at stamp v < first)). inr (rw e (d .0))) why)
-        (λ (e : 1 ≤ at stamp s). inr e) (k .start) in
+        (λ (e : s ≡ v). ⊎-elim (λ (d : v ≡ nth ls root). inl (e ∙ d)) (λ (d : (1 ≤ nth stamp v) × (nth stamp v < first)). inr (rw e (d .0))) why)
+        (λ (e : 1 ≤ nth stamp s). inr e) (k .start) in
         record {
           size = k .size;
           walk =
-              restart n root (at ls) (at tails) (at stamp) first now v (k .walk) (at ls root) home (sb .labels .below root (sb .labels .root-below))
+              restart n root (nth ls) (nth tails) (nth stamp) first now v (k .walk) (nth ls root) home (sb .labels .below root (sb .labels .root-below))
               (sb .labels .self root (sb .labels .root-below));
-          passed = λ u l e. ⊎-elim (λ (d : u ≡ s). subst (λ (x : ℕ). (x ≡ at ls root) ⊎ (1 ≤ at stamp x)) (sym d) at-s) (λ (d : u < s). k .passed u d e) (eq-or-lt-of-le {n = u} {m = s} (omega arith));
+          passed = λ u l e. ⊎-elim (λ (d : u ≡ s). subst (λ (x : ℕ). (x ≡ nth ls root) ⊎ (1 ≤ nth stamp x)) (sym d) at-s) (λ (d : u < s). k .passed u d e) (eq-or-lt-of-le {n = u} {m = s} (omega arith));
           room = k .room;
         }
 
-    pub falls : at stamp v ≡ 0 → zeros (set stamp v now) < zeros stamp
+    pub falls : nth stamp v ≡ 0 → zeros (set stamp v now) < zeros stamp
     falls z = omega (arith, zeros-set stamp v now (omega (arith, k .size, in-range)) z (omega (arith, k .walk .first-pos, k .walk .first-now)))

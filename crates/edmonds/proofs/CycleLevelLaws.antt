@@ -13,7 +13,7 @@ use borrow.Author.Tests.{eq-eqb, ne-eqb, eqb-true, eqb-false}
 use Rattle.base.proofs.BoolLaws.{test, not-both}
 use Rattle.instance.specs.Limits.{max-vertices}
 use Rattle.instance.specs.Cuts.{Cut, cuts-from}
-use Rattle.contraction.specs.Cells.{at, cost}
+use Rattle.contraction.specs.Cells.{nth, cost}
 use Rattle.contraction.specs.Groups.{Labels, Group, Chosen, Cycle, Lowered, contracted, expanded, groups}
 use Rattle.contraction.specs.Search.{on-cycle}
 use Rattle.contraction.specs.Trees.{Each, Reached, here, step, Tree, Proper-cut}
@@ -37,90 +37,90 @@ module _ {ws ls tails heads : List ℕ} {n root left : ℕ} (r : Plannable ws ls
   -- a cycle at v, contracted to the labels lc
   module _ {stamp : List ℕ} {v : ℕ} (mt : Met ls tails stamp n root v) {lc : List ℕ} (ct : Contracted ls stamp n v lc) where
     abbrev on : ℕ → Bool
-    on = on-cycle (at stamp) v
+    on = on-cycle (nth stamp) v
 
-    cycle-at : {w : ℕ → ℕ → ℕ} → Chosen n root w (at ls) (at tails) (at heads) → Cycle n root w (at ls) (at tails) (at heads) on v
-    cycle-at {w} ch = search-laws.cycle n root (at ls) (at tails) (at stamp) (mt .first) (mt .last) v (mt .walk) w (at heads) ch (mt .met)
+    cycle-at : {w : ℕ → ℕ → ℕ} → Chosen n root w (nth ls) (nth tails) (nth heads) → Cycle n root w (nth ls) (nth tails) (nth heads) on v
+    cycle-at {w} ch = search-laws.cycle n root (nth ls) (nth tails) (nth stamp) (mt .first) (mt .last) v (mt .walk) w (nth heads) ch (mt .met)
 
-    cycle : Cycle n root (cost ws) (at ls) (at tails) (at heads) on v
+    cycle : Cycle n root (cost ws) (nth ls) (nth tails) (nth heads) on v
     cycle = cycle-at (r .chosen)
 
     v-below : v < n
     v-below = mt .walk .v-below
 
-    v-label : at ls v ≡ v
+    v-label : nth ls v ≡ v
     v-label = mt .walk .v-label
 
-    label-on : (u : ℕ) → u < n → on (at ls u) ≡ true → at lc u ≡ v
+    label-on : (u : ℕ) → u < n → on (nth ls u) ≡ true → nth lc u ≡ v
     label-on u l i = ct .is u l ∙ rw i
 
-    label-off : (u : ℕ) → u < n → on (at ls u) ≡ false → at lc u ≡ at ls u
+    label-off : (u : ℕ) → u < n → on (nth ls u) ≡ false → nth lc u ≡ nth ls u
     label-off u l o = ct .is u l ∙ rw o
 
-    label-v : at lc v ≡ v
+    label-v : nth lc v ≡ v
     label-v = label-on v v-below (rw v-label (cycle .c-on))
 
-    label-root : at lc root ≡ at ls root
+    label-root : nth lc root ≡ nth ls root
     label-root = label-off root root-below (cycle .root-off)
 
-    root-not-v : at lc root ≢ v
+    root-not-v : nth lc root ≢ v
     root-not-v e = not-both (on v) (cycle .c-on) (subst (λ (x : ℕ). on x ≡ false) (sym label-root ∙ e) (cycle .root-off))
 
-    back-on : (u : ℕ) → u < n → at lc u ≡ v → on (at ls u) ≡ true
+    back-on : (u : ℕ) → u < n → nth lc u ≡ v → on (nth ls u) ≡ true
     back-on u l e =
-        ⊎-elim (λ (i : on (at ls u) ≡ true). i)
-        (λ (o : on (at ls u) ≡ false). absurd (not-both (on v) (cycle .c-on) (subst (λ (x : ℕ). on x ≡ false) (sym (label-off u l o) ∙ e) o))) (test (on (at ls u)))
+        ⊎-elim (λ (i : on (nth ls u) ≡ true). i)
+        (λ (o : on (nth ls u) ≡ false). absurd (not-both (on v) (cycle .c-on) (subst (λ (x : ℕ). on x ≡ false) (sym (label-off u l o) ∙ e) o))) (test (on (nth ls u)))
 
-    coarse-labels : Labels n root (at lc)
+    coarse-labels : Labels n root (nth lc)
     coarse-labels =
         record {
           below =
               λ u l.
-              ⊎-elim (λ (i : on (at ls u) ≡ true). rw (label-on u l i) v-below)
-              (λ (o : on (at ls u) ≡ false). rw (label-off u l o) (r .labels .below u l)) (test (on (at ls u)));
+              ⊎-elim (λ (i : on (nth ls u) ≡ true). rw (label-on u l i) v-below)
+              (λ (o : on (nth ls u) ≡ false). rw (label-off u l o) (r .labels .below u l)) (test (on (nth ls u)));
           self =
               λ u l.
-              ⊎-elim (λ (i : on (at ls u) ≡ true). rw (label-on u l i) label-v)
-              (λ (o : on (at ls u) ≡ false).
+              ⊎-elim (λ (i : on (nth ls u) ≡ true). rw (label-on u l i) label-v)
+              (λ (o : on (nth ls u) ≡ false).
               let self = r .labels .self u l in
-              rw (label-off u l o) (label-off (at ls u) (r .labels .below u l) (rw self o) ∙ self)) (test (on (at ls u)));
+              rw (label-off u l o) (label-off (nth ls u) (r .labels .below u l) (rw self o) ∙ self)) (test (on (nth ls u)));
           root-below = root-below;
         }
 
     -- a contracted group other than v's is a group off the cycle
-    off : (g : ℕ) → Group n root (at lc) g → g ≢ v → Group n root (at ls) g × (on g ≡ false)
+    off : (g : ℕ) → Group n root (nth lc) g → g ≢ v → Group n root (nth ls) g × (on g ≡ false)
     off g gr ne =
-        ⊎-elim (λ (i : on (at ls g) ≡ true). absurd (ne (sym (gr .1) ∙ label-on g (gr .0) i)))
-        (λ (o : on (at ls g) ≡ false).
-        let e : at ls g ≡ g = sym (label-off g (gr .0) o) ∙ gr .1 in
-        ((gr .0, e, λ x. gr .2 (x ∙ sym label-root)), rw e at o)) (test (on (at ls g)))
+        ⊎-elim (λ (i : on (nth ls g) ≡ true). absurd (ne (sym (gr .1) ∙ label-on g (gr .0) i)))
+        (λ (o : on (nth ls g) ≡ false).
+        let e : nth ls g ≡ g = sym (label-off g (gr .0) o) ∙ gr .1 in
+        ((gr .0, e, λ x. gr .2 (x ∙ sym label-root)), rw e at o)) (test (on (nth ls g)))
 
     -- FEWER GROUPS, and two at least
-    still-own : (u : ℕ) → u < n → eqb (at lc u) u ≡ true → eqb (at ls u) u ≡ true
+    still-own : (u : ℕ) → u < n → eqb (nth lc u) u ≡ true → eqb (nth ls u) u ≡ true
     still-own u l e =
         ⊎-elim
-        (λ (i : on (at ls u) ≡ true). let uv : u ≡ v = sym (eqb-true (at lc u) u e) ∙ label-on u l i in eq-eqb (at ls u) u (rw uv v-label))
-        (λ (o : on (at ls u) ≡ false). eq-eqb (at ls u) u (sym (label-off u l o) ∙ eqb-true (at lc u) u e)) (test (on (at ls u)))
+        (λ (i : on (nth ls u) ≡ true). let uv : u ≡ v = sym (eqb-true (nth lc u) u e) ∙ label-on u l i in eq-eqb (nth ls u) u (rw uv v-label))
+        (λ (o : on (nth ls u) ≡ false). eq-eqb (nth ls u) u (sym (label-off u l o) ∙ eqb-true (nth lc u) u e)) (test (on (nth ls u)))
 
     -- the group of the tail of v's arc is another of the cycle
-    fewer : groups n (at lc) + 1 ≤ groups n (at ls)
+    fewer : groups n (nth lc) + 1 ≤ groups n (nth ls)
     fewer =
         let tb = cycle .tail-below v (cycle .c-on) in
-        let u = at ls (at tails v) in
-        let ub : u < n = r .labels .below (at tails v) tb in
-        let us : at ls u ≡ u = r .labels .self (at tails v) tb in
-        let lu : at lc u ≡ v = label-on u ub (rw us (cycle .tail-on v (cycle .c-on))) in
-        count-more n (λ x. eqb (at lc x) x) (λ x. eqb (at ls x) x) still-own u ub
-        (ne-eqb (at lc u) u (λ e. cycle .tail-out v (cycle .c-on) (sym e ∙ lu))) (eq-eqb (at ls u) u us)
+        let u = nth ls (nth tails v) in
+        let ub : u < n = r .labels .below (nth tails v) tb in
+        let us : nth ls u ≡ u = r .labels .self (nth tails v) tb in
+        let lu : nth lc u ≡ v = label-on u ub (rw us (cycle .tail-on v (cycle .c-on))) in
+        count-more n (λ x. eqb (nth lc x) x) (λ x. eqb (nth ls x) x) still-own u ub
+        (ne-eqb (nth lc u) u (λ e. cycle .tail-out v (cycle .c-on) (sym e ∙ lu))) (eq-eqb (nth ls u) u us)
 
-    two-left : 2 ≤ groups n (at lc)
+    two-left : 2 ≤ groups n (nth lc)
     two-left =
-        let ρ = at lc root in
+        let ρ = nth lc root in
         let ρs = coarse-labels .self root root-below in
         let a = count-one n (λ x. eqb x ρ) ρ (coarse-labels .below root root-below) (eq-eqb ρ ρ refl) in
         let b =
-        count-more n (λ x. eqb x ρ) (λ x. eqb (at lc x) x) (λ x l e. eq-eqb (at lc x) x (rw (eqb-true x ρ e) ρs)) v v-below
-        (ne-eqb v ρ (λ e. root-not-v (sym e))) (eq-eqb (at lc v) v label-v) in
+        count-more n (λ x. eqb x ρ) (λ x. eqb (nth lc x) x) (λ x l e. eq-eqb (nth lc x) x (rw (eqb-true x ρ e) ρs)) v v-below
+        (ne-eqb v ρ (λ e. root-not-v (sym e))) (eq-eqb (nth lc v) v label-v) in
         omega arith
 
     pub three : 3 ≤ left
@@ -142,7 +142,7 @@ module _ {ws ls tails heads : List ℕ} {n root left : ℕ} (r : Plannable ws ls
         v-32 = omega (arith, v-below, r .small)
 
         -- the arcs chosen now: v's is the one that was charged, the others are as they were
-        chosen : Chosen n root (cost ws′) (at lc) (at (set tails v t)) (at (set heads v h))
+        chosen : Chosen n root (cost ws′) (nth lc) (nth (set tails v t)) (nth (set heads v h))
         chosen =
             record {
               head-below = λ g gr. arc g gr .head-below;
@@ -152,16 +152,16 @@ module _ {ws ls tails heads : List ℕ} {n root left : ℕ} (r : Plannable ws ls
               tight = λ g gr. arc g gr .tight;
             }
           where
-            at-v : Chosen-arc ws′ lc n v (at (set tails v t) v) (at (set heads v h) v)
+            at-v : Chosen-arc ws′ lc n v (nth (set tails v t) v) (nth (set heads v h) v)
             at-v =
                 let zt = r .tails-size in
                 let zh = r .heads-size in
                 let b = v-32 in
                 rw (getD-set-same tails v t 0 (omega arith), getD-set-same heads v h 0 (omega arith)) (ch .arc is-found)
 
-            arc : (g : ℕ) → Group n root (at lc) g → Chosen-arc ws′ lc n g (at (set tails v t) g) (at (set heads v h) g)
+            arc : (g : ℕ) → Group n root (nth lc) g → Chosen-arc ws′ lc n g (nth (set tails v t) g) (nth (set heads v h) g)
             arc g gr =
-                ⊎-elim (λ (e : eqb g v ≡ true). subst (λ (x : ℕ). Chosen-arc ws′ lc n x (at (set tails v t) x) (at (set heads v h) x)) (sym (eqb-true g v e)) at-v)
+                ⊎-elim (λ (e : eqb g v ≡ true). subst (λ (x : ℕ). Chosen-arc ws′ lc n x (nth (set tails v t) x) (nth (set heads v h) x)) (sym (eqb-true g v e)) at-v)
                 (λ (e : eqb g v ≡ false).
                 let ne = eqb-false g v e in
                 let o = off g gr ne in
@@ -175,9 +175,9 @@ module _ {ws ls tails heads : List ℕ} {n root left : ℕ} (r : Plannable ws ls
                   head-below = hb;
                   tail-out =
                       λ x.
-                      ⊎-elim (λ (i : on (at ls (at tails g)) ≡ true). ne (sym x ∙ label-on (at tails g) tb i))
-                      (λ (i : on (at ls (at tails g)) ≡ false). r .chosen .tail-out g gf (sym (label-off (at tails g) tb i) ∙ x)) (test (on (at ls (at tails g))));
-                  head-in = label-off (at heads g) hb (rw hi (o .1)) ∙ hi;
+                      ⊎-elim (λ (i : on (nth ls (nth tails g)) ≡ true). ne (sym x ∙ label-on (nth tails g) tb i))
+                      (λ (i : on (nth ls (nth tails g)) ≡ false). r .chosen .tail-out g gf (sym (label-off (nth tails g) tb i) ∙ x)) (test (on (nth ls (nth tails g))));
+                  head-in = label-off (nth heads g) hb (rw hi (o .1)) ∙ hi;
                   tight = chosen-lowered (ch .lowered) (r .chosen) .tight g gf;
                 }))
                 (test (eqb g v))
@@ -212,7 +212,7 @@ module _ {ws ls tails heads : List ℕ} {n root left : ℕ} (r : Plannable ws ls
               }
 
           module _ (th : found′ ≡ true) where
-            entered-at : {g : ℕ} → Reached n root (at lc) (at ps) g → g ≡ v → Cycle-entered ls stamp ps n v
+            entered-at : {g : ℕ} → Reached n root (nth lc) (nth ps) g → g ≡ v → Cycle-entered ls stamp ps n v
             entered-at (here e) x = absurd (root-not-v (sym e ∙ x))
             entered-at (step u l e p rest) x = (u, record { below = l; on = back-on u l (e ∙ x); has = p })
 
@@ -228,17 +228,17 @@ module _ {ws ls tails heads : List ℕ} {n root left : ℕ} (r : Plannable ws ls
             lowered : Lowered n (cost ws) (cost ws″) cs
             lowered = subst (Lowered n (cost ws) (cost ws″)) joined (lowered-twice (ch .lowered) (so .solution th .lowered))
 
-            coarse-tree : Tree n root (cost ws″) (contracted (at ls) on v) cs (at ps)
+            coarse-tree : Tree n root (cost ws″) (contracted (nth ls) on v) cs (nth ps)
             coarse-tree =
-                tree-same n root (cost ws″) (at lc) (contracted (at ls) on v) (at ps) (at ps) root-below (λ u l. sym (ct .is u l)) (λ u l. refl) cs
-                (subst (λ (x : List Cut). Tree n root (cost ws″) (at lc) x (at ps)) joined
-                (ch .lifts is-found root root-not-v (cost ws″) (cuts-from (m - k′) k′ cuts″) (at ps) (so .solution th .tree)))
+                tree-same n root (cost ws″) (nth lc) (contracted (nth ls) on v) (nth ps) (nth ps) root-below (λ u l. sym (ct .is u l)) (λ u l. refl) cs
+                (subst (λ (x : List Cut). Tree n root (cost ws″) (nth lc) x (nth ps)) joined
+                (ch .lifts is-found root root-not-v (cost ws″) (cuts-from (m - k′) k′ cuts″) (nth ps) (so .solution th .tree)))
 
             module _ {e : ℕ} (en : Cycle-entry ls stamp ps n v e) {ps′ : List ℕ} (ex : Expanded ls stamp tails heads n v e ps ps′) where
-              expanded-tree : Tree n root (cost ws″) (at ls) cs (at ps′)
+              expanded-tree : Tree n root (cost ws″) (nth ls) cs (nth ps′)
               expanded-tree =
-                  tree-same n root (cost ws″) (at ls) (at ls) (expanded (at ls) (at tails) (at heads) on (at ls e) (at ps)) (at ps′) root-below (λ u l. refl) (ex .is) cs
-                  (expand-tree n root (cost ws″) (at ls) (at tails) (at heads) on v (cycle-at (chosen-lowered lowered (r .chosen))) cs (at ps) coarse-tree e (en .below) (en .on) (en .has))
+                  tree-same n root (cost ws″) (nth ls) (nth ls) (expanded (nth ls) (nth tails) (nth heads) on (nth ls e) (nth ps)) (nth ps′) root-below (λ u l. refl) (ex .is) cs
+                  (expand-tree n root (cost ws″) (nth ls) (nth tails) (nth heads) on v (cycle-at (chosen-lowered lowered (r .chosen))) cs (nth ps) coarse-tree e (en .below) (en .on) (en .has))
 
               solution : Solution ws ws″ ls n root left k cuts cuts″ ps′ m
               solution =

@@ -11,7 +11,7 @@ use lib.ListN.{length, set, length-set}
 use lib.Seq.{getD-set-same, getD-set-other}
 use Rattle.instance.specs.Limits.{max-vertices, cells, max-cuts, cut-words}
 use Rattle.instance.specs.Cuts.{Cut, cuts-from}
-use Rattle.contraction.specs.Cells.{at, cost, Own-labels}
+use Rattle.contraction.specs.Cells.{nth, cost, Own-labels}
 use Rattle.contraction.specs.Groups.{Group, Lowered}
 use Rattle.contraction.specs.Trees.{Each, none-left, Tree, Proper-cut}
 use Rattle.base.proofs.CountingLaws.{count-le}
@@ -30,11 +30,11 @@ pub record Begun (ws₀ ws ls tails heads : List ℕ) (n root : ℕ) (cuts₀ cu
   pub heads-size : length heads ≡ max-vertices
   pub few : k ≤ v
   pub fewer : root < v → k + 1 ≤ v
-  pub arcs : (g : ℕ) → g < v → g ≢ root → Chosen-arc ws ls n g (at tails g) (at heads g)
+  pub arcs : (g : ℕ) → g < v → g ≢ root → Chosen-arc ws ls n g (nth tails g) (nth heads g)
   pub lowered : Lowered n (cost ws₀) (cost ws) (cuts-from k 0 cuts)
-  pub lifts : (w : ℕ → ℕ → ℕ) (cs : List Cut) (parent : ℕ → ℕ) → Tree n root w (at ls) cs parent → Tree n root w (at ls) (cuts-from k 0 cuts ++ cs) parent
+  pub lifts : (w : ℕ → ℕ → ℕ) (cs : List Cut) (parent : ℕ → ℕ) → Tree n root w (nth ls) cs parent → Tree n root w (nth ls) (cuts-from k 0 cuts ++ cs) parent
   pub proper-cuts : Each (Proper-cut n root) (cuts-from k 0 cuts)
-  pub frame : (i : ℕ) → 2 * k ≤ i → at cuts i ≡ at cuts₀ i
+  pub frame : (i : ℕ) → 2 * k ≤ i → nth cuts i ≡ nth cuts₀ i
 
 pub none-charged : {ws ls tails heads : List ℕ} {n root : ℕ} {cuts : List ℕ} → length ws ≡ cells → length cuts ≡ cut-words → length tails ≡ max-vertices
     → length heads ≡ max-vertices → Begun ws ws ls tails heads n root cuts cuts 0 0
@@ -73,7 +73,7 @@ module _ {ws₀ ws ls tails heads : List ℕ} {n root : ℕ} {cuts₀ cuts : Lis
       }
 
   module _ (vn : v < n) (vr : v ≢ root) {ws′ cuts′ : List ℕ} {found : Bool} {t h next s : ℕ} (ch : Charged-group ws ws′ ls n v k cuts cuts′ found t h next s) where
-    root-off : at ls root ≢ v
+    root-off : nth ls root ≢ v
     root-off e = vr (sym e ∙ own root (omega arith))
 
     pub none-enters : found ≡ false → Unentered n root ws₀ s
@@ -97,14 +97,14 @@ module _ {ws₀ ws ls tails heads : List ℕ} {n root : ℕ} {cuts₀ cuts : Lis
           lowered = subst (Lowered n (cost ws₀) (cost ws′)) joined (lowered-twice (b .lowered) (ch .lowered));
           lifts =
               λ w cs parent tr.
-              subst (λ (x : List Cut). Tree n root w (at ls) x parent)
+              subst (λ (x : List Cut). Tree n root w (nth ls) x parent)
               (sym (append-assoc (cuts-from k 0 cuts) (cuts-from (next - k) k cuts′) cs) ∙ ap (λ (x : List Cut). x ++ cs) joined)
               (b .lifts w (cuts-from (next - k) k cuts′ ++ cs) parent (ch .lifts yes-arc root root-off w cs parent tr));
           proper-cuts = subst (Each (Proper-cut n root)) joined (each-append (cuts-from k 0 cuts) (cuts-from (next - k) k cuts′) (b .proper-cuts) (ch .proper-cuts yes-arc root rb root-off));
           frame = λ i l. ch .frame i (inr l) ∙ b .frame i (omega arith);
         }
       where
-        arcs-now : (g : ℕ) → g ≢ root → (g ≡ v) ⊎ (g < v) → Chosen-arc ws′ ls n g (at (set tails v t) g) (at (set heads v h) g)
+        arcs-now : (g : ℕ) → g ≢ root → (g ≡ v) ⊎ (g < v) → Chosen-arc ws′ ls n g (nth (set tails v t) g) (nth (set heads v h) g)
         arcs-now g ne (inl d) =
             let zt = b .tails-size in
             let zh = b .heads-size in
@@ -112,21 +112,21 @@ module _ {ws₀ ws ls tails heads : List ℕ} {n root : ℕ} {cuts₀ cuts : Lis
         arcs-now g ne (inr d) =
             let a = b .arcs g d ne in
             let z = a .tight in
-            let x = ch .lowered .paid (at tails g) (at heads g) (a .tail-below) (a .head-below) (omega arith) in
+            let x = ch .lowered .paid (nth tails g) (nth heads g) (a .tail-below) (a .head-below) (omega arith) in
             rw (getD-set-other tails v g t 0 (omega arith), getD-set-other heads v g h 0 (omega arith))
             (record { tail-below = a .tail-below; head-below = a .head-below; tail-out = a .tail-out; head-in = a .head-in; tight = omega arith })
 
   -- EVERY VERTEX IS CHARGED
   module _ (end : n ≤ v) (le : v ≤ n) {left : ℕ} (bound : left ≡ n + (2 - n)) where
-    own-below : (q : ℕ) → q < n → at ls q ≡ q
+    own-below : (q : ℕ) → q < n → nth ls q ≡ q
     own-below q l = own q (omega arith)
 
-    group-arc : (g : ℕ) → Group n root (at ls) g → Chosen-arc ws ls n g (at tails g) (at heads g)
+    group-arc : (g : ℕ) → Group n root (nth ls) g → Chosen-arc ws ls n g (nth tails g) (nth heads g)
     group-arc g gr = let a = gr .0 in b .arcs g (omega arith) (λ e. gr .2 (e ∙ sym (own-below root rb)))
 
     pub begun-plannable : Plannable ws ls tails heads n root left
     begun-plannable =
-        let c = count-le n (λ q. eqb (at ls q) q) in
+        let c = count-le n (λ q. eqb (nth ls q) q) in
         record {
           size = b .size;
           tails-size = b .tails-size;

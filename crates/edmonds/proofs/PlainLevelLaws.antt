@@ -8,7 +8,7 @@ use lib.ListN.{length}
 use borrow.Author.Tests.{eq-eqb}
 use Rattle.base.proofs.BoolLaws.{not-both}
 use Rattle.instance.specs.Limits.{cut-words}
-use Rattle.contraction.specs.Cells.{at, cost}
+use Rattle.contraction.specs.Cells.{nth, cost}
 use Rattle.contraction.specs.Groups.{own-arcs}
 use Rattle.contraction.specs.Trees.{none-left}
 use Rattle.contraction.proofs.EachLaws.{tree-same}
@@ -31,7 +31,7 @@ module _ {ws ls tails heads : List ℕ} {n root left : ℕ} (r : Plannable ws ls
   solved-plain {cuts} {ps} {k} size nc own set =
       let e = no-cuts k cuts in
       let sm = r .small in
-      let t = own-tree n root (cost ws) (at ls) (at tails) (at heads) (r .labels) (r .chosen) (omega arith) nc in
+      let t = own-tree n root (cost ws) (nth ls) (nth tails) (nth heads) (r .labels) (r .chosen) (omega arith) nc in
       record {
         size = r .size;
         cuts-size = size;
@@ -39,13 +39,13 @@ module _ {ws ls tails heads : List ℕ} {n root left : ℕ} (r : Plannable ws ls
             λ _.
             record {
               parents-size = own .size;
-              tree = rw e (tree-same n root (cost ws) (at ls) (at ls) (own-arcs root (at ls) (at tails) (at heads)) (at ps) root-below (λ v l. refl) (own .is) [] t);
+              tree = rw e (tree-same n root (cost ws) (nth ls) (nth ls) (own-arcs root (nth ls) (nth tails) (nth heads)) (nth ps) root-below (λ v l. refl) (own .is) [] t);
               lowered = rw e (lowered-none n (cost ws));
               proper-cuts = rw e none-left;
               least = omega arith;
               most = omega (arith, r .two);
               frame = λ i why. refl;
-              root-none = own .is root root-below ∙ rw (eq-eqb (at ls root) (at ls root) refl);
+              root-none = own .is root root-below ∙ rw (eq-eqb (nth ls root) (nth ls root) refl);
             };
         unentered = λ x. absurd (not-both true refl x);
       }

@@ -17,7 +17,7 @@ use Rattle.instance.specs.Cuts.{Cut, cuts-from, cuts-in, values, No-entry}
 use Rattle.instance.specs.Matrix.{unmarked, Matrix-ok}
 use Rattle.instance.proofs.CutLaws.{cuts-length, cuts-begun}
 use Rattle.instance.proofs.MatrixLaws.{matrix-total-most}
-use Rattle.contraction.specs.Cells.{at, cost, Own-labels}
+use Rattle.contraction.specs.Cells.{nth, cost, Own-labels}
 use Rattle.contraction.specs.Groups.{Lowered}
 use Rattle.contraction.specs.Trees.{Each, Tree, Proper-cut}
 use Rattle.contraction.proofs.EachLaws.{each-append, tree-same}
@@ -87,15 +87,15 @@ module _ (ws₀ : List ℕ) (n root : ℕ) (ok : Matrix-ok n root ws₀) where
         proper-cuts : Each (Proper-cut n root) cs
         proper-cuts = subst (Each (Proper-cut n root)) joined (each-append (cuts-from k 0 cuts) (cuts-from (count - k) k cuts′) (b .proper-cuts) (so .solution th .proper-cuts))
 
-        same-parent : (q : ℕ) → q < n → parent (take n ps) q ≡ at ps q
+        same-parent : (q : ℕ) → q < n → parent (take n ps) q ≡ nth ps q
         same-parent q l = let small = ok .small in let z = places in getD-take n ps q no-parent l ∙ default ps q no-parent 0 (omega arith)
 
         tree : Tree n root (cost ws′) (λ q. q) cs (parent (take n ps))
         tree =
             let small = ok .small in
-            tree-same n root (cost ws′) (at ls) (λ q. q) (at ps) (parent (take n ps)) (ok .root-below) (λ q l. sym (own q (omega arith))) same-parent cs
-            (subst (λ (x : List Cut). Tree n root (cost ws′) (at ls) x (at ps)) joined
-            (b .lifts (cost ws′) (cuts-from (count - k) k cuts′) (at ps) (so .solution th .tree)))
+            tree-same n root (cost ws′) (nth ls) (λ q. q) (nth ps) (parent (take n ps)) (ok .root-below) (λ q l. sym (own q (omega arith))) same-parent cs
+            (subst (λ (x : List Cut). Tree n root (cost ws′) (nth ls) x (nth ps)) joined
+            (b .lifts (cost ws′) (cuts-from (count - k) k cuts′) (nth ps) (so .solution th .tree)))
 
         few : count ≤ cut-limit n
         few = all-few (ok .small) own (ok .root-below) b end le bound count (so .solution th .most)

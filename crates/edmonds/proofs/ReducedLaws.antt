@@ -15,7 +15,7 @@ use Rattle.instance.specs.Instance.{Instance, cell, weight, weight-at}
 use Rattle.instance.specs.Arborescence.{remaining}
 use Rattle.instance.specs.Cuts.{Cut, charged, reduced-cost}
 use Rattle.instance.specs.Matrix.{unmarked, Matrix-ok}
-use Rattle.contraction.specs.Cells.{at, cost}
+use Rattle.contraction.specs.Cells.{nth, cost}
 use Rattle.contraction.specs.Groups.{Lowered}
 use Rattle.contraction.specs.Trees.{Each, Proper-cut}
 use Rattle.contraction.proofs.Finish.{charged-self, charged-root}
@@ -68,7 +68,7 @@ module _ (ws₀ : List ℕ) (n root : ℕ) (ok : Matrix-ok n root ws₀) where
         tabulate-is cells ws′ (λ i. cond (remaining s (i / 32) (i % 32)) (reduced-cost s cs (i / 32) (i % 32)) (weight-at s i)) 0 size′
         (λ i l.
         let e : cell (i / 32) (i % 32) ≡ i = omega arith in
-        subst (λ (j : ℕ). at ws′ j ≡ cond (remaining s (i / 32) (i % 32)) (reduced-cost s cs (i / 32) (i % 32)) (weight-at s j)) e
+        subst (λ (j : ℕ). nth ws′ j ≡ cond (remaining s (i / 32) (i % 32)) (reduced-cost s cs (i / 32) (i % 32)) (weight-at s j)) e
         (one-cell (i / 32) (i % 32) (omega arith) (omega arith)))
 
 -- READ OFF

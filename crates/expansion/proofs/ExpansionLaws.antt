@@ -3,11 +3,11 @@ use mathlib.Core.List.{List}
 use Prim.Native.Nat.{ℕ, _≤_, _<_}
 use native.Mathlib.Omega.{arith}
 use borrow.Author.Tests.{leb-true}
-use Rattle.contraction.specs.Cells.{at}
+use Rattle.contraction.specs.Cells.{nth}
 use Rattle.expansion.specs.Expansion.{Cycle-entry}
 
-pub no-parent-there : {ps ls stamp : List ℕ} {n v u : ℕ} → Cycle-entry ls stamp ps n v u → n ≤ at ps u → ⊥
+pub no-parent-there : {ps ls stamp : List ℕ} {n v u : ℕ} → Cycle-entry ls stamp ps n v u → n ≤ nth ps u → ⊥
 no-parent-there e l = omega (arith, e .has)
 
-pub off-cycle : {ps ls stamp : List ℕ} {n v u : ℕ} → Cycle-entry ls stamp ps n v u → at stamp (at ls u) < at stamp v → ⊥
-off-cycle {ls = ls} {stamp = stamp} {v = v} {u = u} e l = omega (arith, leb-true (at stamp v) (at stamp (at ls u)) (e .on))
+pub off-cycle : {ps ls stamp : List ℕ} {n v u : ℕ} → Cycle-entry ls stamp ps n v u → nth stamp (nth ls u) < nth stamp v → ⊥
+off-cycle {ls = ls} {stamp = stamp} {v = v} {u = u} e l = omega (arith, leb-true (nth stamp v) (nth stamp (nth ls u)) (e .on))

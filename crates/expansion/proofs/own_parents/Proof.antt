@@ -7,13 +7,13 @@ use lib.ListN.{getD-replicate}
 use borrow.Author.Tests.{eq-eqb, ne-eqb}
 use Rattle.instance.specs.Limits.{max-vertices, no-parent}
 use Rattle.contraction.specs.Groups.{own-arcs}
-use Rattle.contraction.specs.Cells.{at}
+use Rattle.contraction.specs.Cells.{nth}
 use Rattle.base.proofs.OverwriteLaws.{Overwritten, overwrite-none, overwrite-store, overwrite-pass}
 use Rattle.expansion.proofs.own_parents.Statement.{statement}
 use Rattle.expansion.proofs.own_parents.Tie as tie
 
 abbrev Inv-loop : tie.InvT-loop
-Inv-loop label tails heads n r top out₀ v₀ out v = (v ≤ n) × Overwritten max-vertices out₀ out (own-arcs r (at label) (at tails) (at heads)) v
+Inv-loop label tails heads n r top out₀ v₀ out v = (v ≤ n) × Overwritten max-vertices out₀ out (own-arcs r (nth label) (nth tails) (nth heads)) v
 
 abbrev μ-loop : tie.MeasureT-loop
 μ-loop label tails heads n r top out₀ v₀ out v = n - v

@@ -5,7 +5,7 @@ use native.Mathlib.Omega.{arith}
 use borrow.Author.Tests.{le-leb, lt-leb, eq-eqb, ne-eqb}
 use Rattle.instance.specs.Limits.{max-vertices}
 use Rattle.contraction.specs.Groups.{expanded}
-use Rattle.contraction.specs.Cells.{at as place}
+use Rattle.contraction.specs.Cells.{nth as place}
 use Rattle.contraction.specs.Search.{on-cycle}
 use Rattle.base.proofs.OverwriteLaws.{Overwritten, overwrite-none, overwrite-store, overwrite-pass}
 use Rattle.expansion.proofs.take_arcs.Statement.{statement}

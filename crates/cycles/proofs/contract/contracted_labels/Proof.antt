@@ -6,7 +6,7 @@ use native.Mathlib.Omega.{arith}
 use borrow.Author.Tests.{le-leb, lt-leb}
 use Rattle.instance.specs.Limits.{max-vertices}
 use Rattle.contraction.specs.Groups.{contracted}
-use Rattle.contraction.specs.Cells.{at as place}
+use Rattle.contraction.specs.Cells.{nth as place}
 use Rattle.contraction.specs.Search.{on-cycle}
 use Rattle.base.proofs.OverwriteLaws.{Overwritten, overwrite-none, overwrite-store}
 use Rattle.cycles.proofs.contract.contracted_labels.Statement.{statement}
