@@ -3,47 +3,16 @@ ghost use mathlib.Core.Path.{_≡_};
 ghost use Prim.Native.Nat.{_≤_};
 ghost use Rattle.instance.specs.Limits.{max-vertices};
 ghost use Rattle.card_format.specs.Card.{bytes-needed};
-use instance::limits::MAX_VERTICES;
+use crate::widths::CELL_WIDTH;
+use crate::widths::HEADER_WIDTH;
 
-// "The needed lengths for 1 to 32 positions are held as a table".
-const LENGTHS: [usize; MAX_VERTICES as usize] = [
-    5,
-    8,
-    16,
-    30,
-    49,
-    74,
-    104,
-    140,
-    181,
-    228,
-    280,
-    338,
-    401,
-    470,
-    544,
-    624,
-    709,
-    800,
-    896,
-    998,
-    1105,
-    1218,
-    1336,
-    1460,
-    1589,
-    1724,
-    1864,
-    2010,
-    2161,
-    2318,
-    2480,
-    2648,
-];
-
+// "36 + 22 times (n − 1) squared bits", in whole bytes. Document 01 has these lengths "held as a table"; document 02,
+// A4, amends it: "The 32 card lengths are to be worked out by arithmetic and the table dropped."
 pub fn needed_length(n: u32) -> usize
     requires { ⌜ (1 ≤ n) × (n ≤ max-vertices) ⌝ }
     ensures { λ r. ⌜ r ≡ bytes-needed n ⌝ }
 {
-    LENGTHS[(n - 1) as usize]
+    let others = (n - 1) as usize;
+    let bits = HEADER_WIDTH + CELL_WIDTH * (others * others);
+    (bits + 7) / 8
 }
