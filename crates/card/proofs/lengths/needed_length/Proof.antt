@@ -1,5 +1,5 @@
--- `needed_length` meets its contract: it computes as the definition does, and nothing overflows, since a card's bits are
--- at most those of the longest card. Assumes nothing.
+-- `needed_length` meets its contract: it computes as the definition does, and nothing overflows, since a card's bits
+-- are at most those of the longest card. Assumes nothing.
 use native.Mathlib.Omega.{arith}
 use borrow.Author.Needs.{needs}
 use Rattle.card_format.specs.Card.{bits-needed, bytes-needed}
