@@ -8,6 +8,8 @@ use std::process::{Command, Stdio};
 use std::time::Instant;
 
 const NONE: u32 = 1_048_575;
+const MAX_WEIGHT: u64 = 1_048_574;
+const MAX_BUDGET: u32 = 32_505_794;
 
 const CARD: &str = "target/bench/card";
 
@@ -33,7 +35,7 @@ struct Instance {
 
 impl Instance {
     fn new(n: usize, root: usize) -> Instance {
-        Instance { n, root, budget: 31_000_000, weight: vec![NONE; n * n], mark: vec![0; n * n] }
+        Instance { n, root, budget: MAX_BUDGET, weight: vec![NONE; n * n], mark: vec![0; n * n] }
     }
 
     fn fill(mut self, mut weight: impl FnMut(usize, usize) -> u32) -> Instance {
@@ -68,11 +70,11 @@ impl Instance {
 
 fn dense(r: &mut Random, n: usize) -> Instance {
     let root = r.below(n as u64) as usize;
-    Instance::new(n, root).fill(|_, _| r.below(1_000_001) as u32)
+    Instance::new(n, root).fill(|_, _| r.below(MAX_WEIGHT + 1) as u32)
 }
 
 fn equal(r: &mut Random, n: usize) -> Instance {
-    let w = r.below(1_000_001) as u32;
+    let w = r.below(MAX_WEIGHT + 1) as u32;
     Instance::new(n, 0).fill(|_, _| w)
 }
 
@@ -81,7 +83,7 @@ fn few(r: &mut Random, n: usize) -> Instance {
 }
 
 fn sparse(r: &mut Random, n: usize) -> Instance {
-    Instance::new(n, 0).fill(|t, h| if t + 1 == h || r.below(8) == 0 { r.below(1_000_001) as u32 } else { NONE })
+    Instance::new(n, 0).fill(|t, h| if t + 1 == h || r.below(8) == 0 { r.below(MAX_WEIGHT + 1) as u32 } else { NONE })
 }
 
 // Every contraction takes in one vertex more: v + 1 is cheapest from within {1 .. v}, and {1 .. v} cheapest from v + 1.
@@ -200,8 +202,8 @@ fn with_budget(mut instance: Instance, budget: &str, base: &str) -> Instance {
     if let Some(v) = cheapest(&run(base, CARD)) {
         instance.budget = match budget {
             "tight" => v,
-            "middling" => (v + v / 10).min(31_000_000),
-            _ => 31_000_000,
+            "middling" => (v + v / 10).min(MAX_BUDGET),
+            _ => MAX_BUDGET,
         };
     }
     instance

@@ -4,6 +4,8 @@ import os
 import random
 
 NO_ARC = 1048575
+MAX_WEIGHT = 1048574
+MAX_BUDGET = 32505794
 FREE, PINNED, BANNED = 0, 1, 2
 
 Q = {(0, 1): 10, (0, 2): 10, (0, 3): 8, (1, 2): 1, (1, 3): 4, (2, 1): 2, (2, 3): 9, (3, 1): 7}
@@ -39,6 +41,21 @@ def hall():
     return weights
 
 
+def heads():
+    """A console, two dimmer racks and five moving heads: to feed a head costs more than 10,000 pounds, whether from a
+    rack or from another head, and from the console as much as a link can."""
+    draw = random.Random(9)
+    weights = {(0, rack): 85000 + 500 * rack for rack in (1, 2)}
+    for head in range(3, 8):
+        for rack in (1, 2):
+            weights[rack, head] = draw.randrange(1000001, 1030000)
+        weights[0, head] = MAX_WEIGHT
+        for tail in range(3, 8):
+            if tail != head:
+                weights[tail, head] = draw.randrange(1000001, 1040000)
+    return weights
+
+
 def write(name, data):
     with open(os.path.join(os.path.dirname(os.path.abspath(__file__)), name + ".card"), "wb") as file:
         file.write(data)
@@ -54,3 +71,5 @@ write("p8", card(1, 0, 0, {}))
 write("p9", card(2, 0, 5, {(0, 1): 5}))
 write("p10", card(2, 0, 4, {(0, 1): 5}))
 write("hall", card(32, 0, 28500, hall(), {(8, 27): PINNED, (18, 20): BANNED}))
+write("heads", card(8, 0, 5210000, heads()))
+write("dearest", card(32, 0, MAX_BUDGET, {(tail, head): MAX_WEIGHT for tail in range(32) for head in range(32)}))

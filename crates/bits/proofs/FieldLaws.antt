@@ -8,7 +8,7 @@ use native.Mathlib.Omega.{arith}
 use native.Mathlib.Nat.{suc-mul, zero-mul}
 use lib.Dec.{ltb, eqb}
 use lib.Pow.{pow-pos, pow-mono, high, low}
-use lib.ListN.{length, getD, take, drop, length-drop, take-append-drop}
+use lib.ListN.{length, getD, take, drop, length-take, length-drop, take-append-drop}
 use lib.Seq.{take-at, drop-at, take-add, take-all, drop-drop}
 use borrow.Author.Tests.{ne-eqb}
 use Rattle.base.specs.Lists.{all-of}
@@ -27,10 +27,13 @@ pub field-drop : (d a k : ℕ) (bs : List ℕ) → field a k (drop d bs) ≡ fie
 unfolding field
 field-drop d a k bs = rw (drop-drop a d bs)
 
-pub field-below : (a k : ℕ) (bs : List ℕ) → are-bits bs ≡ true → a + k ≤ length bs → field a k bs < 2 ^ k
+-- of a field that runs past the end there are fewer bits, so it is below all the more
+pub field-below : (a k : ℕ) (bs : List ℕ) → are-bits bs ≡ true → field a k bs < 2 ^ k
 unfolding field
-field-below a k bs e h =
-    rw (length-part a k bs h) at (number-below (take k (drop a bs)) (all-of-take (λ b. ltb b 2) k (drop a bs) (all-of-drop (λ b. ltb b 2) a bs e)))
+field-below a k bs e =
+    let n = number-below (take k (drop a bs)) (all-of-take (λ b. ltb b 2) k (drop a bs) (all-of-drop (λ b. ltb b 2) a bs e)) in
+    let l : length (take k (drop a bs)) ≤ k = omega (arith, length-take k (drop a bs)) in
+    omega (arith, n, pow-mono l)
 
 -- a field as two
 pub field-add : (a j k : ℕ) (bs : List ℕ) → a + j + k ≤ length bs → field a (j + k) bs ≡ field a j bs * 2 ^ k + field (a + j) k bs
@@ -44,8 +47,8 @@ pub field-within : (a j k t : ℕ) (bs : List ℕ) → are-bits bs ≡ true → 
 field-within a j k t bs e h =
     let s : a + (j + k) ≡ a + j + k = omega arith in
     let l : a + (j + k) + t ≤ length bs = omega arith in
-    let b : field (a + j + k) t bs < 2 ^ t = field-below (a + j + k) t bs e h in
-    let c : field (a + j) k bs < 2 ^ k = field-below (a + j) k bs e (omega arith) in
+    let b : field (a + j + k) t bs < 2 ^ t = field-below (a + j + k) t bs e in
+    let c : field (a + j) k bs < 2 ^ k = field-below (a + j) k bs e in
     rw (field-add a (j + k) t bs l, s, high (field a (j + k) bs) t b, field-add a j k bs (omega arith), low (field a j bs) k c)
 
 -- THERE AND BACK
@@ -81,10 +84,10 @@ bytes-more ws i k h =
     let s : 8 * i + 8 * k ≡ 8 * (i + k) = omega arith in
     rw (e, field-add (8 * i) (8 * k) 8 (bits-in ws) (rw (length-bits-in ws) (omega arith)), s, byte-field ws (i + k) h)
 
-pub bytes-below : (ws : List ℕ) (i k m : ℕ) → i + k ≤ length ws → k ≤ m → field (8 * i) (8 * k) (bits-in ws) < 2 ^ (8 * m)
-bytes-below ws i k m h l =
+pub bytes-below : (ws : List ℕ) (i k m : ℕ) → k ≤ m → field (8 * i) (8 * k) (bits-in ws) < 2 ^ (8 * m)
+bytes-below ws i k m l =
     let p : 8 * k ≤ 8 * m = omega arith in
-    omega (arith, field-below (8 * i) (8 * k) (bits-in ws) (bits-in-are-bits ws) (rw (length-bits-in ws) (omega arith)), pow-mono p)
+    omega (arith, field-below (8 * i) (8 * k) (bits-in ws) (bits-in-are-bits ws), pow-mono p)
 
 -- a field is within the bytes that it lies in
 pub field-in-bytes : (ws : List ℕ) (a k count : ℕ) → a + k ≤ 8 * length ws → count ≡ (a % 8 + k + 7) / 8 →

@@ -9,5 +9,6 @@ pub mod CardAgain
 pub mod InstanceAgain
 pub mod SameCard
 pub mod TooLong
+pub mod SixRetired
 pub mod WorkedCards
 pub mod WorkedRefusals

@@ -22,7 +22,6 @@ use Rattle.card_format.specs.Widths.{weight-width, mark-width}
 use Rattle.card_format.specs.Card.{on-card, bits-needed, bytes-needed, min-card, weights-in, marks-in, instance-in, cell-refusal, cells-refusal, header-refusal, card-refusal}
 use Rattle.card_format.specs.Offsets.{offset, cell-field, weight-field, mark-field}
 use Rattle.card_format.proofs.LengthLaws.{length-known}
-use Rattle.card_format.proofs.OffsetLaws.{offset-within}
 use Rattle.card_format.proofs.CellLaws.{fields-by-index, length-fields, field-at, first-passes, each-passes, passes-ok, cells-refusal-most}
 use Rattle.card_format.proofs.HeaderLaws.{n-of, root-of, budget-of, Header-known, header-known, header-first}
 
@@ -90,11 +89,9 @@ module _ (ws : List ℕ) where
 
 -- VALID
 module _ (ws : List ℕ) (o : Opens ws) where
-  mark-small : (i : ℕ) → i < cells → on-card (n-of ws) (root-of ws) i ≡ true → mark-field (n-of ws) (root-of ws) (bits-in ws) i < 2 ^ mark-width
+  mark-small : (i : ℕ) → on-card (n-of ws) (root-of ws) i ≡ true → mark-field (n-of ws) (root-of ws) (bits-in ws) i < 2 ^ mark-width
   unfolding cell-field
-  mark-small i h q =
-      let w = offset-within (n-of ws) (root-of ws) i cells h q in
-      rw q (field-below (offset (n-of ws) (root-of ws) i + weight-width) mark-width (bits-in ws) (bits-in-are-bits ws) (omega (arith, o .long-enough, o .header .end)))
+  mark-small i q = rw q (field-below (offset (n-of ws) (root-of ws) i + weight-width) mark-width (bits-in ws) (bits-in-are-bits ws))
 
   cell-passes : (i : ℕ) → i < cells → cell-refusal (weight-field (n-of ws) (root-of ws) (bits-in ws) i) (mark-field (n-of ws) (root-of ws) (bits-in ws) i) ≡ 0
   unfolding tabulate
@@ -106,7 +103,7 @@ module _ (ws : List ℕ) (o : Opens ws) where
 
   cell-is-valid : (i : ℕ) → i < cells → (t : Bool) → on-card (n-of ws) (root-of ws) i ≡ t →
       cond t (cell-ok (weight-at (instance-in ws) i) (mark-at (instance-in ws) i)) true ≡ true
-  cell-is-valid i h true q = rw (weight-in ws i h, mark-in ws i h) (passes-ok _ _ (mark-small i h q) (cell-passes i h))
+  cell-is-valid i h true q = rw (weight-in ws i h, mark-in ws i h) (passes-ok _ _ (mark-small i q) (cell-passes i h))
   cell-is-valid i h false q = refl
 
   cells-are-valid : (i : ℕ) → i < cells → cell-valid (instance-in ws) i ≡ true

@@ -69,7 +69,9 @@ instance-in ws =
 abbrev pub unused-mark : ℕ
 unused-mark = 3
 
--- 6: "price field 1,000,001 to 1,048,574"; 7: "mark 3, or a mark other than 0 on no link"; "6 before 7 within it"
+-- 6: a price field above the limit that is not no link; 7: "mark 3, or a mark other than 0 on no link"; "6 before 7
+-- within it". 02, A9: "6 is retired". The 6 is kept for numbers that no price field holds, so that the law
+-- `six-retired` (proofs/SixRetired.antt) says something.
 unfoldable pub cell-refusal : (weight mark : ℕ) → ℕ
 cell-refusal w m =
     cond (leb w max-weight) (cond (eqb m unused-mark) bad-mark 0) (cond (eqb w no-arc) (cond (eqb m free) 0 bad-mark) bad-weight)

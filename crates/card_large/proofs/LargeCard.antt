@@ -7,7 +7,7 @@ use Rattle.instance.specs.Limits.{max-vertices, max-weight, max-budget, free, c
 use Rattle.instance.specs.Instance.{Instance, can-be-arc}
 use Rattle.card_format.specs.Card.{on-card, bits-needed, bytes-needed, cell-fields, instance-in, cell-refusal, cells-refusal, header-refusal, card-refusal, cell-bits, instance-bits, card-of}
 
--- 32 vertices, root 31, every arc of weight 1,000,000 and free
+-- 32 vertices, root 31, every arc of the dearest weight and free
 unfoldable pub large : Instance
 large = record { n = max-vertices; root = 31; budget = max-budget; weights = replicate cells max-weight; marks = replicate cells free }
 

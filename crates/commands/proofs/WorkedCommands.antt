@@ -37,7 +37,7 @@ abbrev model : (root budget weight mark : ℕ) → List Replaced → Model
 model r b w m rs = record { instance = instance-from 3 r b (arc 0 2 4 ∷ arc 2 0 w ∷ arc 0 1 2000000 ∷ []) (arc 2 0 m ∷ arc 1 1 7 ∷ []); history = rs }
 
 abbrev with-history : List Replaced → Model
-with-history rs = model 1 5 1000000 banned rs
+with-history rs = model 1 5 1048574 banned rs
 
 abbrev good : Model → Board-case
 good b = record { of = b; answer = 9 }
@@ -50,14 +50,14 @@ unfoldable pub models : List Board-case
 models =
     good (with-history [])
     -- "a field outside the ranges above, a mark other than 0 on no link"
-    ∷ bad (model 3 5 1000000 banned [])
-    ∷ bad (model 1 31000001 1000000 banned [])
-    ∷ bad (model 1 5 1000001 banned [])
-    ∷ bad (model 1 5 1000000 3 [])
+    ∷ bad (model 3 5 1048574 banned [])
+    ∷ bad (model 1 32505795 1048574 banned [])
+    ∷ bad (model 1 5 1048576 banned [])
+    ∷ bad (model 1 5 1048574 3 [])
     ∷ bad (model 1 5 1048575 banned [])
     -- "more than 200 recorded"
-    ∷ good (with-history (replicate 200 (old-budget 31000000)))
-    ∷ bad (with-history (replicate 201 (old-budget 31000000)))
+    ∷ good (with-history (replicate 200 (old-budget 32505794)))
+    ∷ bad (with-history (replicate 201 (old-budget 32505794)))
     -- "a record naming no link": no arc, into the root, from a vertex to itself, a vertex that is not below n
     ∷ good (with-history (old-mark 0 2 banned ∷ []))
     ∷ bad (with-history (old-mark 1 2 0 ∷ []))
@@ -66,7 +66,7 @@ models =
     ∷ bad (with-history (old-mark 3 2 0 ∷ []))
     -- ".. or restoring a value out of range", in an earlier record too
     ∷ bad (with-history (old-mark 0 2 3 ∷ []))
-    ∷ bad (with-history (old-budget 31000001 ∷ []))
+    ∷ bad (with-history (old-budget 32505795 ∷ []))
     ∷ bad (with-history (old-budget 5 ∷ old-mark 0 2 3 ∷ []))
     ∷ []
 
@@ -120,15 +120,15 @@ runs =
     -- two budgets, and the second taken back
     ∷ record {
       from = instance-q 16 [];
-      commands = set-budget 31000000 ∷ set-budget 15 ∷ undo ∷ [];
-      leaves = record { answers = 0 ∷ 0 ∷ 0 ∷ []; marks = replicate 16 0; budget = 31000000 };
+      commands = set-budget 32505794 ∷ set-budget 15 ∷ undo ∷ [];
+      leaves = record { answers = 0 ∷ 0 ∷ 0 ∷ []; marks = replicate 16 0; budget = 32505794 };
     }
     -- each refusal, then marks that stay; 196 more make 200, of which the last is taken back and its room used again
     ∷ record {
       from = instance-q 16 [];
       commands =
-          undo ∷ pin 4 1 ∷ ban 1 4 ∷ clear 4 4 ∷ pin 3 2 ∷ ban 1 0 ∷ clear 2 2 ∷ set-budget 31000001 ∷ ban 0 1 ∷ pin 2 1 ∷ clear 0 1 ∷ ban 2 3
-          ∷ (replicate 196 (pin 1 2) ++ (pin 1 2 ∷ clear 3 2 ∷ ban 4 1 ∷ set-budget 31000001 ∷ set-budget 3 ∷ undo ∷ set-budget 3 ∷ ban 0 1 ∷ []));
+          undo ∷ pin 4 1 ∷ ban 1 4 ∷ clear 4 4 ∷ pin 3 2 ∷ ban 1 0 ∷ clear 2 2 ∷ set-budget 32505795 ∷ ban 0 1 ∷ pin 2 1 ∷ clear 0 1 ∷ ban 2 3
+          ∷ (replicate 196 (pin 1 2) ++ (pin 1 2 ∷ clear 3 2 ∷ ban 4 1 ∷ set-budget 32505795 ∷ set-budget 3 ∷ undo ∷ set-budget 3 ∷ ban 0 1 ∷ []));
       leaves =
           record {
             answers =

@@ -57,7 +57,7 @@ unfoldable pub note-mark : (mark : Mark) → (tail head : ℕ) → Log → Noted
 note-mark m t h k =
     note-arcs (not (ltb t (k .card .n) && ltb h (k .card .n))) (not (is-arc (k .card) t h)) (leb max-records (log-length k)) (entry-mark m t h) k
 
--- "refused with 11 if above 31,000,000, else with 12 if 200 stand"
+-- "refused with 11 if above 31,000,000, else with 12 if 200 stand"; 02, A9: "11 .. use the new limits"
 unfoldable pub note-budget : (budget : ℕ) → Log → Noted
 note-budget v k =
     cond (ltb max-budget v) (unnoted bad-budget k)

@@ -13,10 +13,11 @@ use lib.ListN.{length}
 use borrow.Author.Tests.{ne-eqb, eqb-true}
 use Rattle.base.proofs.BoolLaws.{or-right}
 use Rattle.base.specs.Lists.{any-of}
-use Rattle.instance.specs.Refusals.{card-short, bad-count, bad-length, bad-root, bad-card-budget, bad-weight, bad-mark, bad-filling, buffer-short, invalid-board}
+use Rattle.instance.specs.Refusals.{card-short, bad-count, bad-length, bad-root, bad-card-budget, bad-mark, bad-filling, buffer-short, invalid-board}
 use Rattle.instance.specs.Instance.{Instance}
 use Rattle.card_format.specs.Card.{card-refusal}
 use Rattle.card_format.proofs.OpensLaws.{card-refusal-most}
+use Rattle.card_format.proofs.SixRetired.{six-retired}
 use Rattle.card.specs.declared.write.Written.{Written}
 use Rattle.commands.specs.Valid.{valid}
 use Rattle.commands.specs.Commands.{Command, command-numbers}
@@ -51,9 +52,10 @@ pub data Given : ℕ → Type 0 where
   by-reporting : {ws : List ℕ} {r : Reported} {out out′ : List ℕ} → Reported-by ws out out′ r → Given (r .answer)
   by-replaying : {ws ks fs gs : List ℕ} {v : View} {xs xs′ : List ℕ} {old new : Buffers} → Replayed ws ks fs gs xs xs′ old new v → Given (answer-of v)
 
--- THE NUMBERS OF EACH CALL, 0 for accepted: "Cards: 1 to 5 in that order; then .. 6 before 7 ..; then 8."
+-- THE NUMBERS OF EACH CALL, 0 for accepted: "Cards: 1 to 5 in that order; then the first faulty cell ..; then 8." Of a
+-- cell it is 7: "6 is retired" (02, A9).
 abbrev pub card-numbers : List ℕ
-card-numbers = 0 ∷ card-short ∷ bad-count ∷ bad-length ∷ bad-root ∷ bad-card-budget ∷ bad-weight ∷ bad-mark ∷ bad-filling ∷ []
+card-numbers = 0 ∷ card-short ∷ bad-count ∷ bad-length ∷ bad-root ∷ bad-card-budget ∷ bad-mark ∷ bad-filling ∷ []
 
 -- "14 for looks and writes"
 abbrev pub buffer-numbers : List ℕ
@@ -99,18 +101,21 @@ pub record Demand-1 {a : ℕ} (g : Given a) : Type 0 where
   pub leaves-valid : a ≡ 0 → Leaves-valid g
 
 -- CARDS
-card-among : (a : ℕ) → a ≤ bad-filling → among a card-numbers ≡ true
+listed : (a : ℕ) → a ≤ bad-filling → (a ≡ 6 → ⊥) → among a card-numbers ≡ true
 unfolding any-of
-card-among zero h = refl
-card-among (suc zero) h = refl
-card-among (suc (suc zero)) h = refl
-card-among (suc (suc (suc zero))) h = refl
-card-among (suc (suc (suc (suc zero)))) h = refl
-card-among (suc (suc (suc (suc (suc zero))))) h = refl
-card-among (suc (suc (suc (suc (suc (suc zero)))))) h = refl
-card-among (suc (suc (suc (suc (suc (suc (suc zero))))))) h = refl
-card-among (suc (suc (suc (suc (suc (suc (suc (suc zero)))))))) h = refl
-card-among (suc (suc (suc (suc (suc (suc (suc (suc (suc a))))))))) h = absurd (omega arith)
+listed zero h n = refl
+listed (suc zero) h n = refl
+listed (suc (suc zero)) h n = refl
+listed (suc (suc (suc zero))) h n = refl
+listed (suc (suc (suc (suc zero)))) h n = refl
+listed (suc (suc (suc (suc (suc zero))))) h n = refl
+listed (suc (suc (suc (suc (suc (suc zero)))))) h n = absurd (n refl)
+listed (suc (suc (suc (suc (suc (suc (suc zero))))))) h n = refl
+listed (suc (suc (suc (suc (suc (suc (suc (suc zero)))))))) h n = refl
+listed (suc (suc (suc (suc (suc (suc (suc (suc (suc a))))))))) h n = absurd (omega arith)
+
+card-among : (ws : List ℕ) → among (card-refusal ws) card-numbers ≡ true
+card-among ws = listed (card-refusal ws) (card-refusal-most ws) (six-retired ws)
 
 opened-as-before : (ws : List ℕ) (o : Answered) → o ≡ opened-from ws → (o .answer ≡ 0 → ⊥) → o .board ≡ blank
 unfolding opened-from
@@ -165,7 +170,7 @@ module _ (ws : List ℕ) (r : Reported) (out out′ : List ℕ) where
   unfolding Reports-by any-of
   reports-among true u x = rw (ap (λ (y : Reported). y .answer) (x .result))
   reports-among false false x =
-      rw (x .answer) (or-right (eqb (card-refusal ws) buffer-short) (among (card-refusal ws) card-numbers) (card-among (card-refusal ws) (card-refusal-most ws)))
+      rw (x .answer) (or-right (eqb (card-refusal ws) buffer-short) (among (card-refusal ws) card-numbers) (card-among ws))
   reports-among false true x = rw (x .answer)
 
   reports-before : (t u : Bool) → Reports-by t u ws out out′ r → (r .answer ≡ 0 → ⊥) → Reports-before out out′ r
@@ -186,9 +191,9 @@ module _ (ws : List ℕ) (r : Reported) (out out′ : List ℕ) where
 
 -- REPLAYS
 module _ (cs : List Call) (k : Log) (v : View) (xs xs′ : List ℕ) (old new : Buffers) where
-  replays-among : (a : ℕ) (t : Bool) → a ≤ bad-filling → Replays-at a t cs k xs xs′ old new v → among (answer-of v) (buffer-short ∷ card-numbers) ≡ true
+  replays-among : (a : ℕ) (t : Bool) → among a card-numbers ≡ true → Replays-at a t cs k xs xs′ old new v → among (answer-of v) (buffer-short ∷ card-numbers) ≡ true
   unfolding Replays-at any-of
-  replays-among (suc a) t l r = rw (ap answer-of (r .1 .result)) (or-right (eqb (suc a) buffer-short) (among (suc a) card-numbers) (card-among (suc a) l))
+  replays-among (suc a) t l r = rw (ap answer-of (r .1 .result)) (or-right (eqb (suc a) buffer-short) (among (suc a) card-numbers) l)
   replays-among zero true l r = rw (ap answer-of (r .1 .result))
   replays-among zero false l r = rw (shown-answer _ v old new (r .1))
 
@@ -209,7 +214,7 @@ unfolding Looks Reports Replays
 demand-1 (by-opening {ws = ws} {o = o} p) =
     let e = opened-answer ws o (opened-by p) in
     record {
-      own-number = rw e (card-among (card-refusal ws) (card-refusal-most ws));
+      own-number = rw e (card-among ws);
       as-before = opened-as-before ws o (opened-by p);
       leaves-valid = λ z. opened-starts ws o (opened-by p) (sym e ∙ z) .good;
     }
@@ -249,7 +254,7 @@ demand-1 (by-reporting {ws = ws} {r = r} {out = out} {out′ = out′} p) =
 demand-1 (by-replaying {ws = ws} {v = v} {xs = xs} {xs′ = xs′} {old = old} {new = new} p) =
     let r = replayed p in
     record {
-      own-number = replays-among _ _ v xs xs′ old new (card-refusal ws) _ (card-refusal-most ws) r;
+      own-number = replays-among _ _ v xs xs′ old new (card-refusal ws) _ (card-among ws) r;
       as-before = replays-as-before _ _ v xs xs′ old new (card-refusal ws) _ r;
       leaves-valid = replays-opened _ _ v xs xs′ old new (card-refusal ws) _ r;
     }

@@ -31,21 +31,22 @@ instances =
     ∷ judged (record { n = 33; root = 31; budget = 0; weights = []; marks = [] }) false
     ∷ judged (instance-from 2 1 0 [] []) true
     ∷ judged (instance-from 2 2 0 [] []) false
-    -- "Budgets are 0 to 31,000,000"
-    ∷ judged (instance-from 1 0 31000000 [] []) true
-    ∷ judged (instance-from 1 0 31000001 [] []) false
-    -- "Prices are 0 to 1,000,000 pence; 1,048,575 means no link."
+    -- "budgets to 32,505,794" (02, A9)
+    ∷ judged (instance-from 1 0 32505794 [] []) true
+    ∷ judged (instance-from 1 0 32505795 [] []) false
+    -- "Prices go up to 1,048,574 pence" (02, A9); "1,048,575 means no link."
     ∷ judged (one-arc 0 free) true
-    ∷ judged (one-arc 1000000 banned) true
-    ∷ judged (one-arc 1000001 free) false
-    ∷ judged (one-arc 1048574 free) false
+    ∷ judged (one-arc 1000001 pinned) true
+    ∷ judged (one-arc 1048574 banned) true
     ∷ judged (one-arc 1048575 free) true
+    ∷ judged (one-arc 1048576 free) false
     -- "0 free, 1 pinned, 2 banned", and "a mark other than 0 on no link"
     ∷ judged (one-arc 5 3) false
+    ∷ judged (one-arc 1048574 3) false
     ∷ judged (one-arc no-arc pinned) false
     ∷ judged (one-arc no-arc banned) false
     -- "cells that can never be a link": from a vertex to itself, into the root, outside the instance
-    ∷ judged (instance-from 2 0 5 (arc 1 1 1000001 ∷ arc 1 0 2000000 ∷ arc 0 2 1048574 ∷ []) (arc 1 1 3 ∷ arc 1 0 4 ∷ arc 2 1 9 ∷ [])) true
+    ∷ judged (instance-from 2 0 5 (arc 1 1 1048576 ∷ arc 1 0 2000000 ∷ arc 0 2 4294967295 ∷ []) (arc 1 1 3 ∷ arc 1 0 4 ∷ arc 2 1 9 ∷ [])) true
     -- the last arc of all: 31→30
     ∷ judged (instance-from 32 31 0 [] (arc 31 30 pinned ∷ [])) false
     ∷ []

@@ -1,21 +1,21 @@
--- The numbers of document 01, each under one name. Assumes nothing: these are definitions.
+-- The numbers of document 01 as document 02 amends them, each under one name. Assumes nothing: these are definitions.
 use Prim.Native.Nat.{ℕ, _*_, _-_}
 
 -- "1 to 32 positions"
 abbrev pub max-vertices : ℕ
 max-vertices = 32
 
--- "Prices are 0 to 1,000,000 pence"
+-- "Prices are 0 to 1,000,000 pence"; 02, A9, amends it: "Prices go up to 1,048,574 pence"
 abbrev pub max-weight : ℕ
-max-weight = 1000000
+max-weight = 1048574
 
 -- "1,048,575 means no link"
 abbrev pub no-arc : ℕ
 no-arc = 1048575
 
--- "Budgets are 0 to 31,000,000"
+-- "Budgets are 0 to 31,000,000"; 02, A9, amends it: "and budgets to 32,505,794, which is 31 times that"
 abbrev pub max-budget : ℕ
-max-budget = 31000000
+max-budget = 32505794
 
 -- "0 free, 1 pinned, 2 banned"
 abbrev pub free : ℕ

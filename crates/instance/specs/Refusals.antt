@@ -1,5 +1,5 @@
--- The refusals of document 01, each under one name with its sentence; 0 is accepted. Assumes nothing: these are
--- definitions.
+-- The refusals of document 01, each under one name with its sentence; 0 is accepted. 02, A9, amends four of these: "6
+-- is retired; 5, 11, 15, 19 and 27 use the new limits" (instance/Limits). Assumes nothing: these are definitions.
 use Prim.Native.Nat.{ℕ}
 
 -- a card that is refused with one of these gives "no board"
@@ -24,7 +24,8 @@ bad-root = 4
 abbrev pub bad-card-budget : ℕ
 bad-card-budget = 5
 
--- "price field 1,000,001 to 1,048,574"
+-- "price field 1,000,001 to 1,048,574", which is now from 1,048,575 to 1,048,574: no card has one, and this number is
+-- never returned (`six-retired` in card_format, `six-never-given` in demands)
 abbrev pub bad-weight : ℕ
 bad-weight = 6
 

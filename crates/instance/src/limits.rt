@@ -1,16 +1,16 @@
-// The numbers of document 01, as the program has them; specs/Limits.antt has them for the contracts.
+// The numbers of documents 01 and 02, as the program has them; specs/Limits.antt has them for the contracts.
 
 pub const MAX_VERTICES: u32 = 32;
 
 // A place for each vertex in an array.
 pub const VERTICES: usize = MAX_VERTICES as usize;
 
-pub const MAX_WEIGHT: u32 = 1_000_000;
+pub const MAX_WEIGHT: u32 = 1_048_574;
 
 // A weight that means that there is no arc.
 pub const NO_ARC: u32 = 1_048_575;
 
-pub const MAX_BUDGET: u32 = 31_000_000;
+pub const MAX_BUDGET: u32 = 32_505_794;
 
 pub const FREE: u8 = 0;
 

@@ -1,4 +1,5 @@
-// The refusals of document 01, as the program has them; specs/Refusals.antt has them for the contracts. 0 is accepted.
+// The refusals of documents 01 and 02, as the program has them; specs/Refusals.antt has them for the contracts. 0 is
+// accepted.
 
 // 1: card under 5 bytes.
 pub const CARD_SHORT: u32 = 1;
@@ -12,10 +13,10 @@ pub const BAD_LENGTH: u32 = 3;
 // 4: root not below positions.
 pub const BAD_ROOT: u32 = 4;
 
-// 5: budget field above 31,000,000.
+// 5: budget field above MAX_BUDGET.
 pub const BAD_CARD_BUDGET: u32 = 5;
 
-// 6: price field 1,000,001 to 1,048,574.
+// 6: price field above MAX_WEIGHT that is not NO_ARC. Retired: 20 bits hold none.
 pub const BAD_WEIGHT: u32 = 6;
 
 // 7: mark 3, or a mark other than 0 on no link.
@@ -30,7 +31,7 @@ pub const NO_VERTEX: u32 = 9;
 // 10: press names no link.
 pub const NO_SUCH_ARC: u32 = 10;
 
-// 11: budget press above 31,000,000.
+// 11: budget press above MAX_BUDGET.
 pub const BAD_BUDGET: u32 = 11;
 
 // 12: press with 200 recorded.

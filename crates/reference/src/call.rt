@@ -38,7 +38,7 @@ fn some_budget(g: Random) -> u32 {
         0 => MAX_BUDGET,
         1 => MAX_BUDGET + 1,
         2 => 4294967295,
-        3 => random::below(random::next(g), 33000000),
+        3 => random::below(random::next(g), MAX_BUDGET + 1000000),
         _ => random::below(random::next(g), 60),
     }
 }

@@ -7,7 +7,6 @@ use crate::problem;
 use crate::problem::CELLS;
 use crate::problem::MAX_BUDGET;
 use crate::problem::MAX_VERTICES;
-use crate::problem::MAX_WEIGHT;
 use crate::problem::NO_ARC;
 use crate::problem::NO_MARK;
 use crate::problem::Problem;
@@ -18,7 +17,6 @@ use crate::refusals::BAD_FILLING;
 use crate::refusals::BAD_LENGTH;
 use crate::refusals::BAD_MARK;
 use crate::refusals::BAD_ROOT;
-use crate::refusals::BAD_WEIGHT;
 use crate::refusals::CARD_SHORT;
 
 // Room for longer cards than any that opens.
@@ -127,15 +125,13 @@ fn field(card: &[u8], from: u32, width: u32) -> u32 {
     value
 }
 
-// "6: price field 1,000,001 to 1,048,574"; "7: mark 3, or a mark other than 0 on no link"; "6 before 7".
+// "7: mark 3, or a mark other than 0 on no link". "6 is retired" (02, A9): of the numbers of 20 bits the greatest is no
+// link, and every other one is a price.
 fn cell_answer(cell: u32) -> u32 {
     let weight = cell / 4;
     let mark = cell % 4;
     if weight == NO_ARC {
         return if mark == 0 { 0 } else { BAD_MARK };
-    }
-    if MAX_WEIGHT < weight {
-        return BAD_WEIGHT;
     }
     if mark == of_byte(NO_MARK) {
         return BAD_MARK;
@@ -212,7 +208,7 @@ fn filling_answer(card: &[u8], n: u32) -> u32 {
     }
 }
 
-// "1 to 5 in that order; then the first faulty cell in card order, 6 before 7 within it; then 8".
+// "1 to 5 in that order; then the first faulty cell in card order ..; then 8".
 pub fn read(card: &[u8]) -> Reading {
     let n = field(card, 0, N_BITS);
     let root = field(card, ROOT_AT, ROOT_BITS);

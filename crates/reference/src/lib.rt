@@ -1,5 +1,6 @@
-// The reference that the test programs hold the planner to: written from document 01 alone, in the plainest way, with
-// none of the planner's code or methods. The programs' own needs stand beside it: random numbers, counts, scripts.
+// The reference that the test programs hold the planner to: written from documents 01 and 02 alone, in the plainest
+// way, with none of the planner's code or methods. The programs' own needs stand beside it: random numbers, counts,
+// scripts.
 pub mod access; // access.rt: small steps that ask nothing of their caller
 pub mod call; // call.rt: calls that change a board, and random ones
 pub mod card; // card.rt: cards, bit by bit

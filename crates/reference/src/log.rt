@@ -67,7 +67,7 @@ fn full_answer(answer: u32, count: u32) -> u32 {
     }
 }
 
-// "refused with 11 if above 31,000,000"; of a take-back "refused with 13 if none stands". 0 where the call is accepted.
+// "refused with 11 if above" the limit; of a take-back "refused with 13 if none stands". 0 where the call is accepted.
 fn answer_to(count: u32, card: Problem, c: Call) -> u32 {
     let kind = c.kind;
     match kind {

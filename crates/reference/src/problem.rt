@@ -17,13 +17,13 @@ pub struct Problem {
     pub marks: [u8; CELLS],
 }
 
-// "Prices are 0 to 1,000,000 pence; 1,048,575 means no link."
-pub const MAX_WEIGHT: u32 = 1000000;
+// "Prices go up to 1,048,574 pence and budgets to 32,505,794, which is 31 times that." (02, A9)
+pub const MAX_WEIGHT: u32 = 1048574;
 
+pub const MAX_BUDGET: u32 = 32505794;
+
+// "1,048,575 means no link."
 pub const NO_ARC: u32 = 1048575;
-
-// "Budgets are 0 to 31,000,000".
-pub const MAX_BUDGET: u32 = 31000000;
 
 // "0 free, 1 pinned, 2 banned", and a number that is no mark.
 pub const FREE: u8 = 0;

@@ -1,4 +1,5 @@
-// Document 01's table of refusals, as the reference reads it. 0 is accepted.
+// Document 01's table of refusals, as the reference reads it. 0 is accepted. "6 is retired; 5, 11, 15, 19 and 27 use
+// the new limits." (02, A9)
 pub const CARD_SHORT: u32 = 1; // card under 5 bytes
 
 pub const BAD_COUNT: u32 = 2; // positions field 0 or 33 to 63
@@ -7,9 +8,7 @@ pub const BAD_LENGTH: u32 = 3; // card length not the needed one
 
 pub const BAD_ROOT: u32 = 4; // root not below positions
 
-pub const BAD_CARD_BUDGET: u32 = 5; // budget field above 31,000,000
-
-pub const BAD_WEIGHT: u32 = 6; // price field 1,000,001 to 1,048,574
+pub const BAD_CARD_BUDGET: u32 = 5; // budget field above the limit
 
 pub const BAD_MARK: u32 = 7; // mark 3, or a mark other than 0 on no link
 
@@ -19,7 +18,7 @@ pub const NO_VERTEX: u32 = 9; // press names a position not below n
 
 pub const NO_SUCH_ARC: u32 = 10; // press names no link
 
-pub const BAD_BUDGET: u32 = 11; // budget press above 31,000,000
+pub const BAD_BUDGET: u32 = 11; // budget press above the limit
 
 pub const HISTORY_FULL: u32 = 12; // press with 200 recorded
 

@@ -12,14 +12,14 @@ use reference::problem::NO_ARC;
 use reference::random;
 use reference::random::Random;
 
-// The changes: 9 of a number, 8 of a cell and 6 of a record are damage; 5 are none.
+// The changes: 9 of a number, 6 of a cell and 6 of a record are damage; 7 are none.
 pub const KINDS: u32 = 28;
 
 const CELLS_FROM: u32 = 9;
 
-const RECORDS_FROM: u32 = 17;
+const RECORDS_FROM: u32 = 15;
 
-const SOUND_FROM: u32 = 23;
+const SOUND_FROM: u32 = 21;
 
 pub struct Damaged {
     pub is_damaged: bool,
@@ -39,6 +39,12 @@ fn with_cell(b: Board, tail: u32, head: u32, weight: u32, mark: u8) -> Board {
     let at = problem::cell(tail, head);
     c.weights[at] = weight;
     c.marks[at] = mark;
+    c
+}
+
+fn with_budget(b: Board, budget: u32) -> Board {
+    let mut c = b;
+    c.budget = budget;
     c
 }
 
@@ -74,21 +80,20 @@ fn number_damaged(b: Board, kind: u32) -> Board {
 // no arc.
 fn bad_weight(kind: u32) -> u32 {
     match kind {
-        9 => MAX_WEIGHT + 1,
-        10 => NO_ARC - 1,
-        11 => NO_ARC + 1,
-        12 => 4294967295,
-        13 | 14 => 5,
+        9 => NO_ARC + 1,
+        10 => 4294967295,
+        11 => MAX_WEIGHT,
+        12 => 5,
         _ => NO_ARC,
     }
 }
 
 fn bad_mark(kind: u32) -> u8 {
     match kind {
-        13 => 3,
-        14 => 255,
-        15 => 1,
-        16 => 2,
+        11 => 3,
+        12 => 255,
+        13 => 1,
+        14 => 2,
         _ => 0,
     }
 }
@@ -96,13 +101,13 @@ fn bad_mark(kind: u32) -> u8 {
 // A record that names no arc, or restores a value out of its range; and two that are lawful.
 fn nth_record(kind: u32, n: u32, root: u32, tail: u32, head: u32) -> UndoRecord {
     match kind {
-        17 => boards::mark_record(n, head, 0),
-        18 => boards::mark_record(tail, tail, 0),
-        19 => boards::mark_record(head, root, 0),
-        20 => boards::mark_record(tail, head, 0),
-        21 => boards::mark_record(tail, head, 3),
-        22 => boards::budget_record(MAX_BUDGET + 1),
-        26 => boards::mark_record(tail, head, 2),
+        15 => boards::mark_record(n, head, 0),
+        16 => boards::mark_record(tail, tail, 0),
+        17 => boards::mark_record(head, root, 0),
+        18 => boards::mark_record(tail, head, 0),
+        19 => boards::mark_record(tail, head, 3),
+        20 => boards::budget_record(MAX_BUDGET + 1),
+        24 => boards::mark_record(tail, head, 2),
         _ => boards::budget_record(MAX_BUDGET),
     }
 }
@@ -111,8 +116,8 @@ fn nth_record(kind: u32, n: u32, root: u32, tail: u32, head: u32) -> UndoRecord 
 fn record_changed(b: Board, kind: u32, g: Random, tail: u32, head: u32) -> Board {
     let record = nth_record(kind, b.n, b.root, tail, head);
     match kind {
-        20 => with_record(with_cell(b, tail, head, NO_ARC, 0), g, record),
-        21 | 26 => with_record(with_cell(b, tail, head, 5, 0), g, record),
+        18 => with_record(with_cell(b, tail, head, NO_ARC, 0), g, record),
+        19 | 24 => with_record(with_cell(b, tail, head, 5, 0), g, record),
         _ => with_record(b, g, record),
     }
 }
@@ -127,12 +132,15 @@ fn with_rubbish_record(b: Board) -> Board {
     c
 }
 
-// What is no damage: rubbish where no arc can be and past the count, and a lawful record.
+// What is no damage: rubbish where no arc can be and past the count, a lawful record, the dearest price and the
+// greatest budget.
 fn sound(b: Board, kind: u32, g: Random, tail: u32, head: u32) -> Board {
     match kind {
-        23 => with_cell(b, tail, tail, MAX_WEIGHT + 1, 3),
-        24 => with_cell(b, tail, b.root, 4294967295, 255),
-        25 => with_rubbish_record(b),
+        21 => with_cell(b, tail, tail, NO_ARC + 1, 3),
+        22 => with_cell(b, tail, b.root, 4294967295, 255),
+        23 => with_rubbish_record(b),
+        26 => with_cell(b, tail, head, MAX_WEIGHT, 2),
+        27 => with_budget(b, MAX_BUDGET),
         _ => record_changed(b, kind, g, tail, head),
     }
 }

@@ -81,21 +81,27 @@ fn planted(tally: Tally, p: Problem, s: Shown, vertex: u32) -> Tally {
     tally::planted(tally, !is_right(dearer, s))
 }
 
-// Budgets at the cheapest total, one below, and somewhat above.
-fn tried_around(tally: Tally, p: Problem, total: u32, g: Random) -> Tally {
-    if 30000000 < total {
+// A look under a budget, where that is one.
+fn tried_within(tally: Tally, p: Problem, budget: u32, g: Random) -> Tally {
+    if MAX_BUDGET < budget {
         return tally;
     }
+    tried(tally, p, budget, g)
+}
+
+// Budgets at the cheapest total, one below, one above, and somewhat above.
+fn tried_around(tally: Tally, p: Problem, total: u32, g: Random) -> Tally {
     let t = tried(tally, p, total, g);
-    let u = tried(t, p, total + total / 64, random::next(g));
+    let u = tried_within(t, p, access::plus(total, 1), g);
+    let v = tried_within(u, p, access::plus(total, total / 64), random::next(g));
     if total == 0 {
-        return u;
+        return v;
     }
-    tried(u, p, total - 1, g)
+    tried(v, p, total - 1, g)
 }
 
 // The cheapest total from a look under the largest budget, and then budgets around it.
-fn tried_all(tally: Tally, p: Problem, g: Random) -> Tally {
+pub fn tried_all(tally: Tally, p: Problem, g: Random) -> Tally {
     let q = worked::with_budget(p, MAX_BUDGET);
     let s = exact::look_at(q);
     let t = with_look(tally::with(tally, INSTANCES, 1), q, s);

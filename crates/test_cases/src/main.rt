@@ -3,6 +3,7 @@
 mod buffer_lines; // buffer_lines.rt: lines of the script on cards and lent buffers
 mod exact; // exact.rt: states of a large instance
 mod large; // large.rt: instances of 32 vertices
+mod limits; // limits.rt: the same at the dearest price and the greatest budget
 mod lines; // lines.rt: document 01's own cases
 mod look_lines; // look_lines.rt: lines of the script on looks
 mod make; // make.rt: how the large ones are made
@@ -13,4 +14,5 @@ fn main() {
     lines::all();
     small::all();
     large::all();
+    limits::all();
 }

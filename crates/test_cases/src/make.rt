@@ -1,6 +1,11 @@
 // Large instances.
+use reference::access;
+use reference::problem;
+use reference::problem::CELLS;
 use reference::problem::MAX_VERTICES;
+use reference::problem::MAX_WEIGHT;
 use reference::problem::Problem;
+use reference::problem::STRIDE;
 use reference::random;
 use reference::sample;
 use reference::sample::Mixture;
@@ -40,6 +45,9 @@ fn mixed(k: u32, weights: u32, missing: u32, pinned: u32, banned: u32) -> Proble
     )
 }
 
+// How many families nth_instance begins with.
+pub const FAMILIES: u32 = 12;
+
 // Nested cycles, with a way in at every vertex, at the one that joins last, and at none: there the set that no arc
 // enters is found only after every cycle was drawn together. Dense ones with any weights, with ties, and with all
 // weights equal; sparse ones; and then every mixture.
@@ -59,4 +67,41 @@ pub fn nth_instance(k: u32) -> Problem {
         11 => mixed(11, 2, 8, 0, 30),
         _ => mixed(k, k % 6, k % 60, 0, k % 24),
     }
+}
+
+// The dearest price of an instance.
+fn dearest_in(p: Problem) -> u32 {
+    let mut most = 0;
+    for k in 0..CELLS as u32 {
+        if problem::is_arc(p, k / STRIDE, k % STRIDE) {
+            let weight = p.weights[k as usize];
+            if most < weight {
+                most = weight;
+            }
+        }
+    }
+    most
+}
+
+// Each price raised by so much, and then to the least.
+fn repriced(p: Problem, more: u32, least: u32) -> Problem {
+    let mut q = p;
+    for k in 0..CELLS as u32 {
+        if problem::is_arc(p, k / STRIDE, k % STRIDE) {
+            let weight = access::plus(p.weights[k as usize], more);
+            q.weights[k as usize] = if weight < least { least } else { weight };
+        }
+    }
+    q
+}
+
+// All prices raised alike, the dearest to the limit. Every tree has as many links, so the cheapest ones stay the
+// cheapest, and the cycles close as before.
+pub fn raised(p: Problem) -> Problem {
+    repriced(p, std::num::wrapping_sub_u32(MAX_WEIGHT, dearest_in(p)), 0)
+}
+
+// Every link at the dearest price.
+pub fn at_the_dearest(p: Problem) -> Problem {
+    repriced(p, 0, MAX_WEIGHT)
 }

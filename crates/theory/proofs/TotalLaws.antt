@@ -1,9 +1,9 @@
--- The totals of a valid instance are within the greatest budget: "31,000,000, which is 31 times the dearest price".
--- Assumes nothing.
+-- The totals of a valid instance are within the greatest budget: "32,505,794, which is 31 times that" (02, A9), of the
+-- dearest price. Assumes nothing.
 use mathlib.Core.Path.{_≡_, refl, subst}
 use mathlib.Core.Bool.{Bool, true, false, cond}
 use mathlib.Core.List.{List}
-use Prim.Native.Nat.{ℕ, _≤_, _<_}
+use Prim.Native.Nat.{ℕ, _*_, _≤_, _<_}
 use native.Mathlib.Omega.{arith}
 use lib.Dec.{eqb}
 use borrow.Author.Tests.{leb-true, eq-eqb}
@@ -20,7 +20,7 @@ use Rattle.theory.specs.Readings.{Least-total}
 use Rattle.instance.proofs.ArborescenceLaws.{joined}
 
 -- the dearest price at each of 32 vertices
-dearest : sum-below max-vertices (λ v. max-weight) ≡ 32000000
+dearest : sum-below max-vertices (λ v. max-weight) ≡ max-vertices * max-weight
 unfolding sum-below
 dearest = refl
 

@@ -27,7 +27,7 @@ loop-holds : tie.Need-loop-holds Inv-loop μ-loop
 loop-holds c = (omega arith, sym (field-none _ _))
 
 mul-value : tie.Need-mul-value Inv-loop μ-loop
-mul-value c = let a = c .before .before .before .args in omega (arith, bytes-below (a .bytes .now) (a .at / 8) (c .before .loop .k) 5 (omega arith) (omega arith))
+mul-value c = let a = c .before .before .before .args in omega (arith, bytes-below (a .bytes .now) (a .at / 8) (c .before .loop .k) 5 (omega arith))
 
 add-wide : tie.Need-add-wide Inv-loop μ-loop
 add-wide c = omega arith
@@ -42,7 +42,7 @@ add-value : tie.Need-add-value Inv-loop μ-loop
 add-value c =
     let a = c .before .before .before .before .before .args in
     let k = c .before .before .before .loop .k in
-    omega (arith, bytes-below (a .bytes .now) (a .at / 8) k 5 (omega arith) (omega arith), c .before .shared-slice-known2 .given (a .at / 8 + k))
+    omega (arith, bytes-below (a .bytes .now) (a .at / 8) k 5 (omega arith), c .before .shared-slice-known2 .given (a .at / 8 + k))
 
 add-k : tie.Need-add-k Inv-loop μ-loop
 add-k c = omega arith

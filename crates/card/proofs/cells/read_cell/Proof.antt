@@ -7,7 +7,7 @@ use native.Mathlib.Omega.{arith}
 use native.Mathlib.Nat.{add-zero}
 use borrow.Author.Needs.{needs}
 use Rattle.bits.specs.Bits.{bits-in}
-use Rattle.bits.proofs.ByteLaws.{length-bits-in, bits-in-are-bits}
+use Rattle.bits.proofs.ByteLaws.{bits-in-are-bits}
 use Rattle.bits.proofs.FieldLaws.{field-below}
 use Rattle.instance.specs.Limits.{cells}
 use Rattle.card_format.specs.Widths.{weight-width, mark-width}
@@ -38,8 +38,7 @@ read-bits-requires-2 c κs =
 cast-t10 : tie.Need-cast-t10
 cast-t10 c =
     let a = c .before .before .before .before .before .args in
-    let w = offset-within (a .n) (a .root) (a .i) cells (omega arith) (sym (c .before .before .before .on-card .ensures) ∙ c .before .before .if1 .taken) in
-    omega (arith, c .read-bits2 .ensures, field-below (a .at + weight-width) mark-width (bits-in (a .card .now)) (bits-in-are-bits (a .card .now)) (rw (length-bits-in (a .card .now)) (omega arith)))
+    omega (arith, c .read-bits2 .ensures, field-below (a .at + weight-width) mark-width (bits-in (a .card .now)) (bits-in-are-bits (a .card .now)))
 
 add-t9 : tie.Need-add-t9
 add-t9 c =
