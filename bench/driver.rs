@@ -8,8 +8,11 @@ use std::process::{Command, Stdio};
 use std::time::Instant;
 
 const NONE: u32 = 1_048_575;
-const MAX_WEIGHT: u64 = 1_048_574;
+const MAX_WEIGHT: u32 = 1_048_574;
 const MAX_BUDGET: u32 = 32_505_794;
+
+// The dearest price of most families: the limit before request A9, so that rows from then can be compared.
+const DRAWN: u64 = 1_000_000;
 
 const CARD: &str = "target/bench/card";
 
@@ -70,11 +73,11 @@ impl Instance {
 
 fn dense(r: &mut Random, n: usize) -> Instance {
     let root = r.below(n as u64) as usize;
-    Instance::new(n, root).fill(|_, _| r.below(MAX_WEIGHT + 1) as u32)
+    Instance::new(n, root).fill(|_, _| r.below(DRAWN + 1) as u32)
 }
 
 fn equal(r: &mut Random, n: usize) -> Instance {
-    let w = r.below(MAX_WEIGHT + 1) as u32;
+    let w = r.below(DRAWN + 1) as u32;
     Instance::new(n, 0).fill(|_, _| w)
 }
 
@@ -83,7 +86,7 @@ fn few(r: &mut Random, n: usize) -> Instance {
 }
 
 fn sparse(r: &mut Random, n: usize) -> Instance {
-    Instance::new(n, 0).fill(|t, h| if t + 1 == h || r.below(8) == 0 { r.below(MAX_WEIGHT + 1) as u32 } else { NONE })
+    Instance::new(n, 0).fill(|t, h| if t + 1 == h || r.below(8) == 0 { r.below(DRAWN + 1) as u32 } else { NONE })
 }
 
 // Every contraction takes in one vertex more: v + 1 is cheapest from within {1 .. v}, and {1 .. v} cheapest from v + 1.
@@ -112,6 +115,11 @@ fn marked(r: &mut Random, n: usize) -> Instance {
         }
     }
     s
+}
+
+// Every price is above the limit before request A9.
+fn dear(r: &mut Random, n: usize) -> Instance {
+    Instance::new(n, 0).fill(|_, _| MAX_WEIGHT - r.below(u64::from(MAX_WEIGHT) - DRAWN) as u32)
 }
 
 fn run(program: &str, card: &str) -> String {
@@ -241,8 +249,15 @@ fn main() {
     println!("one vertex, that is the start of the process: baseline {p:.2} ms, print_plan {q:.2} ms");
     let more = if deep { "  plannings  stack bytes  instructions" } else { "" };
     println!("family   budget      n  baseline ms  print_plan ms  ratio{more}");
-    let families: [(&str, fn(&mut Random, usize) -> Instance); 6] =
-        [("dense", dense), ("equal", equal), ("few", few), ("nested", nested), ("sparse", sparse), ("marked", marked)];
+    let families: [(&str, fn(&mut Random, usize) -> Instance); 7] = [
+        ("dense", dense),
+        ("equal", equal),
+        ("few", few),
+        ("nested", nested),
+        ("sparse", sparse),
+        ("marked", marked),
+        ("dear", dear),
+    ];
     for (name, make) in families {
         for budget in ["tight", "middling", "unlimited"] {
             for n in [8, 16, 32] {

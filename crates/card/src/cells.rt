@@ -58,7 +58,7 @@ fn read_cell(card: &[u8], n: u32, root: u32, i: usize, at: usize) -> Cell
 // A mark that a field can hold and an arc cannot.
 const UNUSED_MARK: u8 = 3;
 
-// Refusals 6 and 7 of one cell.
+// Refusals 6 and 7 of one cell. No cell of a card gets a 6 (six-retired in card_format).
 fn judge_cell(weight: u32, mark: u8) -> u32
     ensures { λ r. ⌜ r ≡ cell-refusal weight mark ⌝ }
 {

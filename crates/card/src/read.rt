@@ -94,7 +94,7 @@ fn no_contents(answer: u32) -> Contents
     }
 }
 
-// Refusals 1 to 8 in document 01's order.
+// Refusals 1 to 8, of which 6 is retired, in document 01's order.
 pub fn read_card(card: &[u8]) -> Contents
     ensures { λ r. ⌜ r ≡ contents-of (now (card .entry)) ⌝ }
 {

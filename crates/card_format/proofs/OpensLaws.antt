@@ -26,7 +26,7 @@ use Rattle.card_format.proofs.CellLaws.{fields-by-index, length-fields,
 use Rattle.card_format.proofs.HeaderLaws.{n-of, root-of, budget-of, Header-known, header-known, header-first}
 
 -- THE STEPS
--- 6, 7 and 8, once the header passes
+-- the cells' refusals and 8, once the header passes
 abbrev pub rest-refusal : (card : List ℕ) → ℕ
 rest-refusal ws =
     let bs = bits-in ws in

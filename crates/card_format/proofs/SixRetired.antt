@@ -5,7 +5,7 @@
 use mathlib.Core.Path.{_≡_, refl}
 use mathlib.Core.Bool.{Bool, true, false, _||_, not, cond}
 use mathlib.Core.List.{List, [], _∷_}
-use Prim.Native.Nat.{ℕ, zero, suc, _+_, _*_, _^_, _<_}
+use Prim.Native.Nat.{ℕ, zero, suc, _+_, _^_, _<_}
 use native.Mathlib.Omega.{arith}
 use lib.Dec.{ltb, leb, eqb}
 use lib.ListN.{length, drop}
@@ -21,10 +21,10 @@ use Rattle.card_format.specs.Widths.{budget-width, header-width, weight-
 use Rattle.card_format.specs.Card.{on-card, bits-needed, bytes-needed, min-card, weights-in, marks-in, instance-in, unused-mark, cell-fields, cell-refusal, cells-refusal, header-refusal, card-refusal}
 use Rattle.card_format.proofs.HeaderLaws.{n-of, root-of, budget-of}
 
--- the dearest price and no link are the two greatest numbers of a price field; the greatest budget, 31 times that
--- price, fits its field
-pub limits-fit : (2 ^ weight-width ≡ max-weight + 2) × (2 ^ weight-width ≡ no-arc + 1) × (31 * max-weight < 2 ^ budget-width)
-limits-fit = (refl, refl, omega arith)
+-- no link is the greatest number of a price field, and the dearest price the one before it (`no-gap` in instance); the
+-- greatest budget fits its field
+pub limits-fit : (2 ^ weight-width ≡ no-arc + 1) × (max-budget < 2 ^ budget-width)
+limits-fit = (refl, omega arith)
 
 -- a choice of two numbers, neither of them 6
 neither-six : (b : Bool) (x y : ℕ) → (x ≡ bad-weight → ⊥) → (y ≡ bad-weight → ⊥) → cond b x y ≡ bad-weight → ⊥

@@ -1,5 +1,5 @@
 -- Cards that are refused and cards that open, at the ends of every range and in the order of document 01: one list
--- with one claim about the whole list; and two cards read, whose weights are all different. Computed. Assumes
+-- with one claim about the whole list; cells, refused or not, with one claim; and two cards read. Computed. Assumes
 -- nothing.
 use mathlib.Core.Path.{_≡_, refl}
 use mathlib.Core.List.{List, [], _∷_, map}
@@ -7,7 +7,7 @@ use Prim.Native.Nat.{ℕ}
 use Rattle.base.specs.Lists.{all-of}
 use Rattle.bits.specs.Bits.{bits-of, bits-in, number-from, field}
 use Rattle.instance.specs.Limits.{pinned, banned}
-use Rattle.instance.specs.Refusals.{card-short, bad-count, bad-length, bad-root, bad-card-budget, bad-mark, bad-filling}
+use Rattle.instance.specs.Refusals.{card-short, bad-count, bad-length, bad-root, bad-card-budget, bad-weight, bad-mark, bad-filling}
 use Rattle.instance.specs.Instance.{Instance, can-be-arc}
 use Rattle.instance.proofs.WorkedCases.{arc, filled, instance-from, instance-q}
 use Rattle.card_format.specs.Card.{on-card, bits-needed, bytes-needed, cell-fields, instance-in, cell-refusal, cells-refusal, header-refusal, card-refusal}
@@ -45,10 +45,13 @@ cards =
     ∷ card 0 (0x08 ∷ 0x1e ∷ 0xff ∷ 0xfc ∷ 0x20 ∷ 0x00 ∷ 0x05 ∷ 0x00 ∷ [])
     ∷ card bad-card-budget (0x08 ∷ 0x1e ∷ 0xff ∷ 0xfc ∷ 0x30 ∷ 0x00 ∷ 0x05 ∷ 0x00 ∷ [])
     ∷ card bad-card-budget (0x08 ∷ 0x1f ∷ 0xff ∷ 0xff ∷ 0xff ∷ 0xff ∷ 0xfe ∷ 0xc0 ∷ [])
-    -- "Prices go up to 1,048,574 pence", "6 is retired" (02, A9): 1,000,001 and 1,048,574 with each mark; with mark 3
-    -- the cell is refused by 7 now, and with a filling bit the card by 8
+    -- "Prices go up to 1,048,574 pence", "6 is retired" (02, A9): 1,000,001 and 1,048,574 with each mark that opens; with
+    -- mark 3 it is 7 now, and with a filling bit 8
     ∷ card 0 (0x08 ∷ 0x00 ∷ 0x00 ∷ 0x00 ∷ 0x5f ∷ 0x42 ∷ 0x41 ∷ 0x00 ∷ [])
     ∷ card 0 (0x08 ∷ 0x00 ∷ 0x00 ∷ 0x00 ∷ 0x5f ∷ 0x42 ∷ 0x41 ∷ 0x40 ∷ [])
+    ∷ card 0 (0x08 ∷ 0x00 ∷ 0x00 ∷ 0x00 ∷ 0x5f ∷ 0x42 ∷ 0x41 ∷ 0x80 ∷ [])
+    ∷ card 0 (0x08 ∷ 0x00 ∷ 0x00 ∷ 0x00 ∷ 0x5f ∷ 0xff ∷ 0xfe ∷ 0x00 ∷ [])
+    ∷ card 0 (0x08 ∷ 0x00 ∷ 0x00 ∷ 0x00 ∷ 0x5f ∷ 0xff ∷ 0xfe ∷ 0x40 ∷ [])
     ∷ card 0 (0x08 ∷ 0x00 ∷ 0x00 ∷ 0x00 ∷ 0x5f ∷ 0xff ∷ 0xfe ∷ 0x80 ∷ [])
     ∷ card bad-mark (0x08 ∷ 0x00 ∷ 0x00 ∷ 0x00 ∷ 0x5f ∷ 0x42 ∷ 0x41 ∷ 0xc0 ∷ [])
     ∷ card bad-mark (0x08 ∷ 0x00 ∷ 0x00 ∷ 0x00 ∷ 0x5f ∷ 0xff ∷ 0xfe ∷ 0xc1 ∷ [])
@@ -82,24 +85,30 @@ unfolding
     bytes-needed all-of
 refusals = refl
 
--- CELLS of any two numbers: above no link, where no card's are, it is 6 and "6 before 7 within it"
-pub record Cell : Type 0 where
+-- CELLS of any two numbers. One above no link, which no card holds, is refused by 6: "6 before 7 within it"
+pub record Cell-case : Type 0 where
   pub answer : ℕ
   pub weight : ℕ
   pub mark : ℕ
 
-unfoldable pub some-cells : List Cell
-some-cells =
+unfoldable pub cell-cases : List Cell-case
+cell-cases =
     record { answer = 0; weight = 1048574; mark = 2 }
-    ∷ record { answer = 7; weight = 1048574; mark = 3 }
-    ∷ record { answer = 7; weight = 1048575; mark = 2 }
-    ∷ record { answer = 6; weight = 1048576; mark = 0 }
-    ∷ record { answer = 6; weight = 4294967295; mark = 3 }
+    ∷ record { answer = bad-mark; weight = 1048574; mark = 3 }
+    ∷ record { answer = bad-mark; weight = 1048575; mark = 2 }
+    ∷ record { answer = bad-weight; weight = 1048576; mark = 0 }
+    ∷ record { answer = bad-weight; weight = 4294967295; mark = 3 }
     ∷ []
 
-pub cells-judged : map (λ c. cell-refusal (c .weight) (c .mark)) some-cells ≡ map (λ c. c .answer) some-cells
-unfolding some-cells cell-refusal
-cells-judged = refl
+pub cell-refusals : map (λ c. cell-refusal (c .weight) (c .mark)) cell-cases ≡ map (λ c. c .answer) cell-cases
+unfolding cell-cases cell-refusal
+cell-refusals = refl
+
+-- "the first faulty cell in card order": 7 before 6, and 6 before 7
+pub first-faulty :
+    (cells-refusal (5 ∷ 5 ∷ 1048576 ∷ []) (0 ∷ 3 ∷ 0 ∷ []) ≡ bad-mark) × (cells-refusal (5 ∷ 1048576 ∷ 5 ∷ []) (0 ∷ 0 ∷ 3 ∷ []) ≡ bad-weight)
+unfolding cells-refusal cell-refusal
+first-faulty = (refl, refl)
 
 -- READ: instance Q at budget 16 with 2→1 pinned and 0→3 banned; and n = 3, root 1, at the greatest budget, whose cells
 -- are 0→2, 1→0, 1→2 (no arc) and 2→0 at the dearest price

@@ -1,4 +1,4 @@
--- The rig card of document 01: layout, refusals 1 to 8, reading and writing. Assumes nothing: these are definitions.
+-- The rig card of document 01: layout, refusals 1 to 8 (6 is retired), reading and writing. Assumes nothing: these are definitions.
 use mathlib.Core.Bool.{Bool, _||_, not, cond}
 use mathlib.Core.List.{List, [], _∷_, _++_}
 use Prim.Native.Nat.{ℕ, zero, suc, _+_, _*_, _-_, _/_, _%_}
@@ -82,7 +82,8 @@ cells-refusal [] ms = 0
 cells-refusal (w ∷ ws) [] = 0
 cells-refusal (w ∷ ws) (m ∷ ms) = cond (eqb (cell-refusal w m) 0) (cells-refusal ws ms) (cell-refusal w m)
 
--- "Cards: 1 to 5 in that order"; behind them what the rest of the card is refused with
+-- "Cards: 1 to 5 in that order"; behind them what the rest of the card is refused with. 02, A9: "5 .. use the new
+-- limits"
 unfoldable pub header-refusal : (card : List ℕ) → (rest : ℕ) → ℕ
 header-refusal ws rest =
     let bs = bits-in ws in

@@ -1,4 +1,5 @@
--- Every list of commands gets the log's answers, and leaves the effective instance.
+-- Every list of commands gets the log's answers, and leaves the effective instance; the log's answers are the commands'
+-- own numbers.
 --
 -- The idea: a board and a log are tied if the board's instance is the effective one and each record of the history,
 -- applied to what is effective with the entries down to its own, leaves what is effective without that entry. One
@@ -9,9 +10,10 @@ use mathlib.Core.Bool.{Bool, true, false, _&&_, not, cond}
 use mathlib.Core.List.{List, [], _∷_}
 use Prim.Native.Nat.{ℕ, suc, _≤_, _<_}
 use native.Mathlib.Omega.{arith}
-use lib.Dec.{ltb, leb}
+use lib.Dec.{ltb, leb, eqb}
 use lib.ListN.{length}
 use borrow.Author.Tests.{ltb-true, not-false}
+use Rattle.base.specs.Lists.{any-of}
 use Rattle.base.proofs.BoolLaws.{and-left, and-right}
 use Rattle.instance.specs.Limits.{max-vertices, max-budget, max-records, cells}
 use Rattle.instance.specs.Refusals.{bad-budget, history-full}
@@ -21,7 +23,7 @@ use Rattle.instance.specs.Valid.{valid-instance}
 use Rattle.instance.specs.declared.Mark.{Mark}
 use Rattle.commands.specs.Model.{Replaced, old-mark, old-budget, Model, opened, with-mark, with-budget, restored}
 use Rattle.commands.specs.Valid.{valid}
-use Rattle.commands.specs.Commands.{Command, set-mark, set-budget, undo, Result, refused, accepted, decided, arc-refusal, mark-refusal, marked, budget-refusal, budgeted, undone, applied, answered, answers, board-after}
+use Rattle.commands.specs.Commands.{Command, set-mark, set-budget, undo, Result, refused, accepted, decided, arc-refusal, mark-refusal, marked, budget-refusal, budgeted, undone, applied, answered, command-numbers, answers, board-after}
 use Rattle.commands.specs.Log.{Entry, entry-mark, entry-budget, Log, Noted, new-log, with-entries, log-length, unnoted, noted, note-arcs, note-mark, note-budget, note-undo, note, log-answers, log-after}
 use Rattle.commands.specs.Effective.{effective}
 use Rattle.commands.proofs.CommandLaws.{mark-back}
@@ -190,3 +192,32 @@ unfolding opened
 valid-lists-follow s cs v e =
     let o = opened-valid s v in
     rw (answers-agree cs (opened s) o, boards-agree cs (opened s) o) (lists-follow s cs (valid-parts (opened s) o .n-high) e)
+
+-- EVERY ANSWER OF THE LOG IS ONE OF THE COMMAND'S OWN NUMBERS
+arcs-listed :
+    (x y z : Bool) (m : Mark) (t h : ℕ) (e : Entry) (k : Log) → any-of (eqb (note-arcs x y z e k .answer)) (command-numbers (set-mark m t h)) ≡ true
+unfolding note-arcs unnoted noted command-numbers any-of
+arcs-listed true y z m t h e k = refl
+arcs-listed false true z m t h e k = refl
+arcs-listed false false true m t h e k = refl
+arcs-listed false false false m t h e k = refl
+
+budget-listed :
+    (x z : Bool) (v : ℕ) (k : Log) →
+    any-of (eqb (cond x (unnoted bad-budget k) (cond z (unnoted history-full k) (noted (entry-budget v ∷ k .entries) k)) .answer)) (command-numbers (set-budget v)) ≡ true
+unfolding unnoted noted command-numbers any-of
+budget-listed true z v k = refl
+budget-listed false true v k = refl
+budget-listed false false v k = refl
+
+undo-listed : (es : List Entry) (k : Log) → any-of (eqb (note-undo es k .answer)) (command-numbers undo) ≡ true
+unfolding note-undo unnoted noted command-numbers any-of
+undo-listed [] k = refl
+undo-listed (e ∷ es) k = refl
+
+pub note-listed : (c : Command) (k : Log) → any-of (eqb (note c k .answer)) (command-numbers c) ≡ true
+unfolding note note-mark note-budget
+note-listed (set-mark m t h) k =
+    arcs-listed (not (ltb t (k .card .n) && ltb h (k .card .n))) (not (is-arc (k .card) t h)) (leb max-records (log-length k)) m t h (entry-mark m t h) k
+note-listed (set-budget v) k = budget-listed (ltb max-budget v) (leb max-records (log-length k)) v k
+note-listed undo k = undo-listed (k .entries) k

@@ -51,7 +51,7 @@ marked m t h b =
     let s = b .instance in
     decided (mark-refusal s (length (b .history)) t h) (accepted (old-mark t h (mark s t h)) (with-mark (mark-number m) t h s) b) b
 
--- "11, 12 for budgets"
+-- "11, 12 for budgets"; 02, A9: "11 .. use the new limits"
 unfoldable pub budget-refusal : (count budget : ℕ) → ℕ
 budget-refusal k v = cond (ltb max-budget v) bad-budget (cond (leb max-records k) history-full 0)
 

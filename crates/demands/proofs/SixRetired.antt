@@ -1,24 +1,47 @@
--- "Show that 6 never occurs any more" (02, A9), of the calls: whatever a public call was handed, it does not answer 6.
--- (Of the card alone it is `six-retired` in card_format.) Assumes nothing.
-use mathlib.Core.Path.{_≡_, refl, sym, ap, _∙_, subst}
-use mathlib.Core.Bool.{Bool, true, false, true≢false}
+-- "Show that 6 never occurs any more" (02, A9), of the calls: whatever a public call was handed, it does not answer 6,
+-- and none of the answers that `replay` puts into its list is 6. (Of the card alone it is `six-retired` in
+-- card_format.) Assumes nothing.
+use mathlib.Core.Path.{_≡_, refl, sym, ap, _∙_}
+use mathlib.Core.Bool.{false, true≢false}
 use mathlib.Core.List.{List, [], _∷_}
 use Prim.Native.Nat.{ℕ}
+use lib.Dec.{eqb}
+use borrow.Author.Tests.{ne-eqb}
 use Rattle.base.specs.Lists.{any-of}
 use Rattle.commands.specs.Commands.{Command, set-mark, set-budget, undo, command-numbers}
+use Rattle.commands.specs.Log.{Log, unnoted, note}
+use Rattle.commands.proofs.LogLaws.{note-listed}
+use Rattle.planner.specs.Replaying.{Call, command, look, write, log-call, call-answers}
 use Rattle.demands.proofs.DemandOne.{Given, by-opening, by-command, by-looking, by-writing, by-reporting, by-replaying, numbers, among, demand-1}
 
--- 6 is among the numbers of no call
-none-lists-six : {a : ℕ} (g : Given a) → among 6 (numbers g) ≡ false
+-- ONE CALL
+-- 6 is among the numbers of no command
+commands-lack-six : (c : Command) → among 6 (command-numbers c) ≡ false
 unfolding any-of command-numbers
-none-lists-six (by-opening p) = refl
-none-lists-six (by-command {c = set-mark m t h} p) = refl
-none-lists-six (by-command {c = set-budget v} p) = refl
-none-lists-six (by-command {c = undo} p) = refl
-none-lists-six (by-looking p) = refl
-none-lists-six (by-writing p) = refl
-none-lists-six (by-reporting p) = refl
-none-lists-six (by-replaying p) = refl
+commands-lack-six (set-mark m t h) = refl
+commands-lack-six (set-budget v) = refl
+commands-lack-six undo = refl
+
+-- nor of any other call
+all-lack-six : {a : ℕ} (g : Given a) → among 6 (numbers g) ≡ false
+unfolding any-of
+all-lack-six (by-opening p) = refl
+all-lack-six (by-command {c = c} p) = commands-lack-six c
+all-lack-six (by-looking p) = refl
+all-lack-six (by-writing p) = refl
+all-lack-six (by-reporting p) = refl
+all-lack-six (by-replaying p) = refl
 
 pub six-never-given : {a : ℕ} → Given a → a ≡ 6 → ⊥
-six-never-given {a} g e = true≢false (sym (demand-1 g .own-number) ∙ ap (λ (x : ℕ). among x (numbers g)) e ∙ none-lists-six g)
+six-never-given g e = true≢false (sym (demand-1 g .own-number) ∙ ap (λ (x : ℕ). among x (numbers g)) e ∙ all-lack-six g)
+
+-- A LIST OF CALLS, as `replay` answers it: by the log
+note-not-six : (c : Command) (k : Log) → 6 ≡ note c k .answer → ⊥
+note-not-six c k e = true≢false (sym (note-listed c k) ∙ ap (λ (x : ℕ). among x (command-numbers c)) (sym e) ∙ commands-lack-six c)
+
+pub six-never-listed : (cs : List Call) (k : Log) → among 6 (call-answers cs k) ≡ false
+unfolding call-answers log-call unnoted any-of
+six-never-listed [] k = refl
+six-never-listed (command c ∷ cs) k = rw (ne-eqb 6 (note c k .answer) (note-not-six c k)) (six-never-listed cs (note c k .log))
+six-never-listed (look ∷ cs) k = six-never-listed cs k
+six-never-listed (write ∷ cs) k = six-never-listed cs k

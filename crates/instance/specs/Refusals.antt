@@ -1,5 +1,5 @@
--- The refusals of document 01, each under one name with its sentence; 0 is accepted. 02, A9, amends four of these: "6
--- is retired; 5, 11, 15, 19 and 27 use the new limits" (instance/Limits). Assumes nothing: these are definitions.
+-- The refusals of document 01, each under one name with its sentence and what document 02 amends of it; 0 is accepted.
+-- Assumes nothing: these are definitions.
 use Prim.Native.Nat.{ℕ}
 
 -- a card that is refused with one of these gives "no board"
@@ -20,12 +20,12 @@ bad-length = 3
 abbrev pub bad-root : ℕ
 bad-root = 4
 
--- "budget field above 31,000,000"
+-- "budget field above 31,000,000"; 02, A9: "5 .. use the new limits"
 abbrev pub bad-card-budget : ℕ
 bad-card-budget = 5
 
--- "price field 1,000,001 to 1,048,574", which is now from 1,048,575 to 1,048,574: no card has one, and this number is
--- never returned (`six-retired` in card_format, `six-never-given` in demands)
+-- "price field 1,000,001 to 1,048,574"; 02, A9: "6 is retired". By the new limit that range is empty, and no public call
+-- answers 6 (`six-retired` in card_format, `six-never-given` in demands)
 abbrev pub bad-weight : ℕ
 bad-weight = 6
 
@@ -47,7 +47,7 @@ no-vertex = 9
 abbrev pub no-such-arc : ℕ
 no-such-arc = 10
 
--- "budget press above 31,000,000"
+-- "budget press above 31,000,000"; 02, A9: "11 .. use the new limits"
 abbrev pub bad-budget : ℕ
 bad-budget = 11
 
@@ -64,6 +64,6 @@ abbrev pub buffer-short : ℕ
 buffer-short = 14
 
 -- "board handed in has a field outside the ranges above, a mark other than 0 on no link, more than 200 recorded, or a
--- record naming no link or restoring a value out of range"
+-- record naming no link or restoring a value out of range"; 02, A9: "15 .. use the new limits"
 abbrev pub invalid-board : ℕ
 invalid-board = 15

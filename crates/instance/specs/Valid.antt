@@ -1,4 +1,4 @@
--- Valid instances: every field in the ranges of document 01. Assumes nothing: these are definitions.
+-- Valid instances: every field in its range (Limits). Assumes nothing: these are definitions.
 use mathlib.Core.Bool.{Bool, true, _&&_, cond}
 use Prim.Native.Nat.{ℕ, _/_, _%_}
 use lib.Dec.{ltb, leb, eqb}

@@ -1,7 +1,7 @@
-// The problem in the program's terms: document 01's limits and refusals, vertices, cuts, marks and outcomes. What the
+// The problem in the program's terms: the documents' limits and refusals, vertices, cuts, marks and outcomes. What the
 // words mean is defined in specs/.
-pub mod limits; // limits.rt: the numbers of document 01
-pub mod refusals; // refusals.rt: the refusals of document 01
+pub mod limits; // limits.rt: the numbers of documents 01 and 02
+pub mod refusals; // refusals.rt: the refusals of documents 01 and 02
 
 ghost use mathlib.Core.Path.{_≡_};
 ghost use Rattle.instance.specs.Marks.{mark-number};

@@ -16,6 +16,6 @@ fresh s = board-with (s .n) (s .root) (s .budget) (s .weights) (s .marks)
 abbrev pub answered-with : (answer : ℕ) → Board → Answered
 answered-with a b = record { answer = a; board = b }
 
--- every card opens as a board or gets one of the refusals 1 to 8; "no board" is the blank one
+-- every card opens as a board or gets one of the refusals 1 to 5, 7 and 8; "no board" is the blank one
 unfoldable pub opened-from : (card : List ℕ) → Answered
 opened-from ws = cond (eqb (card-refusal ws) 0) (answered-with 0 (fresh (instance-in ws))) (answered-with (card-refusal ws) blank)

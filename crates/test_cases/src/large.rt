@@ -10,6 +10,7 @@ use reference::outcome;
 use reference::problem;
 use reference::problem::MAX_BUDGET;
 use reference::problem::MAX_VERTICES;
+use reference::problem::MAX_WEIGHT;
 use reference::problem::Problem;
 use reference::random;
 use reference::random::Random;
@@ -69,7 +70,8 @@ fn tried(tally: Tally, p: Problem, budget: u32, g: Random) -> Tally {
     with_arc(u, q, s, random::next(random::next(g)))
 }
 
-// A plan held to the instance with one of its arcs dearer by 1: that has to be reported, or the test could not fail.
+// A plan held to the instance with one of its arcs dearer by 1, or cheaper where it has the dearest weight: that has to
+// be reported, or the test could not fail.
 fn planted(tally: Tally, p: Problem, s: Shown, vertex: u32) -> Tally {
     let parents = s.parents;
     if vertex == p.root {
@@ -77,11 +79,16 @@ fn planted(tally: Tally, p: Problem, s: Shown, vertex: u32) -> Tally {
     }
     let tail = access::byte(&parents, vertex);
     let weight = p.weights[problem::cell(tail, vertex)];
-    let dearer = worked::with_weight(p, tail, vertex, access::plus(weight, 1));
-    tally::planted(tally, !is_right(dearer, s))
+    let other = if weight < MAX_WEIGHT {
+        access::plus(weight, 1)
+    } else {
+        MAX_WEIGHT - 1
+    };
+    let changed = worked::with_weight(p, tail, vertex, other);
+    tally::planted(tally, !is_right(changed, s))
 }
 
-// A look under a budget, where that is one.
+// A look under a budget that is within the limit.
 fn tried_within(tally: Tally, p: Problem, budget: u32, g: Random) -> Tally {
     if MAX_BUDGET < budget {
         return tally;

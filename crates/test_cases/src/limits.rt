@@ -1,5 +1,5 @@
-// Instances of 32 vertices at the limits: each family with its prices raised to the dearest, and with every link at
-// that price; the greatest budget, and one above it.
+// Instances of 32 vertices at the limits: each family with its weights raised to the greatest, and with every arc at
+// that weight; the greatest budget, and one above it.
 use crate::exact;
 use crate::large;
 use crate::make;
@@ -58,12 +58,20 @@ fn is_limit(p: Problem, budget: u32) -> bool {
     )
 }
 
-// One instance as large.rt has it; then the greatest budget, and planted a greater and a smaller one.
+// The answers at the limit with one of the three expected wrongly, and another budget taken for the limit: all of it has
+// to be reported.
+fn planted(tally: Tally, p: Problem) -> Tally {
+    let t = tally::planted(tally, !answers_are(p, MAX_BUDGET, BAD_CARD_BUDGET, 0, 0));
+    let u = tally::planted(t, !answers_are(p, MAX_BUDGET, 0, BAD_BUDGET, 0));
+    let v = tally::planted(u, !answers_are(p, MAX_BUDGET, 0, 0, INVALID_BOARD));
+    let w = tally::planted(v, !is_limit(p, MAX_BUDGET + 1));
+    tally::planted(w, !is_limit(p, MAX_BUDGET - 1))
+}
+
+// One instance as large.rt has it; then the greatest budget.
 fn tried(tally: Tally, p: Problem, k: u32) -> Tally {
     let t = large::tried_all(tally, p, random::seeded(k));
-    let u = tally::checked(t, LIMITS, is_limit(p, MAX_BUDGET));
-    let v = tally::planted(u, !is_limit(p, MAX_BUDGET + 1));
-    tally::planted(v, !is_limit(p, MAX_BUDGET - 1))
+    planted(tally::checked(t, LIMITS, is_limit(p, MAX_BUDGET)), p)
 }
 
 fn run() -> Tally {
@@ -71,7 +79,7 @@ fn run() -> Tally {
     for k in 0..make::FAMILIES {
         let p = make::nth_instance(k);
         t = tried(t, make::raised(p), k);
-        t = tried(t, make::at_the_dearest(p), k);
+        t = tried(t, make::at_greatest(p), k);
     }
     t
 }

@@ -69,8 +69,8 @@ pub fn nth_instance(k: u32) -> Problem {
     }
 }
 
-// The dearest price of an instance.
-fn dearest_in(p: Problem) -> u32 {
+// The greatest weight of an instance.
+fn greatest_in(p: Problem) -> u32 {
     let mut most = 0;
     for k in 0..CELLS as u32 {
         if problem::is_arc(p, k / STRIDE, k % STRIDE) {
@@ -83,8 +83,8 @@ fn dearest_in(p: Problem) -> u32 {
     most
 }
 
-// Each price raised by so much, and then to the least.
-fn repriced(p: Problem, more: u32, least: u32) -> Problem {
+// Each weight raised by so much, and then to the least.
+fn reweighted(p: Problem, more: u32, least: u32) -> Problem {
     let mut q = p;
     for k in 0..CELLS as u32 {
         if problem::is_arc(p, k / STRIDE, k % STRIDE) {
@@ -95,13 +95,13 @@ fn repriced(p: Problem, more: u32, least: u32) -> Problem {
     q
 }
 
-// All prices raised alike, the dearest to the limit. Every tree has as many links, so the cheapest ones stay the
+// All weights raised alike, the greatest to the limit. Every tree has as many arcs, so the cheapest ones stay the
 // cheapest, and the cycles close as before.
 pub fn raised(p: Problem) -> Problem {
-    repriced(p, std::num::wrapping_sub_u32(MAX_WEIGHT, dearest_in(p)), 0)
+    reweighted(p, std::num::wrapping_sub_u32(MAX_WEIGHT, greatest_in(p)), 0)
 }
 
-// Every link at the dearest price.
-pub fn at_the_dearest(p: Problem) -> Problem {
-    repriced(p, 0, MAX_WEIGHT)
+// Every arc at the greatest weight.
+pub fn at_greatest(p: Problem) -> Problem {
+    reweighted(p, 0, MAX_WEIGHT)
 }

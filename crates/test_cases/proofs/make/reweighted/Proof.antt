@@ -1,8 +1,8 @@
--- `test_cases::make::repriced` is safe and ends.
+-- `test_cases::make::reweighted` is safe and ends.
 use Prim.Native.Nat.{_-_}
 use borrow.Author.Needs.{needs}
-use Rattle.test_cases.proofs.make.repriced.Statement.{statement}
-use Rattle.test_cases.proofs.make.repriced.Tie as tie
+use Rattle.test_cases.proofs.make.reweighted.Statement.{statement}
+use Rattle.test_cases.proofs.make.reweighted.Tie as tie
 
 abbrev Inv-loop : tie.InvT-loop
 Inv-loop more least p q₀ k₀ q k = Unit
@@ -10,8 +10,8 @@ Inv-loop more least p q₀ k₀ q k = Unit
 abbrev μ-loop : tie.MeasureT-loop
 μ-loop more least p q₀ k₀ q k = 1024 - k
 
-pub repriced-spec : {M : Type 1} → statement M
-repriced-spec =
+pub reweighted-spec : {M : Type 1} → statement M
+reweighted-spec =
     tie.close
     (tie.spec
     Inv-loop

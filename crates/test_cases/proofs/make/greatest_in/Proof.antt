@@ -1,8 +1,8 @@
--- `test_cases::make::dearest_in` is safe and ends.
+-- `test_cases::make::greatest_in` is safe and ends.
 use Prim.Native.Nat.{_-_}
 use borrow.Author.Needs.{needs}
-use Rattle.test_cases.proofs.make.dearest_in.Statement.{statement}
-use Rattle.test_cases.proofs.make.dearest_in.Tie as tie
+use Rattle.test_cases.proofs.make.greatest_in.Statement.{statement}
+use Rattle.test_cases.proofs.make.greatest_in.Tie as tie
 
 abbrev Inv-loop : tie.InvT-loop
 Inv-loop p most₀ k₀ most k = Unit
@@ -10,8 +10,8 @@ Inv-loop p most₀ k₀ most k = Unit
 abbrev μ-loop : tie.MeasureT-loop
 μ-loop p most₀ k₀ most k = 1024 - k
 
-pub dearest-in-spec : {M : Type 1} → statement M
-dearest-in-spec =
+pub greatest-in-spec : {M : Type 1} → statement M
+greatest-in-spec =
     tie.close
     (tie.spec
     Inv-loop
