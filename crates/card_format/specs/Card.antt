@@ -1,4 +1,5 @@
--- The rig card of document 01: layout, refusals 1 to 8 (6 is retired), reading and writing. Assumes nothing: these are definitions.
+-- The rig card of document 01: layout, refusals 1 to 8 (6 is retired), reading and writing. Assumes nothing: these are
+-- definitions.
 use mathlib.Core.Bool.{Bool, _||_, not, cond}
 use mathlib.Core.List.{List, [], _∷_, _++_}
 use Prim.Native.Nat.{ℕ, zero, suc, _+_, _*_, _-_, _/_, _%_}

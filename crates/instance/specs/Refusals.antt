@@ -24,8 +24,8 @@ bad-root = 4
 abbrev pub bad-card-budget : ℕ
 bad-card-budget = 5
 
--- "price field 1,000,001 to 1,048,574"; 02, A9: "6 is retired". By the new limit that range is empty, and no public call
--- answers 6 (`six-retired` in card_format, `six-never-given` in demands)
+-- "price field 1,000,001 to 1,048,574"; 02, A9: "6 is retired". By the new limit that range is empty, and no public
+-- call answers 6 (`six-retired` in card_format, `six-never-given` in demands)
 abbrev pub bad-weight : ℕ
 bad-weight = 6
 

@@ -58,8 +58,8 @@ fn is_limit(p: Problem, budget: u32) -> bool {
     )
 }
 
-// The answers at the limit with one of the three expected wrongly, and another budget taken for the limit: all of it has
-// to be reported.
+// The answers at the limit with one of the three expected wrongly, and another budget taken for the limit: all of it
+// has to be reported.
 fn planted(tally: Tally, p: Problem) -> Tally {
     let t = tally::planted(tally, !answers_are(p, MAX_BUDGET, BAD_CARD_BUDGET, 0, 0));
     let u = tally::planted(t, !answers_are(p, MAX_BUDGET, 0, BAD_BUDGET, 0));
