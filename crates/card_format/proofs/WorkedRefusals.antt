@@ -110,8 +110,8 @@ pub first-faulty :
 unfolding cells-refusal cell-refusal
 first-faulty = (refl, refl)
 
--- READ: instance Q at budget 16 with 2→1 pinned and 0→3 banned; and n = 3, root 1, at the greatest budget, whose cells
--- are 0→2, 1→0, 1→2 (no arc) and 2→0 at the dearest price
+-- READ: instance Q at budget 16 with 2→1 pinned and 0→3 banned; and n = 3, root 1, at the greatest budget, whose
+-- cells are 0→2, 1→0, 1→2 (no arc) and 2→0 at the dearest price
 unfoldable pub read-cards : List (List ℕ)
 read-cards =
     (0x10 ∷ 0x00 ∷ 0x00 ∷ 0x01 ∷ 0x00 ∷ 0x00 ∷ 0x0a ∷ 0x00 ∷ 0x00 ∷ 0x28 ∷ 0x00 ∷ 0x00 ∷ 0x88 ∷ 0x00 ∷ 0x00 ∷ 0x40 ∷ 0x00 ∷ 0x04 ∷ 0x00 ∷ 0x00 ∷ 0x09 ∷ 0x00 ∷ 0x00 ∷ 0x90 ∷ 0x00 ∷ 0x01 ∷ 0xcf ∷ 0xff ∷ 0xff ∷ 0x00 ∷ [])

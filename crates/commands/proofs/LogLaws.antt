@@ -194,30 +194,30 @@ valid-lists-follow s cs v e =
     rw (answers-agree cs (opened s) o, boards-agree cs (opened s) o) (lists-follow s cs (valid-parts (opened s) o .n-high) e)
 
 -- EVERY ANSWER OF THE LOG IS ONE OF THE COMMAND'S OWN NUMBERS
-arcs-listed :
+note-arcs-listed :
     (x y z : Bool) (m : Mark) (t h : ℕ) (e : Entry) (k : Log) → any-of (eqb (note-arcs x y z e k .answer)) (command-numbers (set-mark m t h)) ≡ true
 unfolding note-arcs unnoted noted command-numbers any-of
-arcs-listed true y z m t h e k = refl
-arcs-listed false true z m t h e k = refl
-arcs-listed false false true m t h e k = refl
-arcs-listed false false false m t h e k = refl
+note-arcs-listed true y z m t h e k = refl
+note-arcs-listed false true z m t h e k = refl
+note-arcs-listed false false true m t h e k = refl
+note-arcs-listed false false false m t h e k = refl
 
-budget-listed :
+note-budget-listed :
     (x z : Bool) (v : ℕ) (k : Log) →
     any-of (eqb (cond x (unnoted bad-budget k) (cond z (unnoted history-full k) (noted (entry-budget v ∷ k .entries) k)) .answer)) (command-numbers (set-budget v)) ≡ true
 unfolding unnoted noted command-numbers any-of
-budget-listed true z v k = refl
-budget-listed false true v k = refl
-budget-listed false false v k = refl
+note-budget-listed true z v k = refl
+note-budget-listed false true v k = refl
+note-budget-listed false false v k = refl
 
-undo-listed : (es : List Entry) (k : Log) → any-of (eqb (note-undo es k .answer)) (command-numbers undo) ≡ true
+note-undo-listed : (es : List Entry) (k : Log) → any-of (eqb (note-undo es k .answer)) (command-numbers undo) ≡ true
 unfolding note-undo unnoted noted command-numbers any-of
-undo-listed [] k = refl
-undo-listed (e ∷ es) k = refl
+note-undo-listed [] k = refl
+note-undo-listed (e ∷ es) k = refl
 
 pub note-listed : (c : Command) (k : Log) → any-of (eqb (note c k .answer)) (command-numbers c) ≡ true
 unfolding note note-mark note-budget
 note-listed (set-mark m t h) k =
-    arcs-listed (not (ltb t (k .card .n) && ltb h (k .card .n))) (not (is-arc (k .card) t h)) (leb max-records (log-length k)) m t h (entry-mark m t h) k
-note-listed (set-budget v) k = budget-listed (ltb max-budget v) (leb max-records (log-length k)) v k
-note-listed undo k = undo-listed (k .entries) k
+    note-arcs-listed (not (ltb t (k .card .n) && ltb h (k .card .n))) (not (is-arc (k .card) t h)) (leb max-records (log-length k)) m t h (entry-mark m t h) k
+note-listed (set-budget v) k = note-budget-listed (ltb max-budget v) (leb max-records (log-length k)) v k
+note-listed undo k = note-undo-listed (k .entries) k
