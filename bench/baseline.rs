@@ -203,7 +203,8 @@ fn cheapest(n: usize, root: usize, rows: &Rows) -> Option<u32> {
     Some(total)
 }
 
-fn usable(s: &Instance, rows: &Rows) -> [[bool; 32]; 32] {
+// Which arcs a tree with a total of at most the limit uses, indexed by head and then tail.
+fn usable(s: &Instance, rows: &Rows, limit: u32) -> [[bool; 32]; 32] {
     let mut used = [[false; 32]; 32];
     for h in (0..s.n).filter(|&h| h != s.root) {
         for t in 0..s.n {
@@ -211,7 +212,7 @@ fn usable(s: &Instance, rows: &Rows) -> [[bool; 32]; 32] {
                 let mut one = *rows;
                 one[h] = [INF; 32];
                 one[h][t] = rows[h][t];
-                used[h][t] = cheapest(s.n, s.root, &one).is_some_and(|v| v <= s.budget);
+                used[h][t] = cheapest(s.n, s.root, &one).is_some_and(|v| v <= limit);
             }
         }
     }
@@ -240,10 +241,9 @@ fn text(card: &[u8]) -> String {
     let mut used = [[false; 32]; 32];
     match cheapest(s.n, s.root, &rows) {
         None => out.push_str("none\n"),
-        Some(v) if v > s.budget => out.push_str(&format!("over {v}\n")),
         Some(v) => {
-            out.push_str(&format!("plan {v}\n"));
-            used = usable(&s, &rows);
+            out.push_str(&format!("{} {v}\n", if v > s.budget { "over" } else { "plan" }));
+            used = usable(&s, &rows, s.budget.max(v));
         }
     }
     for tail in 0..s.n {

@@ -217,11 +217,30 @@ fn with_budget(mut instance: Instance, budget: &str, base: &str) -> Instance {
     instance
 }
 
+// The first word of the second line: plan, over or none.
+fn outcome(instance: &Instance, base: &str) -> String {
+    fs::write(CARD, instance.card()).unwrap();
+    let text = run(base, CARD);
+    text.lines().nth(1).and_then(|l| l.split(' ').next()).unwrap_or_default().to_string()
+}
+
+// The same card with a budget one below its cheapest total. No budget is below 0: where that is the cheapest total,
+// every price is raised by 1, which changes no state, since every tree has as many links.
+fn over(tight: &Instance) -> Instance {
+    let mut s = tight.clone();
+    if s.budget == 0 {
+        s.weight.iter_mut().filter(|w| **w != NONE).for_each(|w| *w += 1);
+        s.budget = s.n as u32 - 1;
+    }
+    s.budget -= 1;
+    s
+}
+
 // One line of the table: means of the times of five cards; under valgrind also the most plannings, the deepest stack
 // and the mean of the instructions. What is not measured has no column.
-fn row(ours: &str, base: &str, deep: bool, instances: [Instance; 5]) -> String {
+fn row(ours: &str, base: &str, deep: bool, instances: &[Instance; 5]) -> String {
     let (mut a, mut b, mut plannings, mut stack, mut instructions) = (0.0, 0.0, 0, 0, 0);
-    for instance in &instances {
+    for instance in instances {
         fs::write(CARD, instance.card()).unwrap();
         assert_eq!(fixed(&run(base, CARD)), fixed(&run(ours, CARD)));
         let (p, q) = times(base, ours);
@@ -262,7 +281,12 @@ fn main() {
         for budget in ["tight", "middling", "unlimited"] {
             for n in [8, 16, 32] {
                 let instances = std::array::from_fn(|_| with_budget(make(&mut random, n), budget, base));
-                println!("{name:<8} {budget:<10} {n:>2} {}", row(ours, base, deep, instances));
+                println!("{name:<8} {budget:<10} {n:>2} {}", row(ours, base, deep, &instances));
+                if budget == "tight" {
+                    let dearer = instances.each_ref().map(over);
+                    assert!(dearer.iter().all(|s| outcome(s, base) == "over"), "a card is not over its budget");
+                    println!("{name:<8} {:<10} {n:>2} {}", "over", row(ours, base, deep, &dearer));
+                }
             }
         }
     }

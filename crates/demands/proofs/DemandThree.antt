@@ -59,13 +59,14 @@ run-follows (then-write l rest) k f = run-follows rest k f
 
 -- "every call's answer, accepted or the refusal's number, is the book's. A look at the last board, whatever buffers it
 -- is lent, gives 14 exactly when one is too short; otherwise the n times n states are those of 'Link states', over the
--- feed trees of the card's positions, root and prices under the standing marks, within the standing budget."
+-- feed trees of the card's positions, root and prices under the standing marks, within the standing budget." 02, A2
+-- amends the last words: "The claim about presses .. now use[s] the larger of the budget and the cheapest total".
 pub record Demand-3 (ws : List ℕ) (cs : List Command) (xs : List ℕ) (old new : Buffers) (v : View) : Type 0 where
   pub answers : xs ≡ log-answers cs (new-log (instance-in ws))
   pub last-look : Looks-at true (short-for (instance-in ws .n) old) (effective (log-after cs (new-log (instance-in ws)))) old new v
   -- the n times n states in the buffer, read in document 01's words and in both directions: closed exactly when no
-  -- fitting arborescence of the effective instance uses the arc, open exactly when some do and some don't, sure exactly
-  -- when there is one and all use it
+  -- arborescence of the effective instance within that limit uses the arc, open exactly when some do and some don't, sure
+  -- exactly when there is one and all use it
   pub states-shown :
       short-for (instance-in ws .n) old ≡ false →
       States-read (effective (log-after cs (new-log (instance-in ws)))) (take (instance-in ws .n * instance-in ws .n) (new .states))

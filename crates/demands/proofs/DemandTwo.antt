@@ -1,25 +1,27 @@
--- DEMAND 2, from the look's own contract: plan, over and none exactly when they should be; where a tree is shown, the
--- parents in the buffer are those of an arborescence that keeps pins and bans and has the total shown; the cuts in the
--- buffer, each of a value of at least 1 and zeros after them, prove by weak duality that none is cheaper. Assumes
+-- DEMAND 2, from the look's own contract: plan, over and none exactly when they should be; for plan and over alike, the
+-- parents in the buffer are those of an arborescence that keeps pins and bans and has the total shown, and the cuts in
+-- the buffer, each of a value of at least 1 and zeros after them, prove by weak duality that none is cheaper. Assumes
 -- nothing.
-use mathlib.Core.Path.{_≡_, refl, sym, ap, _∙_}
-use mathlib.Core.Bool.{Bool, true, false, true≢false}
+use mathlib.Core.Path.{_≡_, sym, ap, _∙_}
+use mathlib.Core.Bool.{true, false}
 use mathlib.Core.List.{List}
-use mathlib.Core.Logic.{_⊎_, ⊎-elim}
-use Prim.Native.Nat.{ℕ, _≤_}
+use mathlib.Core.Logic.{_⊎_, inl, inr}
+use Prim.Native.Nat.{ℕ, _*_, _≤_}
 use lib.ListN.{length, take}
 use Rattle.base.proofs.FrontLaws.{front-take}
 use Rattle.instance.specs.Limits.{banned, cut-words}
 use Rattle.instance.specs.Instance.{Instance, mark, is-arc}
 use Rattle.instance.specs.Arborescence.{is-pinned, is-arborescence, total, uses}
-use Rattle.instance.specs.Cuts.{Cut, words-of, values}
+use Rattle.instance.specs.Cuts.{Cut, words-of, values, Proves}
 use Rattle.instance.specs.declared.Outcome.{Outcome}
 use Rattle.instance.specs.declared.Outcome.the-variants.{Plan, Over, NoTree}
-use Rattle.instance.specs.States.{shows-tree, total-in, outcome}
-use Rattle.theory.specs.Readings.{Outcome-reads}
+use Rattle.instance.specs.States.{outcome, state, states}
+use Rattle.theory.specs.Readings.{Least-total, Outcome-reads}
 use Rattle.theory.proofs.Duality.{weak-duality, no-entry}
 use Rattle.theory.proofs.MarkLaws.{pinned-used, banned-unused}
-use Rattle.theory.proofs.OutcomeLaws.{plan-not-none, over-not-none, outcome-reads}
+use Rattle.theory.proofs.OutcomeLaws.{outcome-reads}
+use Rattle.theory.proofs.StateLaws.{states-read}
+use Rattle.theory.proofs.TotalLimit.{cheapest-open}
 use Rattle.commands.specs.Valid.{valid}
 use Rattle.board.specs.ModelOf.{model-of, instance-of}
 use Rattle.board.specs.declared.Board.{Board}
@@ -36,32 +38,28 @@ pub record Keeps-marks (s : Instance) (parents : List ℕ) : Type 0 where
   pub pins : (t h : ℕ) → is-pinned s t h ≡ true → uses parents t h ≡ true
   pub bans : (t h : ℕ) → is-arc s t h ≡ true → mark s t h ≡ banned → uses parents t h ≡ false
 
+-- a cheapest tree with its price: an arborescence of the total v that keeps the marks, none of whose arcs is shown
+-- excluded, and cuts that add to v
+pub record Priced-tree (s : Instance) (tree : List ℕ) (cuts : List Cut) (v : ℕ) : Type 0 where
+  pub arborescence : is-arborescence s tree ≡ true
+  pub costs : total s tree ≡ v
+  pub marks-kept : Keeps-marks s tree
+  pub arcs-open : (t h : ℕ) → is-arc s t h ≡ true → uses tree t h ≡ true → 2 ≤ state s t h
+  pub price : Proves s cuts v
+
 -- tree and cuts are free; what the buffers hold is told by them
 pub record Demand-2 (s : Instance) (new : Buffers) (v : View) : Type 0 where
   pub tree : List ℕ
   pub cuts : List Cut
   pub shown : v ≡ Shown (outcome s) (length cuts)
   pub in-parents : take (s .n) (new .parents) ≡ tree
+  pub in-states : take (s .n * s .n) (new .states) ≡ states s
   pub in-cuts : take cut-words (new .cuts) ≡ words-of cuts
   pub right : Outcome-reads s (outcome s)
   pub tree-shown : Parents-shown (outcome s) s tree
-  pub marks-shown : shows-tree (outcome s) ≡ true → Keeps-marks s tree
   pub cuts-shown : Cuts-shown (outcome s) s cuts
-  pub price : (w : ℕ) → (outcome s ≡ Plan w) ⊎ (outcome s ≡ Over w) → values cuts ≡ w
+  pub priced : (w : ℕ) → (outcome s ≡ Plan w) ⊎ (outcome s ≡ Over w) → Priced-tree s tree cuts w
   pub cheapest : (ps : List ℕ) → is-arborescence s ps ≡ true → values cuts ≤ total s ps
-
--- the cuts add to the total that comes with the outcome
-price-of : (o : Outcome) (s : Instance) (cs : List Cut) → Cuts-shown o s cs → (o ≡ NoTree → ⊥) → values cs ≡ total-in o
-unfolding Cuts-shown
-price-of (Plan u) s cs c n = c .adds
-price-of (Over u) s cs c n = c .adds
-price-of NoTree s cs c n = absurd (n refl)
-
-plan-price : (o : Outcome) (s : Instance) (cs : List Cut) (w : ℕ) → Cuts-shown o s cs → o ≡ Plan w → values cs ≡ w
-plan-price o s cs w c e = price-of o s cs c (λ z. plan-not-none w (sym e ∙ z)) ∙ ap total-in e
-
-over-price : (o : Outcome) (s : Instance) (cs : List Cut) (w : ℕ) → Cuts-shown o s cs → o ≡ Over w → values cs ≡ w
-over-price o s cs w c e = price-of o s cs c (λ z. over-not-none w (sym e ∙ z)) ∙ ap total-in e
 
 no-cheaper : (o : Outcome) (s : Instance) (cs : List Cut) → Cuts-shown o s cs → (ps : List ℕ) → is-arborescence s ps ≡ true → values cs ≤ total s ps
 unfolding Cuts-shown
@@ -69,10 +67,22 @@ no-cheaper (Plan u) s cs c ps a = weak-duality s ps a cs (c .feasible)
 no-cheaper (Over u) s cs c ps a = weak-duality s ps a cs (c .feasible)
 no-cheaper NoTree s cs c ps a = absurd (no-entry s ps a (c .0) (c .2))
 
-keeps-marks : (b : Bool) (v : ℕ) (s : Instance) (ps : List ℕ) → Parents-by b v s ps → b ≡ true → Keeps-marks s ps
-unfolding Parents-by
-keeps-marks true v s ps p e = record { pins = pinned-used s ps (p .0); bans = banned-unused s ps (p .0) }
-keeps-marks false v s ps p e = absurd (true≢false (sym e))
+-- what is shown with plan and with over
+module _ (s : Instance) (tree : List ℕ) (cuts : List Cut) where
+  priced-tree : (w : ℕ) → Least-total s w → (is-arborescence s tree ≡ true) × (total s tree ≡ w) → Proves s cuts w → Priced-tree s tree cuts w
+  priced-tree w least p c =
+      record {
+        arborescence = p .0;
+        costs = p .1;
+        marks-kept = record { pins = pinned-used s tree (p .0); bans = banned-unused s tree (p .0) };
+        arcs-open = λ t h x u. cheapest-open s t h x tree w least (p .0) (p .1) u;
+        price = c;
+      }
+
+  priced-by : (w : ℕ) → (outcome s ≡ Plan w) ⊎ (outcome s ≡ Over w) → Parents-shown (outcome s) s tree → Cuts-shown (outcome s) s cuts → Priced-tree s tree cuts w
+  unfolding Parents-by Cuts-shown
+  priced-by w (inl e) p c = priced-tree w (outcome-reads s .plans w .0 e .0) (rw e at p) (rw e at c)
+  priced-by w (inr e) p c = priced-tree w (outcome-reads s .exceeds w .0 e .0) (rw e at p) (rw e at c)
 
 pub demand-2 :
     (b : Board) (v : View) (old new : Buffers) → Looked b old new v → valid (model-of b) ≡ true → short-for (b .n) old ≡ false → Demand-2 (instance-of b) new v
@@ -85,11 +95,11 @@ demand-2 b v old new l g t =
       cuts = x .cut-list;
       shown = x .result;
       in-parents = ap (take (s .n)) (x .parents-buffer) ∙ front-take (x .tree) (old .parents) (s .n) (tree-long s v old new small x);
+      in-states = ap (take (s .n * s .n)) (x .states-buffer) ∙ front-take (states s) (old .states) (s .n * s .n) (states-read s .size);
       in-cuts = ap (take cut-words) (x .cuts-buffer) ∙ front-take (words-of (x .cut-list)) (old .cuts) cut-words (words-long s v old new small x);
       right = outcome-reads s;
       tree-shown = x .tree-shown;
-      marks-shown = keeps-marks (shows-tree (outcome s)) (total-in (outcome s)) s (x .tree) (x .tree-shown);
       cuts-shown = x .cuts-shown;
-      price = λ w e. ⊎-elim (λ (p : outcome s ≡ Plan w). plan-price (outcome s) s (x .cut-list) w (x .cuts-shown) p) (λ (p : outcome s ≡ Over w). over-price (outcome s) s (x .cut-list) w (x .cuts-shown) p) e;
+      priced = λ w e. priced-by s (x .tree) (x .cut-list) w e (x .tree-shown) (x .cuts-shown);
       cheapest = no-cheaper (outcome s) s (x .cut-list) (x .cuts-shown);
     }

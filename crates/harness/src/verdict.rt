@@ -41,7 +41,7 @@ pub fn all_untouched(s: Shown) -> bool {
     untouched_from(s, 0, 0, 0)
 }
 
-// The parents and the cuts of what was shown, by document 01's conditions, for any n. The table holds the weights of
+// The parents and the cuts of what was shown, by the documents' conditions, for any n. The table holds the weights of
 // the remaining arcs. A refused look is not right, whatever stands in the buffers.
 pub fn certified(table: &[u32; CELLS], n: u32, root: u32, s: Shown) -> u32 {
     let parents = s.parents;

@@ -1,6 +1,6 @@
 -- Corner cases of the definitions, computed: document 01's cuts for P1 and its traps, sets that are no cut, two pins
--- into one vertex, lists that are no arborescence, a matrix that is too short, a root other than 0 and weights of 0.
--- Assumes nothing.
+-- into one vertex, lists that are no arborescence, a matrix that is too short, a root other than 0 and weights of 0, a
+-- budget far below the cheapest total. Assumes nothing.
 use mathlib.Core.Path.{_≡_, refl}
 use mathlib.Core.Bool.{Bool, true, false, _&&_, not, cond}
 use mathlib.Core.List.{List, [], _∷_, map}
@@ -16,9 +16,9 @@ use Rattle.instance.specs.Instance.{Instance, weight, mark, can-be-arc, 
 use Rattle.instance.specs.Arborescence.{is-pinned, other-pinned, remaining, reaches, parent-ok, is-arborescence, total, uses}
 use Rattle.instance.specs.Candidates.{prefixed, choices, candidates-from, candidates, arborescences, lesser, least-total, cheapest}
 use Rattle.instance.specs.Cuts.{Cut, cuts-from, cuts-in, inside, enters, charged, values, set-ok, sets-ok, all-positive, Proves, reduced-cost, No-entry}
-use Rattle.instance.specs.declared.Outcome.the-variants.{Plan}
-use Rattle.instance.specs.States.{outcome-at, outcome, fits, fitting, state-over, state, states}
-use Rattle.instance.proofs.WorkedCases.{At, arc, filled, instance-from, instance-q, two, optimal-in, computed}
+use Rattle.instance.specs.declared.Outcome.the-variants.{Plan, Over}
+use Rattle.instance.specs.States.{outcome-at, outcome, fits, fitting, limit-at, total-limit, state-over, state, states}
+use Rattle.instance.proofs.WorkedCases.{At, arc, filled, instance-from, instance-q, two, parents-with, computed}
 use Rattle.instance.proofs.ArcLaws.{remaining-ends}
 
 -- A TABLE OF CELLS: a test of every remaining arc, computed, holds of every remaining arc
@@ -78,7 +78,8 @@ reduced-costs = refl
 pub p3-excluded : state (instance-q 15 []) 2 1 ≡ 1
 unfolding
     instance-q instance-from filled all-below any-below sum-below tabulate-from tabulate select any-of all-of weight mark can-be-arc is-arc is-pinned
-    other-pinned remaining reaches parent-ok is-arborescence total uses prefixed choices candidates-from candidates fits fitting state-over state
+    other-pinned remaining reaches parent-ok is-arborescence total uses prefixed choices candidates-from candidates arborescences lesser least-total
+    cheapest fits fitting limit-at total-limit state-over state
 p3-excluded = refl
 
 -- "n = 2, root 0, link banned": "none, cut pair (2, 0)"
@@ -154,9 +155,20 @@ root-two =
     instance-from 3 2 3 (arc 2 0 0 ∷ arc 0 1 0 ∷ arc 2 1 3 ∷ arc 1 0 4 ∷ arc 0 2 7 ∷ arc 1 1 0 ∷ arc 3 1 0 ∷ [])
     (arc 0 2 pinned ∷ arc 1 1 pinned ∷ arc 3 1 pinned ∷ [])
 
-pub root-two-worked : computed root-two ≡ record { gives = Plan 0; optimal = (2 ∷ 0 ∷ 255 ∷ []) ∷ []; shows = 0 ∷ 2 ∷ 0 ∷ 1 ∷ 0 ∷ 0 ∷ 3 ∷ 2 ∷ 0 ∷ [] }
+pub root-two-worked : computed root-two ≡ record { gives = Plan 0; parents = (2 ∷ 0 ∷ 255 ∷ []) ∷ []; shows = 0 ∷ 2 ∷ 0 ∷ 1 ∷ 0 ∷ 0 ∷ 3 ∷ 2 ∷ 0 ∷ [] }
 unfolding
-    computed root-two instance-from filled optimal-in all-below any-below sum-below tabulate-from tabulate select any-of all-of weight mark can-be-arc
+    computed root-two instance-from filled parents-with all-below any-below sum-below tabulate-from tabulate select any-of all-of weight mark can-be-arc
     is-arc is-pinned other-pinned remaining reaches parent-ok is-arborescence total uses prefixed choices candidates-from candidates arborescences
-    lesser least-total cheapest outcome-at outcome fits fitting state-over states
+    lesser least-total cheapest outcome-at outcome fits fitting limit-at total-limit state-over states
 root-two-worked = refl
+
+-- P6 with any budget below its cheapest total: "the states are to be those for a budget equal to the cheapest total" (02,
+-- A2), over both cheapest trees; either may be shown
+pub p6-over :
+    computed (instance-q 3 (arc 0 1 banned ∷ []))
+    ≡ record { gives = Over 16; parents = (255 ∷ 2 ∷ 0 ∷ 1 ∷ []) ∷ (255 ∷ 3 ∷ 1 ∷ 0 ∷ []) ∷ []; shows = 0 ∷ 1 ∷ 2 ∷ 2 ∷ 0 ∷ 0 ∷ 2 ∷ 2 ∷ 0 ∷ 2 ∷ 0 ∷ 1 ∷ 0 ∷ 2 ∷ 0 ∷ 0 ∷ [] }
+unfolding
+    computed instance-q instance-from filled parents-with all-below any-below sum-below tabulate-from tabulate select any-of all-of weight mark can-be-arc
+    is-arc is-pinned other-pinned remaining reaches parent-ok is-arborescence total uses prefixed choices candidates-from candidates arborescences
+    lesser least-total cheapest outcome-at outcome fits fitting limit-at total-limit state-over states
+p6-over = refl

@@ -2,20 +2,21 @@
 use mathlib.Core.Bool.{Bool, true, false, _&&_, cond}
 use mathlib.Core.List.{List}
 use mathlib.Core.Option.{Option, none, some}
-use Prim.Native.Nat.{ℕ, _*_, _/_, _%_}
+use Prim.Native.Nat.{ℕ, max, _*_, _/_, _%_}
 use lib.Dec.{leb}
 use Rattle.base.specs.Lists.{tabulate, select, any-of, all-of}
-use Rattle.instance.specs.Instance.{Instance, is-arc}
+use Rattle.instance.specs.Instance.{Instance, instance-with, is-arc}
 use Rattle.instance.specs.Arborescence.{is-arborescence, total, uses}
 use Rattle.instance.specs.Candidates.{candidates, cheapest}
 use Rattle.instance.specs.declared.Outcome.{Outcome}
 use Rattle.instance.specs.declared.Outcome.the-variants.{Plan, Over, NoTree}
 
--- which outcomes show a tree: feeders are 255 "everywhere when over or none", and after over or none "no feed lines
--- follow"
+-- which outcomes show a tree. Document 01 had feeders of 255 "everywhere when over or none", and after these two "no
+-- feed lines follow"; 02, A2 amends it: "when over budget .. the feeder list holds a cheapest tree", "The printing
+-- program writes the feed lines for 'over' too"
 abbrev pub shows-tree : Outcome → Bool
 shows-tree (Plan v) = true
-shows-tree (Over v) = false
+shows-tree (Over v) = true
 shows-tree NoTree = false
 
 -- the total that an outcome comes with; none has no total, and 0 stands for it
@@ -33,16 +34,25 @@ outcome-at b (some v) = cond (leb v b) (Plan v) (Over v)
 unfoldable pub outcome : Instance → Outcome
 outcome s = outcome-at (s .budget) (cheapest s)
 
--- what a total may be at most for the states: the budget
-abbrev pub total-limit : Instance → ℕ
-total-limit s = s .budget
-
 -- a fitting arborescence (document 01: a feed tree within budget)
 unfoldable pub fits : Instance → (parents : List ℕ) → Bool
-fits s ps = is-arborescence s ps && leb (total s ps) (total-limit s)
+fits s ps = is-arborescence s ps && leb (total s ps) (s .budget)
 
 unfoldable pub fitting : Instance → List (List ℕ)
 fitting s = select (fits s) (candidates s)
+
+-- what a total may be at most for the states: "the larger of the budget and the cheapest total" (02, A2); where there
+-- is no tree there is no cheapest total, and it is the budget
+unfoldable pub limit-at : (budget : ℕ) → (cheapest : Option ℕ) → ℕ
+limit-at b none = b
+limit-at b (some v) = max b v
+
+unfoldable pub total-limit : Instance → ℕ
+total-limit s = limit-at (s .budget) (cheapest s)
+
+-- the instance with that for its budget
+abbrev pub raised : Instance → Instance
+raised s = instance-with (s .n) (s .root) (total-limit s) (s .weights) (s .marks)
 
 -- "0 not a link; 1 closed, no tree uses it; 2 open, some use it and some don't; 3 sure, there is at least one tree and
 -- all use it": no arc, excluded, optional, mandatory, over a list of arborescences
@@ -50,9 +60,11 @@ unfoldable pub state-over : List (List ℕ) → Instance → (tail head : ℕ) �
 state-over pss s t h =
     cond (is-arc s t h) (cond (any-of (λ ps. uses ps t h) pss) (cond (all-of (λ ps. uses ps t h) pss) 3 2) 1) 0
 
+-- "Over the feed trees within budget", which 02, A2 amends: "when over budget, the states are to be those for a budget
+-- equal to the cheapest total"
 unfoldable pub state : Instance → (tail head : ℕ) → ℕ
-state s t h = state-over (fitting s) s t h
+state s t h = state-over (fitting (raised s)) s t h
 
 -- "n times n bytes, feeder by feeder"
 unfoldable pub states : Instance → List ℕ
-states s = let pss = fitting s in tabulate (s .n * s .n) (λ i. state-over pss s (i / s .n) (i % s .n))
+states s = let pss = fitting (raised s) in tabulate (s .n * s .n) (λ i. state-over pss s (i / s .n) (i % s .n))

@@ -48,7 +48,7 @@ pub fn shows_tree(outcome: Outcome) -> bool
 {
     match outcome {
         Outcome::Plan(_) => true,
-        Outcome::Over(_) => false,
+        Outcome::Over(_) => true,
         Outcome::NoTree => false,
     }
 }

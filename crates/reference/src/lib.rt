@@ -11,7 +11,7 @@ pub mod random; // random.rt: numbers that look random
 pub mod refusals; // refusals.rt: document 01's table of refusals
 pub mod sample; // sample.rt: random instances
 pub mod script; // script.rt: lines of a program's standard input
-pub mod shown; // shown.rt: document 01's conditions on a shown tree and cuts
+pub mod shown; // shown.rt: the documents' conditions on a shown tree and cuts
 pub mod tally; // tally.rt: what a program counts and prints
 pub mod trees; // trees.rt: all trees of a small instance
 pub mod worked; // worked.rt: document 01's worked instances

@@ -1,4 +1,4 @@
-// What a look has to show under a budget, by document 01's words, from the listing of all trees.
+// What a look has to show under a budget, by the words of documents 01 and 02, from the listing of all trees.
 use crate::problem;
 use crate::problem::ABSENT;
 use crate::problem::Problem;
@@ -23,20 +23,39 @@ pub fn kind(list: Listing, budget: u32) -> u32 {
     PLAN
 }
 
+// "when over budget, the states are to be those for a budget equal to the cheapest total": what a total may be at most
+// for the states. Without a tree the budget stays. (02, A2)
+pub fn limit(cheapest: u32, budget: u32) -> u32 {
+    if cheapest == ABSENT {
+        return budget;
+    }
+    if budget < cheapest {
+        return cheapest;
+    }
+    budget
+}
+
 // "0 not a link; 1 closed, no tree uses it; 2 open, some use it and some don't; 3 sure, there is at least one tree and
-// all use it."
+// all use it": of an arc, by the cheapest total of a tree that uses it, and of one that does not.
+pub fn arc_state(limit: u32, using: u32, avoiding: u32) -> u32 {
+    if limit < using {
+        return 1;
+    }
+    if limit < avoiding {
+        return 3;
+    }
+    2
+}
+
 pub fn state(list: Listing, p: Problem, tail: u32, head: u32) -> u32 {
-    let budget = p.budget;
     if !problem::is_arc(p, tail, head) {
         return 0;
     }
     let using = trees::place(tail, head, true);
     let avoiding = trees::place(tail, head, false);
-    if budget < list.totals[using] {
-        return 1;
-    }
-    if budget < list.totals[avoiding] {
-        return 3;
-    }
-    2
+    arc_state(
+        limit(list.cheapest, p.budget),
+        list.totals[using],
+        list.totals[avoiding],
+    )
 }

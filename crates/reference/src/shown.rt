@@ -1,5 +1,5 @@
-// Whether a shown result meets document 01's conditions, for any n up to 32. A table holds the weights of the remaining
-// arcs (problem::costs).
+// Whether a shown result meets the conditions of documents 01 and 02, for any n up to 32. A table holds the weights of
+// the remaining arcs (problem::costs).
 use crate::access::all_bytes;
 use crate::access::all_words;
 use crate::access::byte;
@@ -7,7 +7,6 @@ use crate::access::plus;
 use crate::access::wide;
 use crate::access::word;
 use crate::outcome::NONE;
-use crate::outcome::PLAN;
 use crate::problem;
 use crate::problem::ABSENT;
 use crate::problem::CELLS;
@@ -75,7 +74,8 @@ pub fn tree_spans(parents: &[u8], n: u32, root: u32) -> bool {
 }
 
 // The parents of what is shown: a tree "picks one remaining link into each position except the root, so that every
-// position is reached from the root", with that total; "255 at the root, and everywhere when over or none."
+// position is reached from the root", with that total; "255 at the root", and everywhere when none: "when over budget ..
+// the feeder list holds a cheapest tree" (02, A2).
 pub fn parents_right(
     table: &[u32; CELLS], // the weights of the remaining arcs
     parents: &[u8], // the bytes that were shown, the parent of vertex k at place k
@@ -84,7 +84,7 @@ pub fn parents_right(
     kind: u32, // the kind of outcome that was shown
     total: u32, // the total that was shown with it
 ) -> bool {
-    if kind != PLAN {
+    if kind == NONE {
         return all_bytes(parents, 0, n, NO_PARENT);
     }
     if tree_total(table, parents, n, root) != total {

@@ -1,5 +1,6 @@
--- The texts of document 01's cases, computed from instance to bytes: P1 as document 01 shows it, P4 (over), P7 (none),
--- P8 (one vertex) and a refused card, as one list with one claim. Assumes nothing.
+-- The texts of document 01's cases, computed from instance to bytes: P1 as document 01 shows it, P4 (over, with feed
+-- lines and P3's rows by 02, A2), P7 (none), P8 (one vertex) and a refused card, as one list with one claim. Assumes
+-- nothing.
 use mathlib.Core.Path.{_≡_, refl}
 use mathlib.Core.List.{List, [], _∷_, _++_}
 use Prim.Native.Nat.{ℕ}
@@ -9,7 +10,7 @@ use Rattle.instance.specs.Limits.{pinned}
 use Rattle.instance.specs.Instance.{Instance, weight, mark, can-be-arc, is-arc}
 use Rattle.instance.specs.Arborescence.{is-pinned, other-pinned, remaining, reaches, parent-ok, is-arborescence, total, uses}
 use Rattle.instance.specs.Candidates.{prefixed, choices, candidates-from, candidates, arborescences, lesser, least-total, cheapest}
-use Rattle.instance.specs.States.{outcome-at, outcome, fits, fitting, state-over, states}
+use Rattle.instance.specs.States.{outcome-at, outcome, fits, fitting, limit-at, total-limit, state-over, states}
 use Rattle.instance.proofs.WorkedCases.{arc, filled, instance-from, instance-q}
 use Rattle.text.specs.Decimal.{decimal-in, decimal}
 use Rattle.text.specs.Lines.{codes}
@@ -26,13 +27,13 @@ reported s ps = report-text s (outcome s) ps
 unfoldable pub printed : List (List ℕ)
 printed =
     reported (instance-q 16 []) (255 ∷ 0 ∷ 1 ∷ 1 ∷ [])
-    ∷ reported (instance-q 14 []) []
+    ∷ reported (instance-q 14 []) (255 ∷ 0 ∷ 1 ∷ 1 ∷ [])
     ∷ reported (instance-q 16 (arc 2 1 pinned ∷ arc 1 2 pinned ∷ [])) []
     ∷ reported (instance-from 1 0 0 [] []) (255 ∷ [])
     ∷ refused-text 3
     ∷ []
 
--- what document 01 shows
+-- what documents 01 and 02 show
 unfoldable pub shown : List (List ℕ)
 shown =
     (codes "positions 4 root 0 budget 16\n" ++
@@ -46,8 +47,11 @@ shown =
     codes "row 3 0200\n")
     ∷ (codes "positions 4 root 0 budget 14\n" ++
     codes "over 15\n" ++
-    codes "row 0 0111\n" ++
-    codes "row 1 0011\n" ++
+    codes "feed 1 from 0 price 10\n" ++
+    codes "feed 2 from 1 price 1\n" ++
+    codes "feed 3 from 1 price 4\n" ++
+    codes "row 0 0311\n" ++
+    codes "row 1 0033\n" ++
     codes "row 2 0101\n" ++
     codes "row 3 0100\n")
     ∷ (codes "positions 4 root 0 budget 16\n" ++
@@ -66,5 +70,5 @@ unfolding
     reported printed shown codes decimal-in decimal join-below header-line outcome-line feed-line feed-at feed-lines row-line row-lines whole-text report-text
     refused-text instance-q instance-from filled all-below any-below sum-below tabulate-from tabulate select any-of all-of weight mark can-be-arc is-arc
     is-pinned other-pinned remaining reaches parent-ok is-arborescence total uses prefixed choices candidates-from candidates arborescences lesser
-    least-total cheapest outcome-at outcome fits fitting state-over states
+    least-total cheapest outcome-at outcome fits fitting limit-at total-limit state-over states
 worked-texts = refl

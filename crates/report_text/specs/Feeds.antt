@@ -25,6 +25,6 @@ listed-weight ws t h = getD ws (cell t h) no-arc
 unfoldable pub feed-at : (weights parents : List ℕ) → (root v : ℕ) → List ℕ
 feed-at ws ps r v = cond (eqb v r) [] (feed-line v (parent ps v) (listed-weight ws (parent ps v) v))
 
--- "by fed position", where the outcome shows a tree; else "no feed lines follow"
+-- "by fed position", where the outcome shows a tree (for "over" too: 02, A2); else "no feed lines follow"
 unfoldable pub feed-lines : (weights parents : List ℕ) → (n root : ℕ) → Outcome → List ℕ
 feed-lines ws ps n r o = cond (shows-tree o) (join-below n (feed-at ws ps r)) []

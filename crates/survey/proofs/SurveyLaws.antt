@@ -1,30 +1,33 @@
 -- From the contract of planning a matrix, that of what remains, to what is found of the instance. Assumes nothing.
 use mathlib.Core.Path.{_≡_, refl, sym, ap, _∙_, subst}
-use mathlib.Core.Bool.{Bool, true, false, cond, true≢false}
+use mathlib.Core.Bool.{Bool, true, false, cond}
 use mathlib.Core.Option.{some}
 use mathlib.Core.List.{List, [], _∷_}
 use Prim.Native.Nat.{ℕ, _*_, _≤_, _<_}
 use native.Mathlib.Omega.{arith}
 use lib.Dec.{leb}
 use lib.ListN.{length, set, take, replicate}
-use borrow.Author.Tests.{le-leb, lt-leb, leb-true, leb-false}
-use Rattle.instance.specs.Limits.{max-vertices, no-parent, cells, cut-words}
+use borrow.Author.Tests.{le-leb, lt-leb}
+use Rattle.instance.specs.Limits.{max-vertices, max-budget, no-parent, cells, cut-words}
 use Rattle.instance.specs.Instance.{Instance}
 use Rattle.instance.specs.Arborescence.{is-arborescence, total}
+use Rattle.instance.specs.Candidates.{cheapest}
 use Rattle.instance.specs.Cuts.{Cut, cuts-in, pair-words, words-of, values, Proves}
 use Rattle.instance.specs.Matrix.{matrix, matrix-instance, unmarked}
 use Rattle.instance.specs.declared.Outcome.{Outcome}
 use Rattle.instance.specs.declared.Outcome.the-variants.{Plan, Over, NoTree}
-use Rattle.instance.specs.States.{shows-tree, outcome-at, outcome}
+use Rattle.instance.specs.States.{outcome-at, outcome, limit-at, total-limit}
+use Rattle.instance.specs.Valid.{valid-instance}
 use Rattle.base.proofs.PartLaws.{drop-replicate, take-replicate}
 use Rattle.instance.proofs.CutLaws.{cuts-length}
 use Rattle.theory.proofs.Restriction.{matrix-arborescence, matrix-total, matrix-proves, matrix-no-entry}
-use Rattle.theory.proofs.Optimality.{proved-plan, proved-over, shut-outcome}
+use Rattle.theory.proofs.TotalLaws.{total-most}
+use Rattle.theory.proofs.Optimality.{proved-cheapest, shut-outcome}
 use Rattle.edmonds.specs.declared.Planned.{Planned}
 use Rattle.edmonds.specs.Planned.{Planned-matrix}
 use Rattle.usable.specs.Table.{Usable-table}
-use Rattle.usable.proofs.TableLaws.{over-table, shut-table}
-use Rattle.survey.specs.Survey.{Parents-by, Cuts-shown, Surveys}
+use Rattle.usable.proofs.TableLaws.{shut-table}
+use Rattle.survey.specs.Survey.{Parents-by, Parents-shown, Cuts-shown, Surveys}
 use Rattle.survey.proofs.WordLaws.{words-again}
 
 -- WHAT THE TEST OF THE TOTAL TELLS
@@ -37,21 +40,31 @@ module _ (v b : ℕ) where
   unfolding outcome-at
   over-at h = rw (lt-leb v b h)
 
-  pub shown-within : shows-tree (outcome-at b (some v)) ≡ true → v ≤ b
-  unfolding outcome-at
-  shown-within h = go (leb v b) refl h
-    where
-      go : (t : Bool) → leb v b ≡ t → shows-tree (cond t (Plan v) (Over v)) ≡ true → v ≤ b
-      go true e h = leb-true v b e
-      go false e h = absurd (true≢false (sym h))
+  -- the limit has room for the total, and is within a bound on both
+  pub limit-within : v ≤ limit-at b (some v)
+  unfolding limit-at
+  limit-within = omega arith
 
-  pub hidden-past : shows-tree (outcome-at b (some v)) ≡ false → b < v
-  unfolding outcome-at
-  hidden-past h = go (leb v b) refl h
+  pub limit-most : (k : ℕ) → v ≤ k → b ≤ k → limit-at b (some v) ≤ k
+  unfolding limit-at
+  limit-most k h l = omega arith
+
+  -- tree and cuts are shown with a total alike, within the budget or over it
+  pub tree-at : (s : Instance) (ps : List ℕ) → is-arborescence s ps ≡ true → total s ps ≡ v → Parents-shown (outcome-at b (some v)) s ps
+  unfolding outcome-at Parents-by
+  tree-at s ps a e = go (leb v b)
     where
-      go : (t : Bool) → leb v b ≡ t → shows-tree (cond t (Plan v) (Over v)) ≡ false → b < v
-      go true e h = absurd (true≢false h)
-      go false e h = leb-false v b e
+      go : (t : Bool) → Parents-shown (cond t (Plan v) (Over v)) s ps
+      go true = (a, e)
+      go false = (a, e)
+
+  pub cuts-at : (s : Instance) (cs : List Cut) → Proves s cs v → Cuts-shown (outcome-at b (some v)) s cs
+  unfolding outcome-at Cuts-shown
+  cuts-at s cs p = go (leb v b)
+    where
+      go : (t : Bool) → Cuts-shown (cond t (Plan v) (Over v)) s cs
+      go true = p
+      go false = p
 
 -- WHAT PLANNING THE MATRIX OF AN INSTANCE TELLS OF IT
 module _ (s : Instance) (small : s .n ≤ max-vertices) (reduced words : List ℕ) (r : Planned)
@@ -87,44 +100,36 @@ module _ (s : Instance) (small : s .n ≤ max-vertices) (reduced words : List �
         words-again (r .count) words (omega (arith, proves .few, cut-count, p .cuts-size))
         (p .rest f ∙ drop-replicate (2 * r .count) cut-words 0)
 
-    module _ (o : Outcome) (q : o ≡ outcome-at (s .budget) (some (r .total))) where
-      -- over the budget: no tree is shown, and no arc is usable
-      pub over-survey : shows-tree o ≡ false →
-          Surveys s (record { outcome = o; parents = replicate max-vertices no-parent; pairs = r .count; cuts = words; used = replicate cells 0 })
-      unfolding Parents-by Cuts-shown
-      over-survey h =
-          let past = hidden-past (r .total) (s .budget) (subst (λ (x : Outcome). shows-tree x ≡ false) q h) in
-          let is : outcome s ≡ Over (r .total) = proved-over s ps cs found-tree (proves .feasible) adds (omega (arith, same)) ∙ ap Over (sym same) in
-          record {
-            result = q ∙ over-at (r .total) (s .budget) past ∙ sym is;
-            places = refl;
-            parents-found = rw is (take-replicate (s .n) max-vertices no-parent small);
-            cut-list = cs;
-            counted = sym cut-count;
-            cuts-found = rw is proves;
-            words = found-words;
-            table =
-                over-table (s .n) (s .root) (s .budget) (matrix s) small cs (p .minimum f .proved .feasible)
-                (omega (arith, p .minimum f .proved .adds, p .is-total f));
-          }
+    found-cheapest : cheapest s ≡ some (r .total)
+    found-cheapest = proved-cheapest s ps cs found-tree (proves .feasible) adds ∙ ap some (sym same)
 
-      -- within the budget
-      pub plan-survey : (used : List ℕ) → shows-tree o ≡ true → Usable-table (matrix-instance (s .n) (s .root) (s .budget) (matrix s)) used →
-          Surveys s (record { outcome = o; parents = r .parents; pairs = r .count; cuts = words; used = used })
-      unfolding Parents-by Cuts-shown
-      plan-survey used h table =
-          let within = shown-within (r .total) (s .budget) (subst (λ (x : Outcome). shows-tree x ≡ true) q h) in
-          let is : outcome s ≡ Plan (r .total) = proved-plan s ps cs found-tree (proves .feasible) adds (omega (arith, same)) ∙ ap Plan (sym same) in
-          record {
-            result = q ∙ plan-at (r .total) (s .budget) within ∙ sym is;
-            places = p .parents-size;
-            parents-found = rw is (found-tree, sym same);
-            cut-list = cs;
-            counted = sym cut-count;
-            cuts-found = rw is proves;
-            words = found-words;
-            table = table;
-          }
+    found-outcome : outcome s ≡ outcome-at (s .budget) (some (r .total))
+    unfolding outcome
+    found-outcome = ap (outcome-at (s .budget)) found-cheapest
+
+    found-limit : total-limit s ≡ limit-at (s .budget) (some (r .total))
+    unfolding total-limit
+    found-limit = ap (limit-at (s .budget)) found-cheapest
+
+    -- the least total is within the greatest budget, as the budget is
+    pub total-small : valid-instance s ≡ true → r .total ≤ max-budget
+    total-small valid = subst (λ (v : ℕ). v ≤ max-budget) (sym same) (total-most s valid ps found-tree)
+
+    -- an arborescence: its tree and cuts are shown, within the budget or over it
+    pub found-survey : (o : Outcome) (limit : ℕ) (used : List ℕ) → o ≡ outcome-at (s .budget) (some (r .total)) → limit ≡ limit-at (s .budget) (some (r .total)) →
+        Usable-table (matrix-instance (s .n) (s .root) limit (matrix s)) used →
+        Surveys s (record { outcome = o; parents = r .parents; pairs = r .count; cuts = words; used = used })
+    found-survey o limit used q e table =
+        record {
+          result = q ∙ sym found-outcome;
+          places = p .parents-size;
+          parents-found = rw found-outcome (tree-at (r .total) (s .budget) s ps found-tree (sym same));
+          cut-list = cs;
+          counted = sym cut-count;
+          cuts-found = rw found-outcome (cuts-at (r .total) (s .budget) s cs proves);
+          words = found-words;
+          table = subst (λ (k : ℕ). Usable-table (matrix-instance (s .n) (s .root) k (matrix s)) used) (e ∙ sym found-limit) table;
+        }
 
   -- no arborescence
   pub none-survey : r .found ≡ false →
@@ -142,5 +147,5 @@ module _ (s : Instance) (small : s .n ≤ max-vertices) (reduced words : List �
         counted = refl;
         cuts-found = rw is (x, refl, e);
         words = refl;
-        table = shut-table (s .n) (s .root) (s .budget) (matrix s) small x (p .no-entry f);
+        table = shut-table (s .n) (s .root) (total-limit s) (matrix s) small x (p .no-entry f);
       }

@@ -11,7 +11,7 @@ use Rattle.instance.specs.Arborescence.{is-arborescence, total}
 use Rattle.instance.specs.Cuts.{Cut, words-of, Proves, No-entry}
 use Rattle.instance.specs.declared.Outcome.{Outcome}
 use Rattle.instance.specs.declared.Outcome.the-variants.{Plan, Over, NoTree}
-use Rattle.instance.specs.States.{shows-tree, total-in, outcome}
+use Rattle.instance.specs.States.{shows-tree, total-in, outcome, total-limit}
 use Rattle.instance.specs.Matrix.{matrix, matrix-instance}
 use Rattle.usable.specs.Table.{Usable-table}
 use Rattle.survey.specs.declared.Survey.{Survey}
@@ -39,4 +39,4 @@ pub record Surveys (s : Instance) (r : Survey) : Type 0 where
   pub counted : r .pairs ≡ length cut-list
   pub cuts-found : Cuts-shown (outcome s) s cut-list
   pub words : r .cuts ≡ words-of cut-list
-  pub table : Usable-table (matrix-instance (s .n) (s .root) (s .budget) (matrix s)) (r .used)
+  pub table : Usable-table (matrix-instance (s .n) (s .root) (total-limit s) (matrix s)) (r .used)

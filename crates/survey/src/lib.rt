@@ -1,5 +1,6 @@
 // Planning an instance: its remaining arcs, a minimum weight arborescence with the cuts that prove its total, and the
-// arcs that some arborescence within budget uses. No card and no board can be seen from here.
+// arcs that some arborescence uses within the larger of the budget and the cheapest total. No card and no board can be
+// seen from here.
 ghost use mathlib.Core.Path.{_≡_};
 ghost use mathlib.Core.Bool.{true};
 ghost use mathlib.Core.Option.{some};
@@ -7,7 +8,7 @@ ghost use lib.ListN.{length, set as set-at, replicate};
 ghost use Rattle.instance.specs.Limits.{max-vertices, no-parent, cells, cut-words};
 ghost use Rattle.instance.specs.Valid.{valid-instance};
 ghost use Rattle.instance.specs.Instance.{instance-with};
-ghost use Rattle.instance.specs.States.{outcome-at as outcome-by};
+ghost use Rattle.instance.specs.States.{outcome-at as outcome-by, limit-at as limit-by};
 ghost use Rattle.instance.specs.declared.Outcome.the-variants as outcomes;
 ghost use Rattle.survey.specs.Survey.{Surveys};
 use instance::Outcome;
@@ -16,12 +17,11 @@ use instance::limits::CELLS;
 use instance::limits::CUT_WORDS;
 use instance::limits::NO_PARENT;
 use instance::limits::VERTICES;
-use instance::shows_tree;
 use remaining::remaining_matrix;
 use usable::usable_arcs;
 
 // What planning found: the outcome, the parents of the tree that is shown, the number of cuts, the cuts as pairs of
-// words, and 1 at each arc that some arborescence within budget uses.
+// words, and 1 at each arc that some arborescence within the limit uses.
 pub struct Survey {
     pub outcome: Outcome,
     pub parents: [u8; VERTICES],
@@ -39,26 +39,29 @@ fn outcome_at(budget: u32, total: u32) -> Outcome
     Outcome::Over(total)
 }
 
-// No tree is shown, and no arc is usable.
-fn without_tree(outcome: Outcome, pairs: u32, cuts: [u32; CUT_WORDS]) -> Survey
-    ensures { λ r. ⌜ r ≡ record { outcome = outcome; parents = replicate max-vertices no-parent; pairs = pairs; cuts = cuts; used = replicate cells 0 } ⌝ }
+// What a total may be at most for the states: the larger of the two.
+fn limit_at(budget: u32, total: u32) -> u32
+    ensures { λ r. ⌜ r ≡ limit-by budget (some total) ⌝ }
 {
-    Survey {
-        outcome,
-        parents: [NO_PARENT; VERTICES],
-        pairs,
-        cuts,
-        used: [0u8; CELLS],
+    if budget < total {
+        return total;
     }
+    budget
 }
 
-// No arborescence: one pair, a set that no remaining arc enters and the value 0.
+// No arborescence: no tree is shown, and no arc is usable; one pair, a set that no remaining arc enters and the value 0.
 fn no_tree(set: u32) -> Survey
     ensures { λ r. ⌜ r ≡ record { outcome = outcomes.NoTree; parents = replicate max-vertices no-parent; pairs = 1; cuts = set-at (replicate cut-words 0) 0 set; used = replicate cells 0 } ⌝ }
 {
     let mut cuts = [0u32; CUT_WORDS];
     cuts[0] = set;
-    without_tree(Outcome::NoTree, 1, cuts)
+    Survey {
+        outcome: Outcome::NoTree,
+        parents: [NO_PARENT; VERTICES],
+        pairs: 1,
+        cuts,
+        used: [0u8; CELLS],
+    }
 }
 
 pub fn plan_instance<'a>(
@@ -82,10 +85,8 @@ pub fn plan_instance<'a>(
     let total = p.total;
     let pairs = p.count;
     let outcome = outcome_at(budget, total);
-    if !shows_tree(outcome) {
-        return without_tree(outcome, pairs, cuts);
-    }
-    let used = usable_arcs(&m, &reduced, &parents, n, root, total, budget);
+    let limit = limit_at(budget, total);
+    let used = usable_arcs(&m, &reduced, &parents, n, root, total, limit);
     Survey {
         outcome,
         parents,

@@ -19,10 +19,10 @@ pub fn look_at(p: Problem) -> Shown {
     calls::look(boards::of_problem(p))
 }
 
-// Whether a state fits the shown tree: "closed" where the arc does not remain or there is no tree within budget, not
-// "closed" in the tree, "sure" only in the tree.
+// Whether a state fits the shown tree: "closed" where the arc does not remain or there is no tree, not "closed" in the
+// tree, "sure" only in the tree.
 fn state_fits(state: u32, kind: u32, cost: u32, in_tree: bool) -> bool {
-    if kind != outcome::PLAN {
+    if kind == outcome::NONE {
         return state == 1;
     }
     if cost == ABSENT {
@@ -63,39 +63,41 @@ fn state_at(s: Shown, tail: u32, head: u32) -> u32 {
     )
 }
 
-// The kind of an instance by a look whose tree and cuts prove it, and UNPROVED where they do not.
-const UNPROVED: u32 = 9;
+// A total that a look's tree and cuts do not prove.
+const UNPROVED: u32 = ABSENT - 1;
 
-fn kind_with_mark(p: Problem, tail: u32, head: u32, mark: u8) -> u32 {
+// The cheapest total of an instance with that mark, by a look whose tree and cuts prove it; ABSENT without a tree.
+fn total_with_mark(p: Problem, tail: u32, head: u32, mark: u8) -> u32 {
     let q = worked::with_mark(p, tail, head, mark);
     let s = look_at(q);
     let table = problem::costs(q);
     if verdict::certified(&table, q.n, q.root, s) != 0 {
         return UNPROVED;
     }
-    s.kind
+    if s.kind == outcome::NONE {
+        return ABSENT;
+    }
+    s.total
 }
 
-// The state of an arc that remains, by document 01's words: whether a tree within budget uses it, and whether one
+// The state of an arc that remains under a limit on totals: by the cheapest tree that uses it, and the cheapest that
 // avoids it. A pinned arc that remains can not be avoided.
-fn state_of_remaining(p: Problem, tail: u32, head: u32) -> u32 {
-    let used = kind_with_mark(p, tail, head, PINNED);
-    if used == UNPROVED {
+fn state_of_remaining(p: Problem, limit: u32, tail: u32, head: u32) -> u32 {
+    let using = total_with_mark(p, tail, head, PINNED);
+    if using == UNPROVED {
         return UNPROVED;
     }
-    if used != outcome::PLAN {
-        return 1;
-    }
     if problem::mark_of(p, tail, head) == PINNED {
-        return 3;
+        return outcome::arc_state(limit, using, ABSENT);
     }
-    match kind_with_mark(p, tail, head, BANNED) {
-        outcome::PLAN => 2,
-        UNPROVED => UNPROVED,
-        _ => 3,
+    let avoiding = total_with_mark(p, tail, head, BANNED);
+    if avoiding == UNPROVED {
+        return UNPROVED;
     }
+    outcome::arc_state(limit, using, avoiding)
 }
 
+// Whether the state of an arc is right beside the cheapest total that the look showed.
 pub fn arc_right(p: Problem, s: Shown, tail: u32, head: u32) -> bool {
     let state = state_at(s, tail, head);
     if !problem::is_arc(p, tail, head) {
@@ -104,5 +106,10 @@ pub fn arc_right(p: Problem, s: Shown, tail: u32, head: u32) -> bool {
     if !problem::remains(p, tail, head) {
         return state == 1;
     }
-    state == state_of_remaining(p, tail, head)
+    let cheapest = if s.kind == outcome::NONE {
+        ABSENT
+    } else {
+        s.total
+    };
+    state == state_of_remaining(p, outcome::limit(cheapest, p.budget), tail, head)
 }

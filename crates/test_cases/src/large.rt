@@ -3,6 +3,7 @@
 // pinned and banned.
 use crate::exact;
 use crate::make;
+use crate::planted;
 use harness::calls::Shown;
 use harness::verdict;
 use reference::access;
@@ -49,9 +50,18 @@ fn is_right(p: Problem, s: Shown) -> bool {
     exact::states_fit(&table, p, s)
 }
 
+// A look that is over the budget, judged again with the one half and the other of a blank wall planted.
+fn with_blanks(tally: Tally, p: Problem, s: Shown) -> Tally {
+    if s.kind != outcome::OVER {
+        return tally;
+    }
+    let t = tally::planted(tally, !is_right(p, planted::without_tree(s, p.n)));
+    tally::planted(t, !is_right(p, planted::all_closed(s)))
+}
+
 fn with_look(tally: Tally, p: Problem, s: Shown) -> Tally {
     let t = tally::with(tally, access::plus(KINDS, s.kind), 1);
-    tally::checked(t, LOOKS, is_right(p, s))
+    with_blanks(tally::checked(t, LOOKS, is_right(p, s)), p, s)
 }
 
 // One arc that the generator picks, exactly.
@@ -72,7 +82,7 @@ fn tried(tally: Tally, p: Problem, budget: u32, g: Random) -> Tally {
 
 // A plan held to the instance with one of its arcs dearer by 1, or cheaper where it has the dearest weight: that has to
 // be reported, or the test could not fail.
-fn planted(tally: Tally, p: Problem, s: Shown, vertex: u32) -> Tally {
+fn with_changed_weight(tally: Tally, p: Problem, s: Shown, vertex: u32) -> Tally {
     let parents = s.parents;
     if vertex == p.root {
         return tally;
@@ -116,7 +126,7 @@ pub fn tried_all(tally: Tally, p: Problem, g: Random) -> Tally {
         return t;
     }
     tried_around(
-        planted(t, q, s, random::below(g, MAX_VERTICES)),
+        with_changed_weight(t, q, s, random::below(g, MAX_VERTICES)),
         p,
         s.total,
         g,

@@ -5,6 +5,7 @@ use reference::access;
 use reference::random;
 use reference::random::Random;
 use reference::shown::CUT_WORDS;
+use reference::shown::NO_PARENT;
 
 fn with_parent(shown: Shown, vertex: u32) -> Shown {
     let mut s = shown;
@@ -38,6 +39,29 @@ pub fn with_fault(shown: Shown, n: u32, root: u32, g: Random) -> Shown {
         4 => return with_parent(s, n),
         5 => return with_word(s, CUT_WORDS),
         _ => return with_state(s, random::below(random::next(g), access::times(n, n))),
+    }
+    s
+}
+
+// The blank wall that document 02, A2 does away with, in two halves: an outcome over the budget with no tree, and with
+// every arc closed.
+pub fn without_tree(shown: Shown, n: u32) -> Shown {
+    let mut s = shown;
+    for v in 0..buffers::PARENTS as u32 {
+        if v < n {
+            s.parents[v as usize] = NO_PARENT as u8;
+        }
+    }
+    s
+}
+
+pub fn all_closed(shown: Shown) -> Shown {
+    let mut s = shown;
+    for k in 0..buffers::STATES as u32 {
+        let state = s.states[k as usize];
+        if state == 2 || state == 3 {
+            s.states[k as usize] = 1;
+        }
     }
     s
 }

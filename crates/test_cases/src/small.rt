@@ -4,8 +4,10 @@ use crate::planted;
 use harness::boards;
 use harness::buffers;
 use harness::calls;
+use harness::calls::Shown;
 use harness::verdict;
 use reference::access;
+use reference::outcome;
 use reference::problem;
 use reference::problem::ABSENT;
 use reference::problem::CELLS;
@@ -41,6 +43,23 @@ fn with_states(tally: Tally, states: [u8; buffers::STATES], n: u32) -> Tally {
     t
 }
 
+// A look that is over the budget, judged again with the one half and the other of a blank wall planted.
+fn with_blanks(tally: Tally, table: &[u32; CELLS], list: Listing, p: Problem, s: Shown) -> Tally {
+    if s.kind != outcome::OVER {
+        return tally;
+    }
+    let bare = planted::without_tree(s, p.n);
+    let t = tally::planted(
+        tally,
+        verdict::against(table, list, p, bare) == verdict::PARENTS,
+    );
+    let closed = planted::all_closed(s);
+    tally::planted(
+        t,
+        verdict::against(table, list, p, closed) == verdict::STATES,
+    )
+}
+
 // A look under a budget, judged, and judged again with a fault planted.
 fn tried(tally: Tally, table: &[u32; CELLS], list: Listing, p: Problem, budget: u32) -> Tally {
     let q = worked::with_budget(p, budget);
@@ -50,7 +69,8 @@ fn tried(tally: Tally, table: &[u32; CELLS], list: Listing, p: Problem, budget: 
     let g = random::seeded(tally::count(t, LOOKS));
     let wrong = planted::with_fault(s, q.n, q.root, g);
     let u = tally::planted(t, verdict::against(table, list, q, wrong) != 0);
-    with_states(tally::with(u, access::plus(KINDS, s.kind), 1), states, q.n)
+    let v = with_blanks(u, table, list, q, s);
+    with_states(tally::with(v, access::plus(KINDS, s.kind), 1), states, q.n)
 }
 
 // Looks at, just below and just above a total, if there is one.

@@ -23,7 +23,7 @@ use Rattle.base.proofs.CondLaws.{cond-add, cond-le}
 use Rattle.instance.specs.Instance.{Instance, weight}
 use Rattle.instance.specs.Arborescence.{remaining, parent, reaches, is-arborescence, total, uses}
 use Rattle.instance.specs.Cuts.{Cut, inside, enters, charged, values, set-ok, sets-ok, Feasible, reduced-cost, No-entry}
-use Rattle.instance.specs.States.{total-limit, fits}
+use Rattle.instance.specs.States.{fits}
 use Rattle.instance.proofs.ArcLaws.{remaining-ends}
 use Rattle.instance.proofs.ArborescenceLaws.{joined}
 use Rattle.theory.proofs.StateLaws.{fits-arborescence, fits-total}
@@ -136,11 +136,11 @@ module _ (s : Instance) (ps : List ℕ) (a : is-arborescence s ps ≡ true) wher
         let p : paid cs h ≡ charged cs (parent ps h) h = rw e in
         omega arith
 
--- A REDUCED COST PAST THE BOUND EXCLUDES: "If total plus reduced price exceeds the budget, the link is closed"
-pub reduced-excludes : (s : Instance) (cs : List Cut) (t h : ℕ) → Feasible s cs → remaining s t h ≡ true
-    → total-limit s < values cs + reduced-cost s cs t h → (ps : List ℕ) → fits s ps ≡ true → uses ps t h ≡ false
+-- A REDUCED COST PAST THE BUDGET: no fitting arborescence uses the arc
+pub reduced-unused : (s : Instance) (cs : List Cut) (t h : ℕ) → Feasible s cs → remaining s t h ≡ true
+    → s .budget < values cs + reduced-cost s cs t h → (ps : List ℕ) → fits s ps ≡ true → uses ps t h ≡ false
 unfolding uses
-reduced-excludes s cs t h f r past ps fit =
+reduced-unused s cs t h f r past ps fit =
     let end = remaining-ends s t h r in
     ne-eqb (parent ps h) t
     (λ e.

@@ -4,11 +4,12 @@ pub mod CandidateLaws
 pub mod StateLaws
 pub mod OutcomeLaws
 pub mod TotalLaws
+pub mod SameArcs
 pub mod Duality
 pub mod Optimality
 pub mod Usable
-pub mod SameArcs
 pub mod Restriction
 pub mod Forced
+pub mod TotalLimit
 pub mod SameOutcomes
 pub mod MatrixInstances

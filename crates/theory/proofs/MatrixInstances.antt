@@ -8,13 +8,13 @@ use Prim.Native.Nat.{ℕ, _≤_}
 use native.Mathlib.Omega.{arith}
 use Rattle.base.proofs.BoolLaws.{same-test}
 use Rattle.instance.specs.Limits.{max-vertices}
-use Rattle.instance.specs.Instance.{Instance, is-arc, weight, mark}
-use Rattle.instance.specs.Arborescence.{is-pinned, other-pinned, remaining, is-arborescence, total}
+use Rattle.instance.specs.Instance.{Instance, instance-with}
+use Rattle.instance.specs.Arborescence.{remaining, is-arborescence, total}
 use Rattle.instance.specs.Matrix.{matrix, matrix-instance, unmarked}
 use Rattle.instance.specs.States.{fits}
 use Rattle.theory.specs.Usable.{usable}
 use Rattle.theory.proofs.StateLaws.{fits-arborescence, fits-total, make-fits}
-use Rattle.theory.proofs.SameArcs.{Same-arcs, same-back, same-arborescence, same-total}
+use Rattle.theory.proofs.SameArcs.{Same-arcs, same-back, budget-same, same-arborescence, same-total}
 use Rattle.theory.proofs.Usable.{usable-some}
 use Rattle.theory.proofs.Restriction.{matrix-same}
 
@@ -44,8 +44,8 @@ same-usable a b e f t h = same-test (usable a t h) (usable b t h) (usable-into a
 -- WHATEVER THE BUDGET
 module _ (n r b : ℕ) (m : List ℕ) where
   pub matrix-instance-same : Same-arcs (matrix-instance n r b m) (unmarked n r m)
-  unfolding unmarked remaining is-arc other-pinned is-pinned mark weight
-  matrix-instance-same = record { vertices = refl; roots = refl; arcs = λ t h. refl; weights = λ t h _. refl }
+  unfolding unmarked
+  matrix-instance-same = budget-same (unmarked n r m) b
 
   pub matrix-instance-remaining : (t h : ℕ) → remaining (matrix-instance n r b m) t h ≡ remaining (unmarked n r m) t h
   matrix-instance-remaining = matrix-instance-same .arcs
@@ -59,9 +59,12 @@ module _ (n r b : ℕ) (m : List ℕ) where
   pub matrix-instance-total : (ps : List ℕ) → is-arborescence (unmarked n r m) ps ≡ true → total (matrix-instance n r b m) ps ≡ total (unmarked n r m) ps
   matrix-instance-total ps a = same-total (matrix-instance n r b m) (unmarked n r m) matrix-instance-same ps (matrix-instance-arborescence ps .1 a)
 
--- USABLE IN THE MATRIX IS USABLE
-pub matrix-usable : (s : Instance) → s .n ≤ max-vertices → (t h : ℕ) → usable (matrix-instance (s .n) (s .root) (s .budget) (matrix s)) t h ≡ usable s t h
-matrix-usable s small =
-    let left = matrix-instance (s .n) (s .root) (s .budget) (matrix s) in
+-- USABLE IN THE MATRIX IS USABLE, under any budget
+pub matrix-usable : (s : Instance) (b : ℕ) → s .n ≤ max-vertices → (t h : ℕ)
+    → usable (matrix-instance (s .n) (s .root) b (matrix s)) t h ≡ usable (instance-with (s .n) (s .root) b (s .weights) (s .marks)) t h
+matrix-usable s b small =
+    let left = matrix-instance (s .n) (s .root) b (matrix s) in
     let whole = unmarked (s .n) (s .root) (matrix s) in
-    same-usable left s (same-on left whole s (matrix-instance-same (s .n) (s .root) (s .budget) (matrix s)) (matrix-same s small)) refl
+    let with-b = instance-with (s .n) (s .root) b (s .weights) (s .marks) in
+    let there = same-on left whole s (matrix-instance-same (s .n) (s .root) b (matrix s)) (matrix-same s small) in
+    same-usable left with-b (same-on left s with-b there (same-back with-b s (budget-same s b))) refl

@@ -17,7 +17,7 @@ use Rattle.instance.specs.Candidates.{arborescences, lesser, least-total, cheap
 use Rattle.instance.specs.declared.Outcome.{Outcome}
 use Rattle.instance.specs.declared.Outcome.the-variants.{Plan, Over, NoTree}
 use Rattle.instance.specs.States.{outcome-at, outcome}
-use Rattle.theory.specs.Readings.{Least-total, No-arborescence, Outcome-reads}
+use Rattle.theory.specs.Readings.{Least-total, No-arborescence, Cheapest-reads, Outcome-reads}
 use Rattle.theory.proofs.CandidateLaws.{any-selected, all-selected}
 
 -- THE LEAST TOTAL OF A LIST
@@ -61,10 +61,6 @@ least-of s [] = refl
 least-of s (ps ∷ pss) = least-step s ps pss (least-total s pss) (least-of s pss)
 
 -- THE CHEAPEST TOTAL
-unfoldable Cheapest-reads : Instance → Option ℕ → Type 0
-Cheapest-reads s none = No-arborescence s
-Cheapest-reads s (some v) = Least-total s v
-
 module _ (s : Instance) where
   all-are : (ps : List ℕ) → is-arborescence s ps ≡ true → is-arborescence s ps ≡ true
   all-are ps a = a
@@ -86,7 +82,7 @@ module _ (s : Instance) where
         least = λ ps a. leb-true v (total s ps) (all-selected s (is-arborescence s) all-are (λ qs. leb v (total s qs)) .0 (e .1) ps a);
       }
 
-  cheapest-reads : Cheapest-reads s (cheapest s)
+  pub cheapest-reads : Cheapest-reads s (cheapest s)
   unfolding cheapest
   cheapest-reads = from-list (least-total s (arborescences s)) (least-of s (arborescences s))
 
@@ -96,6 +92,17 @@ module _ (s : Instance) where
 
   pub least-some : (v : ℕ) → Least-total s v → No-arborescence s → ⊥
   least-some v a no-one = not-both (is-arborescence s (a .parents)) (a .arborescence) (no-one (a .parents))
+
+  -- whatever reads so is one total, or none
+  cheapest-once : (o p : Option ℕ) → Cheapest-reads s o → Cheapest-reads s p → o ≡ p
+  unfolding Cheapest-reads
+  cheapest-once none none a b = refl
+  cheapest-once none (some w) a b = absurd (least-some w b a)
+  cheapest-once (some v) none a b = absurd (least-some v a b)
+  cheapest-once (some v) (some w) a b = ap some (least-once v w a b)
+
+  pub cheapest-only : (o : Option ℕ) → Cheapest-reads s o → o ≡ cheapest s
+  cheapest-only o r = cheapest-once o (cheapest s) r cheapest-reads
 
 -- THE OUTCOME
 -- no outcome is two of these

@@ -1,18 +1,24 @@
 -- Instances with the same vertices, the same root and the same remaining arcs at the same weights have the same
--- arborescences, totals and cuts, whatever else their lists hold. Assumes nothing.
+-- arborescences, totals, cuts and cheapest total, whatever else their lists hold and whatever their budgets. Assumes
+-- nothing.
 use mathlib.Core.Path.{_≡_, refl, sym, ap, _∙_, subst}
 use mathlib.Core.Bool.{Bool, true, false, cond}
 use mathlib.Core.List.{List, [], _∷_}
+use mathlib.Core.Option.{Option, none, some}
 use Prim.Native.Nat.{ℕ, _≤_, _<_}
 use lib.Dec.{eqb}
 use lib.ListN.{length}
 use Rattle.base.specs.Bounded.{sum-below}
+use Rattle.base.proofs.BoolLaws.{is-false, not-both}
 use Rattle.base.proofs.BoundedLaws.{sum-eq}
 use Rattle.instance.specs.Limits.{cut-limit}
-use Rattle.instance.specs.Instance.{Instance, weight}
-use Rattle.instance.specs.Arborescence.{remaining, parent, is-arborescence, total}
+use Rattle.instance.specs.Instance.{Instance, instance-with, weight, mark, is-arc}
+use Rattle.instance.specs.Arborescence.{is-pinned, other-pinned, remaining, parent, is-arborescence, total}
+use Rattle.instance.specs.Candidates.{cheapest}
 use Rattle.instance.specs.Cuts.{Cut, charged, set-ok, sets-ok, Feasible, Proves, No-entry}
 use Rattle.instance.proofs.ArborescenceLaws.{parents-size, root-parent, joined, make-arborescence}
+use Rattle.theory.specs.Readings.{Least-total, No-arborescence, Cheapest-reads}
+use Rattle.theory.proofs.OutcomeLaws.{cheapest-reads, cheapest-only}
 
 pub record Same-arcs (a b : Instance) : Type 0 where
   pub vertices : a .n ≡ b .n
@@ -29,6 +35,17 @@ same-back a b e =
       weights = λ t h r. sym (e .weights t h (e .arcs t h ∙ r));
     }
 
+-- WHATEVER THE BUDGET
+module _ (s : Instance) (b : ℕ) where
+  pub budget-arc : (t h : ℕ) → is-arc (instance-with (s .n) (s .root) b (s .weights) (s .marks)) t h ≡ is-arc s t h
+  unfolding is-arc weight
+  budget-arc t h = refl
+
+  pub budget-same : Same-arcs (instance-with (s .n) (s .root) b (s .weights) (s .marks)) s
+  unfolding remaining is-arc other-pinned is-pinned mark weight
+  budget-same = record { vertices = refl; roots = refl; arcs = λ t h. refl; weights = λ t h _. refl }
+
+-- SAME ARBORESCENCES, TOTALS AND CUTS
 module _ (a b : Instance) (e : Same-arcs a b) where
   at-root : (v : ℕ) → eqb v (b .root) ≡ eqb v (a .root)
   at-root v = ap (λ (r : ℕ). eqb v r) (sym (e .roots))
@@ -87,3 +104,28 @@ module _ (a b : Instance) (e : Same-arcs a b) where
         value-zero = p .value-zero;
         shut = λ t h r. p .shut t h (e .arcs t h ∙ r);
       }
+
+-- SAME CHEAPEST TOTAL
+module _ (a b : Instance) (e : Same-arcs a b) where
+  back : (ps : List ℕ) → is-arborescence b ps ≡ true → is-arborescence a ps ≡ true
+  back = same-arborescence b a (same-back a b e)
+
+  least-there : (v : ℕ) → Least-total a v → Least-total b v
+  least-there v l =
+      record {
+        parents = l .parents;
+        arborescence = same-arborescence a b e (l .parents) (l .arborescence);
+        attained = sym (same-total a b e (l .parents) (l .arborescence)) ∙ l .attained;
+        least = λ ps x. subst (λ (w : ℕ). v ≤ w) (same-total a b e ps (back ps x)) (l .least ps (back ps x));
+      }
+
+  none-there : No-arborescence a → No-arborescence b
+  none-there n = λ ps. is-false (is-arborescence b ps) (λ x. not-both (is-arborescence a ps) (back ps x) (n ps))
+
+  cheapest-there : (o : Option ℕ) → Cheapest-reads a o → Cheapest-reads b o
+  unfolding Cheapest-reads
+  cheapest-there none r = none-there r
+  cheapest-there (some v) r = least-there v r
+
+  pub same-cheapest : cheapest a ≡ cheapest b
+  same-cheapest = cheapest-only b (cheapest a) (cheapest-there (cheapest a) (cheapest-reads a))

@@ -17,7 +17,7 @@ use Rattle.base.proofs.ListLaws.{length-tabulate, getD-tabulate, tabulate-is}
 use Rattle.base.proofs.GridLaws.{grid-row, grid-column}
 use Rattle.instance.specs.Instance.{Instance, is-arc}
 use Rattle.instance.specs.Arborescence.{is-arborescence, total, uses}
-use Rattle.instance.specs.States.{total-limit, fits, fitting, state-over, state, states}
+use Rattle.instance.specs.States.{fits, fitting, raised, state-over, state, states}
 use Rattle.theory.specs.Readings.{Some-uses, Some-avoids, None-uses, All-use, State-reads, States-read}
 use Rattle.theory.proofs.CandidateLaws.{any-selected, all-selected, one-fails, none-passes}
 
@@ -25,21 +25,21 @@ use Rattle.theory.proofs.CandidateLaws.{any-selected, all-selected, one
 module _ (s : Instance) (ps : List ℕ) where
   pub fits-arborescence : fits s ps ≡ true → is-arborescence s ps ≡ true
   unfolding fits
-  fits-arborescence e = and-left (is-arborescence s ps) (leb (total s ps) (total-limit s)) e
+  fits-arborescence e = and-left (is-arborescence s ps) (leb (total s ps) (s .budget)) e
 
-  pub fits-total : fits s ps ≡ true → total s ps ≤ total-limit s
+  pub fits-total : fits s ps ≡ true → total s ps ≤ s .budget
   unfolding fits
-  fits-total e = leb-true (total s ps) (total-limit s) (and-right (is-arborescence s ps) (leb (total s ps) (total-limit s)) e)
+  fits-total e = leb-true (total s ps) (s .budget) (and-right (is-arborescence s ps) (leb (total s ps) (s .budget)) e)
 
-  pub make-fits : is-arborescence s ps ≡ true → total s ps ≤ total-limit s → fits s ps ≡ true
+  pub make-fits : is-arborescence s ps ≡ true → total s ps ≤ s .budget → fits s ps ≡ true
   unfolding fits
-  make-fits a l = and-both (is-arborescence s ps) (leb (total s ps) (total-limit s)) a (le-leb (total s ps) (total-limit s) l)
+  make-fits a l = and-both (is-arborescence s ps) (leb (total s ps) (s .budget)) a (le-leb (total s ps) (s .budget) l)
 
 -- ONE CELL
 module _ (s : Instance) (t h : ℕ) where
   -- the state from the two tests over all fitting lists
-  reads-cases : (a u w : Bool) → is-arc s t h ≡ a → (u ≡ true → Some-uses s t h) → (u ≡ false → None-uses s t h)
-      → (w ≡ true → All-use s t h) → (w ≡ false → Some-avoids s t h) → State-reads s t h (cond a (cond u (cond w 3 2) 1) 0)
+  reads-cases : (a u w : Bool) → is-arc s t h ≡ a → (u ≡ true → Some-uses (raised s) t h) → (u ≡ false → None-uses (raised s) t h)
+      → (w ≡ true → All-use (raised s) t h) → (w ≡ false → Some-avoids (raised s) t h) → State-reads s t h (cond a (cond u (cond w 3 2) 1) 0)
   reads-cases false u w e some none all one =
       record {
         absent = λ _. refl;
@@ -85,14 +85,17 @@ module _ (s : Instance) (t h : ℕ) where
   pub state-reads : State-reads s t h (state s t h)
   unfolding state state-over fitting
   state-reads =
-      reads-cases (is-arc s t h) (any-of used (fitting s)) (all-of used (fitting s)) refl (any-selected s (fits s) sound used .0)
-      (none-passes s (fits s) sound used) (all-selected s (fits s) sound used .0) (one-fails s (fits s) sound used)
+      reads-cases (is-arc s t h) (any-of used (fitting r)) (all-of used (fitting r)) refl (any-selected r (fits r) sound used .0)
+      (none-passes r (fits r) sound used) (all-selected r (fits r) sound used .0) (one-fails r (fits r) sound used)
     where
+      r : Instance
+      r = raised s
+
       used : List ℕ → Bool
       used ps = uses ps t h
 
-      sound : (ps : List ℕ) → fits s ps ≡ true → is-arborescence s ps ≡ true
-      sound ps = fits-arborescence s ps
+      sound : (ps : List ℕ) → fits r ps ≡ true → is-arborescence r ps ≡ true
+      sound ps = fits-arborescence r ps
 
   -- whatever reads so is one number
   pub reads-once : (v w : ℕ) → State-reads s t h v → State-reads s t h w → v ≡ w

@@ -1,6 +1,6 @@
 -- The state of an arc from usability alone: an arborescence has exactly one arc into each head, so an arc is mandatory
 -- exactly where it is usable and no other arc into its head is. Assumes nothing.
-use mathlib.Core.Path.{_≡_, refl, ap}
+use mathlib.Core.Path.{_≡_, refl, ap, _∙_}
 use mathlib.Core.Bool.{Bool, true, false, _&&_, not, cond}
 use mathlib.Core.List.{List}
 use mathlib.Core.Logic.{_↔_, ⊎-elim}
@@ -14,14 +14,15 @@ use Rattle.base.proofs.BoundedLaws.{any-intro, any-found}
 use Rattle.instance.specs.Instance.{Instance, is-arc}
 use Rattle.instance.specs.Arborescence.{remaining, parent, uses}
 use Rattle.instance.specs.Cuts.{Cut, values, Feasible, reduced-cost}
-use Rattle.instance.specs.States.{total-limit, fits, fitting, state-over, state}
+use Rattle.instance.specs.States.{fits, fitting, total-limit, raised, state-over, state}
 use Rattle.theory.specs.Readings.{Some-uses, None-uses, All-use}
 use Rattle.theory.specs.Usable.{usable}
 use Rattle.instance.proofs.ArcLaws.{arc-ends, remaining-ends}
 use Rattle.instance.proofs.ArborescenceLaws.{joined, uses-one, uses-parent, uses-remains}
 use Rattle.theory.proofs.CandidateLaws.{any-selected, all-selected, none-passes}
-use Rattle.theory.proofs.StateLaws.{fits-arborescence, state-reads}
-use Rattle.theory.proofs.Duality.{reduced-excludes}
+use Rattle.theory.proofs.SameArcs.{budget-arc}
+use Rattle.theory.proofs.StateLaws.{fits-arborescence}
+use Rattle.theory.proofs.Duality.{reduced-unused}
 
 module _ (s : Instance) (t h : ℕ) where
   pub usable-some : (usable s t h ≡ true) ↔ Some-uses s t h
@@ -44,9 +45,9 @@ module _ (s : Instance) (t h : ℕ) where
   pub lost-unusable : h < s .n → eqb h (s .root) ≡ false → remaining s t h ≡ false → usable s t h ≡ false
   lost-unusable l e r = is-false (usable s t h) (λ u. not-both (remaining s t h) (usable-remains l e u) r)
 
-  -- a reduced cost past the bound
-  pub reduced-unusable : (cs : List Cut) → Feasible s cs → remaining s t h ≡ true → total-limit s < values cs + reduced-cost s cs t h → usable s t h ≡ false
-  reduced-unusable cs f r past = usable-none .1 (reduced-excludes s cs t h f r past)
+  -- a reduced cost past the budget
+  pub reduced-unusable : (cs : List Cut) → Feasible s cs → remaining s t h ≡ true → s .budget < values cs + reduced-cost s cs t h → usable s t h ≡ false
+  reduced-unusable cs f r past = usable-none .1 (reduced-unused s cs t h f r past)
 
 module _ (s : Instance) (t h : ℕ) (x : is-arc s t h ≡ true) where
   -- another arc into the head is usable
@@ -85,17 +86,17 @@ module _ (s : Instance) (t h : ℕ) (x : is-arc s t h ≡ true) where
       at true e = is-false used (λ u. other-avoids e (all-used .0 u))
       at false e = all-used .1 (all-use e)
 
-  arc-state : state s t h ≡ cond (usable s t h) (cond other-usable 2 3) 1
-  unfolding state state-over usable
-  arc-state = rw x (swap (usable s t h) (all-of (λ ps. uses ps t h) (fitting s)) other-usable all-not-other)
+  arc-state : _≡_ {A = ℕ} (cond (usable s t h) (cond (all-of (λ ps. uses ps t h) (fitting s)) 3 2) 1) (cond (usable s t h) (cond other-usable 2 3) 1)
+  arc-state = swap (usable s t h) (all-of (λ ps. uses ps t h) (fitting s)) other-usable all-not-other
     where
       swap : (u a o : Bool) → a ≡ not o → _≡_ {A = ℕ} (cond u (cond a 3 2) 1) (cond u (cond o 2 3) 1)
       swap u a true e = rw e
       swap u a false e = rw e
 
--- THE STATE FROM USABILITY
+-- THE STATE FROM USABILITY, under the limit on totals
 pub state-usable : (s : Instance) (t h : ℕ)
-    → state s t h ≡ cond (is-arc s t h) (cond (usable s t h) (cond (any-below (s .n) (λ g. not (eqb g t) && usable s g h)) 2 3) 1) 0
+    → state s t h ≡ cond (is-arc s t h) (cond (usable (raised s) t h) (cond (any-below (s .n) (λ g. not (eqb g t) && usable (raised s) g h)) 2 3) 1) 0
+unfolding state state-over usable
 state-usable s t h =
-    ⊎-elim (λ (x : is-arc s t h ≡ true). rw x (arc-state s t h x)) (λ (x : is-arc s t h ≡ false). rw x (state-reads s t h .absent x))
-    (test (is-arc s t h))
+    ⊎-elim (λ (x : is-arc s t h ≡ true). rw x (arc-state (raised s) t h (budget-arc s (total-limit s) t h ∙ x)))
+    (λ (x : is-arc s t h ≡ false). rw x) (test (is-arc s t h))

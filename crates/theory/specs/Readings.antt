@@ -3,6 +3,7 @@
 use mathlib.Core.Path.{_≡_}
 use mathlib.Core.Bool.{true, false}
 use mathlib.Core.List.{List}
+use mathlib.Core.Option.{Option, none, some}
 use mathlib.Core.Logic.{_↔_}
 use Prim.Native.Nat.{ℕ, _+_, _*_, _≤_, _<_}
 use lib.ListN.{length, getD}
@@ -10,7 +11,7 @@ use Rattle.instance.specs.Instance.{Instance, is-arc}
 use Rattle.instance.specs.Arborescence.{is-arborescence, total, uses}
 use Rattle.instance.specs.declared.Outcome.{Outcome}
 use Rattle.instance.specs.declared.Outcome.the-variants.{Plan, Over, NoTree}
-use Rattle.instance.specs.States.{fits}
+use Rattle.instance.specs.States.{fits, raised}
 
 -- FITTING LISTS AND AN ARC ("Over the feed trees within budget")
 abbrev pub Some-fits : Instance → Type 0
@@ -29,13 +30,14 @@ abbrev pub All-use : Instance → (tail head : ℕ) → Type 0
 All-use s t h = (ps : List ℕ) → fits s ps ≡ true → uses ps t h ≡ true
 
 -- v is the state of the cell: "0 not a link; 1 closed, no tree uses it; 2 open, some use it and some don't; 3 sure,
--- there is at least one tree and all use it"
+-- there is at least one tree and all use it", over the trees within "the larger of the budget and the cheapest total"
+-- (02, A2)
 pub record State-reads (s : Instance) (t h v : ℕ) : Type 0 where
   pub absent : is-arc s t h ≡ false → v ≡ 0
   pub present : is-arc s t h ≡ true → (1 ≤ v) × (v ≤ 3)
-  pub excluded : is-arc s t h ≡ true → (v ≡ 1) ↔ None-uses s t h
-  pub optional : is-arc s t h ≡ true → (v ≡ 2) ↔ (Some-uses s t h × Some-avoids s t h)
-  pub mandatory : is-arc s t h ≡ true → (v ≡ 3) ↔ (Some-fits s × All-use s t h)
+  pub excluded : is-arc s t h ≡ true → (v ≡ 1) ↔ None-uses (raised s) t h
+  pub optional : is-arc s t h ≡ true → (v ≡ 2) ↔ (Some-uses (raised s) t h × Some-avoids (raised s) t h)
+  pub mandatory : is-arc s t h ≡ true → (v ≡ 3) ↔ (Some-fits (raised s) × All-use (raised s) t h)
 
 -- "the first n times n bytes, feeder by feeder"
 pub record States-read (s : Instance) (vs : List ℕ) : Type 0 where
@@ -51,6 +53,11 @@ pub record Least-total (s : Instance) (v : ℕ) : Type 0 where
 
 abbrev pub No-arborescence : Instance → Type 0
 No-arborescence s = (ps : List ℕ) → is-arborescence s ps ≡ false
+
+-- o is the cheapest total, where there is a tree
+unfoldable pub Cheapest-reads : Instance → Option ℕ → Type 0
+Cheapest-reads s none = No-arborescence s
+Cheapest-reads s (some v) = Least-total s v
 
 -- o is the outcome: "plan with its total; over with the cheapest total; none"
 pub record Outcome-reads (s : Instance) (o : Outcome) : Type 0 where

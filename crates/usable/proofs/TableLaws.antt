@@ -1,5 +1,5 @@
--- Laws of tables of arcs: adding an arborescence; and a table with nothing in it, which is right where no arborescence
--- fits. Assumes nothing.
+-- Laws of tables of arcs: adding an arborescence; and a table with nothing in it, which is right where there is no
+-- arborescence. Assumes nothing.
 use mathlib.Core.Path.{_≡_, refl, sym, _∙_}
 use mathlib.Core.Bool.{true, false, _&&_, not, cond}
 use mathlib.Core.List.{List}
@@ -14,15 +14,14 @@ use borrow.Author.Tests.{lt-ltb, le-ltb, eq-eqb, ne-eqb}
 use Rattle.base.proofs.BoolLaws.{and-false-right}
 use Rattle.base.proofs.FillingLaws.{ltb-more}
 use Rattle.instance.specs.Limits.{max-vertices, cells}
-use Rattle.instance.specs.Instance.{Instance, cell}
+use Rattle.instance.specs.Instance.{cell}
 use Rattle.instance.specs.Arborescence.{parent, uses}
-use Rattle.instance.specs.Cuts.{Cut, values, Feasible, No-entry}
+use Rattle.instance.specs.Cuts.{Cut, No-entry}
 use Rattle.instance.specs.Matrix.{matrix-instance, unmarked}
-use Rattle.instance.specs.States.{fits}
-use Rattle.theory.proofs.StateLaws.{fits-arborescence, fits-total}
-use Rattle.theory.proofs.Duality.{weak-duality, no-entry}
+use Rattle.theory.proofs.StateLaws.{fits-arborescence}
+use Rattle.theory.proofs.Duality.{no-entry}
 use Rattle.theory.proofs.Usable.{usable-none}
-use Rattle.theory.proofs.MatrixInstances.{matrix-instance-arborescence, matrix-instance-total}
+use Rattle.theory.proofs.MatrixInstances.{matrix-instance-arborescence}
 use Rattle.usable.specs.Table.{is-used, Usable-table, in-tree, Tree-added}
 
 -- ADDING AN ARBORESCENCE
@@ -77,32 +76,16 @@ module _ (root : ℕ) (ps before : List ℕ) where
           rw (z, getD-set-same after (cell p v) 1 0 (omega arith), d, g, more-own root ps v p e, eq-eqb (parent ps v) p (sym q))
       cases i b (no z) = rw (getD-set-other after (cell p v) i 1 0 z) (other i b z (ℕ-discrete (i % 32) v))
 
--- NOTHING FITS
-empty-table : (s : Instance) → s .n ≤ max-vertices → ((ps : List ℕ) → fits s ps ≡ true → ⊥) → Usable-table s (replicate cells 0)
-empty-table s small u =
+-- NO ARC ENTERS SOME SET, so that no arborescence fits and no arc is usable
+pub shut-table : (n root b : ℕ) (m : List ℕ) → n ≤ max-vertices → (c : Cut) → No-entry (unmarked n root m) c → Usable-table (matrix-instance n root b m) (replicate cells 0)
+shut-table n root b m small c e =
+    let s = matrix-instance n root b m in
     record {
       exact =
-          λ t h l m.
+          λ t h l k.
           let z : is-used (replicate cells 0) t h ≡ false = rw (getD-replicate {A = ℕ} cells (cell t h) 0 0 (omega arith)) in
-          z ∙ sym (usable-none s t h .1 (λ ps f. absurd (u ps f)));
+          z
+          ∙ sym
+          (usable-none s t h .1
+          (λ ps f. absurd (no-entry (unmarked n root m) ps (matrix-instance-arborescence n root b m ps .0 (fits-arborescence s ps f)) c e)));
     }
-
-module _ (n root b : ℕ) (m : List ℕ) (small : n ≤ max-vertices) where
-  abbrev s : Instance
-  s = matrix-instance n root b m
-
-  -- the cuts add to more than the budget
-  pub over-table : (cs : List Cut) → Feasible (unmarked n root m) cs → b < values cs → Usable-table s (replicate cells 0)
-  over-table cs f past =
-      empty-table s small
-      (λ ps x.
-      let a = matrix-instance-arborescence n root b m ps .0 (fits-arborescence s ps x) in
-      let least = weak-duality (unmarked n root m) ps a cs f in
-      let same = matrix-instance-total n root b m ps a in
-      let most = fits-total s ps x in
-      omega arith)
-
-  -- no arc enters some set
-  pub shut-table : (c : Cut) → No-entry (unmarked n root m) c → Usable-table s (replicate cells 0)
-  shut-table c e =
-      empty-table s small (λ ps x. no-entry (unmarked n root m) ps (matrix-instance-arborescence n root b m ps .0 (fits-arborescence s ps x)) c e)

@@ -2,15 +2,15 @@
 use mathlib.Core.Path.{_≡_, refl, sym, _∙_, subst}
 use mathlib.Core.Bool.{true}
 use mathlib.Core.List.{List}
+use mathlib.Core.Option.{some}
 use Prim.Native.Nat.{ℕ}
 use lib.ListN.{replicate}
 use borrow.Author.Needs.{needs}
 use borrow.Author.Tests.{not-true, not-false}
-use Rattle.instance.specs.Limits.{cut-words}
+use Rattle.instance.specs.Limits.{max-budget, cut-words}
 use Rattle.instance.specs.Instance.{Instance, instance-with}
 use Rattle.instance.specs.Matrix.{matrix, matrix-instance, Matrix-ok}
-use Rattle.instance.specs.declared.Outcome.{Outcome}
-use Rattle.instance.specs.States.{shows-tree}
+use Rattle.instance.specs.States.{limit-at}
 use Rattle.instance.proofs.ValidLaws.{valid-budget}
 use Rattle.instance.proofs.MatrixLaws.{matrix-budget, valid-matrix}
 use Rattle.edmonds.specs.Planned.{Planned-matrix}
@@ -18,7 +18,7 @@ use Rattle.usable.specs.Fitting.{Fitting-plan}
 use Rattle.usable.specs.Table.{Usable-table}
 use Rattle.usable.proofs.FittingLaws.{planned-fitting}
 use Rattle.survey.specs.Survey.{Surveys}
-use Rattle.survey.proofs.SurveyLaws.{shown-within, none-survey, over-survey, plan-survey}
+use Rattle.survey.proofs.SurveyLaws.{limit-within, limit-most, none-survey, total-small, found-survey}
 use Rattle.survey.proofs.plan_instance.Statement.{statement}
 use Rattle.survey.proofs.plan_instance.Tie as tie
 
@@ -67,58 +67,43 @@ returns c =
     subst (Surveys s) (sym (c .no-tree .ensures))
     (none-survey s (ok (start-of p) .small) _ _ (p .plan-matrix .result) (planned p) (not-true (p .plan-matrix .result .found) (c .before .if1 .taken)))
 
--- AN ARBORESCENCE IS FOUND, and its outcome
-abbrev plan-of : tie.After-outcome-at → tie.After-plan-matrix
-plan-of c = c .before .before .before .before
+-- AN ARBORESCENCE IS FOUND, with its outcome and the limit on totals
+abbrev plan-of : tie.After-limit-at → tie.After-plan-matrix
+plan-of c = c .before .before .before .before .before
 
-found : (c : tie.After-outcome-at) → plan-of c .plan-matrix .result .found ≡ true
-found c = not-false (plan-of c .plan-matrix .result .found) (c .before .before .if1 .left)
+found : (c : tie.After-limit-at) → plan-of c .plan-matrix .result .found ≡ true
+found c = not-false (plan-of c .plan-matrix .result .found) (c .before .before .before .if1 .left)
 
 outcome-at-requires : tie.Need-outcome-at-requires
 outcome-at-requires c κs = search needs
 
-shows-tree-requires : tie.Need-shows-tree-requires
-shows-tree-requires c κs = search needs
+limit-at-requires : tie.Need-limit-at-requires
+limit-at-requires c κs = search needs
 
-without-tree-requires : tie.Need-without-tree-requires
-without-tree-requires c κs = search needs
-
-returns-2 : tie.Need-returns-2
-returns-2 c =
-    let a = c .before .before in
-    let o = a .before in
-    let p = plan-of o in
-    let s = inst (start-of p) in
-    let hidden = sym (a .shows-tree .ensures) ∙ not-true (a .shows-tree .result) (c .before .if2 .taken) in
-    subst (Surveys s) (sym (c .without-tree .ensures))
-    (over-survey s (ok (start-of p) .small) _ _ (p .plan-matrix .result) (planned p) (found o) (o .outcome-at .result) (o .outcome-at .ensures) hidden)
-
--- WITHIN BUDGET
-shown : (c : tie.Else2) → shows-tree (c .before .before .outcome-at .result) ≡ true
-shown c = sym (c .before .shows-tree .ensures) ∙ not-false (c .before .shows-tree .result) (c .if2 .left)
-
-same-matrix : (c : tie.After-outcome-at) → matrix (inst (start-of (plan-of c))) ≡ plan-of c .before .before .before .remaining-matrix .result
+same-matrix : (c : tie.After-limit-at) → matrix (inst (start-of (plan-of c))) ≡ plan-of c .before .before .before .remaining-matrix .result
 same-matrix c = sym (made-is (plan-of c .before .before .before))
 
 usable-arcs-requires : tie.Need-usable-arcs-requires
 usable-arcs-requires c κs =
-    let x = c .before .before .before in
-    let o = x .before .before in
-    let p = plan-of o in
+    let k = c .before .before .before in
+    let p = plan-of k in
     let s = inst (start-of p) in
     let r = p .plan-matrix .result in
-    let within = shown-within (r .total) (s .budget) (subst (λ (y : Outcome). shows-tree y ≡ true) (o .outcome-at .ensures) (shown x)) in
-    subst (λ (m : List ℕ). Fitting-plan m (p .plan-matrix .last .0) (r .parents) (s .n) (s .root) (r .total) (s .budget)) (same-matrix o)
-    (planned-fitting (s .n) (s .root) _ _ _ _ r (s .budget) (ok (start-of p)) (planned p) (found o) within (valid-budget s (start-of p .pre .0)))
+    let valid = start-of p .pre .0 in
+    let most = total-small s (ok (start-of p) .small) _ _ r (planned p) (found k) valid in
+    let fits = limit-most (r .total) (s .budget) max-budget most (valid-budget s valid) in
+    rw (k .limit-at .ensures)
+    (subst (λ (m : List ℕ). Fitting-plan m (p .plan-matrix .last .0) (r .parents) (s .n) (s .root) (r .total) (limit-at (s .budget) (some (r .total)))) (same-matrix k)
+    (planned-fitting (s .n) (s .root) _ _ _ _ r _ (ok (start-of p)) (planned p) (found k) (limit-within (r .total) (s .budget)) fits))
 
-returns-3 : tie.Need-returns-3
-returns-3 c =
-    let x = c .before .before .before .before in
-    let o = x .before .before in
-    let p = plan-of o in
+returns-2 : tie.Need-returns-2
+returns-2 c =
+    let k = c .before .before .before .before in
+    let o = k .before in
+    let p = plan-of k in
     let s = inst (start-of p) in
-    plan-survey s (ok (start-of p) .small) _ _ (p .plan-matrix .result) (planned p) (found o) (o .outcome-at .result) (o .outcome-at .ensures) _ (shown x)
-    (subst (λ (m : List ℕ). Usable-table (matrix-instance (s .n) (s .root) (s .budget) m) (c .usable-arcs .result)) (sym (same-matrix o)) (c .usable-arcs .ensures))
+    found-survey s (ok (start-of p) .small) _ _ (p .plan-matrix .result) (planned p) (found k) (o .outcome-at .result) (k .limit-at .result) _ (o .outcome-at .ensures) (k .limit-at .ensures)
+    (subst (λ (m : List ℕ). Usable-table (matrix-instance (s .n) (s .root) (k .limit-at .result) m) (c .usable-arcs .result)) (sym (same-matrix k)) (c .usable-arcs .ensures))
 
 pub plan-instance-spec : {M : Type 1} → statement M
 plan-instance-spec =
@@ -129,8 +114,6 @@ plan-instance-spec =
     no-tree-requires
     returns
     outcome-at-requires
-    shows-tree-requires
-    without-tree-requires
-    returns-2
+    limit-at-requires
     usable-arcs-requires
-    returns-3)
+    returns-2)
