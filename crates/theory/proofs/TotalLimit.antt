@@ -48,10 +48,10 @@ module _ (s : Instance) where
   pub within-limit : (ps : List ℕ) → (fits (raised s) ps ≡ true) ↔ ((is-arborescence s ps ≡ true) × (total s ps ≤ total-limit s))
   within-limit ps = (
     (λ f.
-    let a = fits-arborescence (raised s) ps f in
-    let l = fits-total (raised s) ps f in
-    let e = same-total (raised s) s there ps a in
-    (same-arborescence (raised s) s there ps a, omega arith)),
+        let a = fits-arborescence (raised s) ps f in
+        let l = fits-total (raised s) ps f in
+        let e = same-total (raised s) s there ps a in
+        (same-arborescence (raised s) s there ps a, omega arith)),
     (λ x. let e = same-total s (raised s) back ps (x .0) in make-fits (raised s) ps (same-arborescence s (raised s) back ps (x .0)) (omega (arith, x .1))),
   )
 
