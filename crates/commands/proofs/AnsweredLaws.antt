@@ -20,12 +20,12 @@ use Rattle.base.proofs.AllOfLaws.{all-of-first, all-of-rest, all-of-more}
 use Rattle.instance.specs.Limits.{max-vertices, max-budget, free, banned, max-records, cells}
 use Rattle.instance.specs.Refusals.{bad-budget, history-full, invalid-board}
 use Rattle.instance.specs.Marks.{mark-number}
-use Rattle.instance.specs.Instance.{Instance, cell, weight, mark, can-be-arc, is-arc}
+use Rattle.instance.specs.Instance.{Instance, with-budget, cell, weight, mark, can-be-arc, is-arc}
 use Rattle.instance.specs.Valid.{cell-ok, cell-valid}
 use Rattle.instance.specs.declared.Mark.{Mark}
 use Rattle.instance.specs.declared.Mark.the-variants.{Free, Pinned, Banned}
 use Rattle.instance.proofs.ValidLaws.{arc-in-range}
-use Rattle.commands.specs.Model.{Replaced, old-mark, old-budget, Model, with-mark, with-budget, restored}
+use Rattle.commands.specs.Model.{Replaced, old-mark, old-budget, Model, with-mark, restored}
 use Rattle.commands.specs.Valid.{record-ok, valid}
 use Rattle.commands.specs.Commands.{Command, set-mark, set-budget, undo, refused, accepted, decided, arc-refusal, mark-refusal, marked, budget-refusal, budgeted, undone, applied, answered, command-numbers}
 use Rattle.commands.specs.Changes.{is-undo}
@@ -85,7 +85,6 @@ mark-valid m t h b k v e rs few ok =
 budget-valid :
     (v : ℕ) (b : Model) → v ≤ max-budget → Valid b → (rs : List Replaced) → length rs ≤ max-records → all-of (record-ok (b .instance)) rs ≡ true →
     Valid (record { instance = with-budget v (b .instance); history = rs })
-unfolding with-budget
 budget-valid v b k d rs few ok =
     let s = b .instance in
     record {

@@ -14,10 +14,10 @@ use Rattle.base.proofs.BoolLaws.{not-both, and-left, and-both}
 use Rattle.instance.specs.Limits.{max-vertices, free, banned}
 use Rattle.instance.specs.Refusals.{invalid-board}
 use Rattle.instance.specs.Marks.{mark-number}
-use Rattle.instance.specs.Instance.{Instance, cell, is-arc}
+use Rattle.instance.specs.Instance.{Instance, with-budget, cell, is-arc}
 use Rattle.instance.specs.declared.Mark.{Mark}
 use Rattle.instance.proofs.ArcLaws.{arc-ends}
-use Rattle.commands.specs.Model.{Replaced, old-mark, old-budget, Model, with-mark, with-budget, restored}
+use Rattle.commands.specs.Model.{Replaced, old-mark, old-budget, Model, with-mark, restored}
 use Rattle.commands.specs.Valid.{record-ok, valid}
 use Rattle.commands.specs.Commands.{Command, set-mark, set-budget, undo, refused, accepted, marked, budgeted, undone, applied, answered}
 use Rattle.commands.specs.Changes.{is-cell, restores-cell, restores-budget, names-cell, names-budget, Differs-only, Changes-only-named}
@@ -48,7 +48,6 @@ mark-differs s m t h l =
     }
 
 budget-differs : (s : Instance) (v : ℕ) → Differs-only (λ i. false) true s (with-budget v s)
-unfolding with-budget
 budget-differs s v =
     record { n = refl; root = refl; weights = refl; marks-length = refl; marks = λ i _. refl; budget = λ e. absurd (true≢false e) }
 

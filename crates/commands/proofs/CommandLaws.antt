@@ -12,10 +12,10 @@ use borrow.Author.Tests.{ltb-false, leb-false, not-false}
 use Rattle.instance.specs.Limits.{max-budget, free, max-records}
 use Rattle.instance.specs.Refusals.{bad-budget, history-full}
 use Rattle.instance.specs.Marks.{mark-number}
-use Rattle.instance.specs.Instance.{Instance, cell, mark-at, weight, mark, is-arc}
+use Rattle.instance.specs.Instance.{Instance, with-budget, cell, mark-at, weight, mark, is-arc}
 use Rattle.instance.specs.Matrix.{unmarked}
 use Rattle.instance.specs.declared.Mark.{Mark}
-use Rattle.commands.specs.Model.{Replaced, old-mark, old-budget, Model, with-mark, with-budget, restored}
+use Rattle.commands.specs.Model.{Replaced, old-mark, old-budget, Model, with-mark, restored}
 use Rattle.commands.specs.Commands.{Command, set-mark, set-budget, undo, Result, refused, accepted, decided, arc-refusal, mark-refusal, marked, budget-refusal, budgeted, undone, applied}
 use Rattle.commands.specs.Changes.{is-undo}
 
@@ -113,7 +113,7 @@ unfolding accepted applied undone restored
 mark-undone b m t h e = λ j. record { answer = 0; board = record { instance = mark-back (b .instance) m t h j; history = b .history } }
 
 budget-undone : (b : Model) (v : ℕ) → Undone-by-undo b (accepted (old-budget (b .instance .budget)) (with-budget v (b .instance)) b)
-unfolding accepted applied undone restored with-budget
+unfolding accepted applied undone restored
 budget-undone b v e = refl
 
 pub undo-restores :

@@ -17,9 +17,9 @@ use Rattle.base.proofs.ListLaws.{length-tabulate, getD-tabulate, tabulate-is}
 use Rattle.instance.specs.Limits.{max-vertices, max-budget, free, max-records, cells}
 use Rattle.instance.specs.Refusals.{bad-budget, history-full}
 use Rattle.instance.specs.Marks.{mark-number}
-use Rattle.instance.specs.Instance.{Instance, cell, mark-at, mark, is-arc}
+use Rattle.instance.specs.Instance.{Instance, with-budget, cell, mark-at, mark, is-arc}
 use Rattle.instance.specs.declared.Mark.{Mark}
-use Rattle.commands.specs.Model.{with-mark, with-budget}
+use Rattle.commands.specs.Model.{with-mark}
 use Rattle.commands.specs.Commands.{Command, set-mark, set-budget, undo}
 use Rattle.commands.specs.Log.{Entry, entry-mark, entry-budget, Log, Noted, new-log, with-entries, unnoted, noted, note-arcs, note-mark, note-budget, note-undo, note, log-length, log-after}
 use Rattle.commands.specs.Effective.{effective-mark, effective-budget, effective}
@@ -67,11 +67,11 @@ over-mark s es m t h lt lh =
     λ j. record { n = s .n; root = s .root; budget = effective-budget es s; weights = s .weights; marks = e j }
 
 pub over-budget : (s : Instance) (es : List Entry) (v : ℕ) → with-budget v (over es s) ≡ over (entry-budget v ∷ es) s
-unfolding effective effective-budget effective-mark with-budget
+unfolding effective effective-budget effective-mark
 over-budget s es v = refl
 
 pub budget-back : (s : Instance) (es : List Entry) (v : ℕ) → with-budget (over es s .budget) (over (entry-budget v ∷ es) s) ≡ over es s
-unfolding effective effective-budget effective-mark with-budget
+unfolding effective effective-budget effective-mark
 budget-back s es v = refl
 
 -- A CELL THAT IS NO ARC: every entry of a log that began empty names an arc of its card

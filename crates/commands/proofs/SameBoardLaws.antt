@@ -12,12 +12,12 @@ use Rattle.base.proofs.StoreLaws.{store-alike}
 use Rattle.instance.specs.Limits.{free, banned, max-records}
 use Rattle.instance.specs.Refusals.{history-empty, invalid-board}
 use Rattle.instance.specs.Marks.{mark-number}
-use Rattle.instance.specs.Instance.{Instance, cell, weight, mark}
+use Rattle.instance.specs.Instance.{Instance, with-budget, cell, weight, mark}
 use Rattle.instance.specs.Valid.{valid-instance}
 use Rattle.instance.specs.Same.{Same-instance}
 use Rattle.instance.specs.declared.Mark.{Mark}
 use Rattle.instance.proofs.SameLaws.{same-is-arc, same-arc-mark, same-valid-instance}
-use Rattle.commands.specs.Model.{Replaced, old-mark, old-budget, Model, with-mark, with-budget, restored}
+use Rattle.commands.specs.Model.{Replaced, old-mark, old-budget, Model, with-mark, restored}
 use Rattle.commands.specs.Valid.{record-ok, valid}
 use Rattle.commands.specs.Commands.{Command, set-mark, set-budget, undo, Result, refused, accepted, decided, mark-refusal, marked, budget-refusal, budgeted, undone, applied, answered, answers, board-after}
 use Rattle.commands.specs.SameBoard.{Same-board, Same-result}
@@ -37,7 +37,7 @@ module _ (a b : Instance) (e : Same-instance a b) where
       }
 
   with-budget-same : (v : ℕ) → Same-instance (with-budget v a) (with-budget v b)
-  unfolding with-budget weight mark
+  unfolding weight mark
   with-budget-same v =
       record { same-n = e .same-n; same-root = e .same-root; same-budget = refl; same-weights = e .same-weights; same-marks = e .same-marks }
 
@@ -100,7 +100,6 @@ module _ (a b : Model) (s : Same-board a b) where
   mark-sizes m t h = length-set (sa .marks) (cell t h) m ∙ s .same-sizes ∙ sym (length-set (sb .marks) (cell t h) m)
 
   budget-sizes : (v : ℕ) → length (with-budget v sa .marks) ≡ length (with-budget v sb .marks)
-  unfolding with-budget
   budget-sizes v = s .same-sizes
 
   mark-refusal-same : (t h : ℕ) → mark-refusal sa (length (a .history)) t h ≡ mark-refusal sb (length (b .history)) t h

@@ -13,12 +13,12 @@ use Rattle.base.specs.Lists.{all-of}
 use Rattle.base.proofs.BoolLaws.{and-left, and-right}
 use Rattle.base.proofs.AllOfLaws.{all-of-eq}
 use Rattle.instance.specs.Limits.{max-vertices, max-budget, banned, max-records, cells}
-use Rattle.instance.specs.Instance.{Instance, cell, weight, is-arc}
+use Rattle.instance.specs.Instance.{Instance, with-budget, cell, weight, is-arc}
 use Rattle.instance.specs.Matrix.{unmarked}
 use Rattle.instance.specs.Valid.{cell-valid, header-valid, valid-instance}
 use Rattle.instance.proofs.ArcLaws.{arc-ends}
 use Rattle.instance.proofs.ValidLaws.{valid-some, valid-small, valid-root, valid-budget, valid-cells}
-use Rattle.commands.specs.Model.{Replaced, old-mark, old-budget, Model, opened, with-budget}
+use Rattle.commands.specs.Model.{Replaced, old-mark, old-budget, Model, opened}
 use Rattle.commands.specs.Valid.{record-ok, valid}
 
 -- what a valid board is, part by part
@@ -82,7 +82,7 @@ records-ok-of s rs = all-of-eq (record-ok (unmarked (s .n) (s .root) (s .weights
 
 -- cells are judged without the budget
 pub cells-valid-of : (s : Instance) (v : ℕ) → all-below cells (cell-valid (with-budget v s)) ≡ all-below cells (cell-valid s)
-unfolding cell-valid with-budget
+unfolding cell-valid
 cells-valid-of s v = refl
 
 -- a record of a valid board names a cell of the arrays

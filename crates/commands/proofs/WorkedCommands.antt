@@ -12,7 +12,7 @@ use Rattle.instance.specs.Instance.{Instance, weight, mark, can-be-arc, is-arc}
 use Rattle.instance.specs.declared.Mark.the-variants.{Free, Pinned, Banned}
 use Rattle.instance.specs.Valid.{cell-ok, cell-valid, header-valid, valid-instance}
 use Rattle.instance.proofs.WorkedCases.{arc, filled, instance-from, instance-q}
-use Rattle.commands.specs.Model.{Replaced, old-mark, old-budget, Model, opened, with-mark, with-budget, restored}
+use Rattle.commands.specs.Model.{Replaced, old-mark, old-budget, Model, opened, with-mark, restored}
 use Rattle.commands.specs.Valid.{record-ok, valid}
 use Rattle.commands.specs.Commands.{Command, set-mark, set-budget, undo, refused, accepted, decided, arc-refusal, mark-refusal, marked, budget-refusal, budgeted, undone, applied, answered, answers, board-after}
 use Rattle.commands.specs.Log.{new-log, with-entries, log-length, unnoted, noted, note-arcs, note-mark, note-budget, note-undo, note, log-answers, log-after}
@@ -143,7 +143,7 @@ runs =
 -- THE CLAIM ABOUT COMMANDS
 pub run : map (λ r. on-board (r .from) (r .commands) ∷ in-log (r .from) (r .commands) ∷ []) runs ≡ map (λ r. r .leaves ∷ r .leaves ∷ []) runs
 unfolding
-    runs on-board in-log all-marks instance-q instance-from filled tabulate-from tabulate weight mark can-be-arc is-arc opened with-mark with-budget
+    runs on-board in-log all-marks instance-q instance-from filled tabulate-from tabulate weight mark can-be-arc is-arc opened with-mark
     restored refused accepted decided arc-refusal mark-refusal marked budget-refusal budgeted undone applied answers board-after new-log with-entries
     log-length unnoted noted note-arcs note-mark note-budget note-undo note effective-mark effective-budget effective log-answers log-after
 run = refl

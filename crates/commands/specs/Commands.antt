@@ -7,9 +7,9 @@ use lib.ListN.{length}
 use Rattle.instance.specs.Limits.{max-budget, max-records}
 use Rattle.instance.specs.Refusals.{no-vertex, no-such-arc, bad-budget, history-full, history-empty, invalid-board}
 use Rattle.instance.specs.Marks.{mark-number}
-use Rattle.instance.specs.Instance.{Instance, is-arc, mark}
+use Rattle.instance.specs.Instance.{Instance, with-budget, mark, is-arc}
 use Rattle.instance.specs.declared.Mark.{Mark}
-use Rattle.commands.specs.Model.{Replaced, old-mark, old-budget, Model, with-mark, with-budget, restored}
+use Rattle.commands.specs.Model.{Replaced, old-mark, old-budget, Model, with-mark, restored}
 use Rattle.commands.specs.Valid.{valid}
 
 -- Commands (document 01: presses and take-backs). "Pin, ban and clear set one link's mark .. A budget press sets the

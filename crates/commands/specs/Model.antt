@@ -3,7 +3,7 @@
 use mathlib.Core.List.{List, []}
 use Prim.Native.Nat.{ℕ}
 use lib.ListN.{set}
-use Rattle.instance.specs.Instance.{Instance, cell}
+use Rattle.instance.specs.Instance.{Instance, with-budget, cell}
 
 -- An undo record (document 01: a record): what a command replaced.
 pub data Replaced : Type 0 where
@@ -22,9 +22,6 @@ opened s = record { instance = s; history = [] }
 unfoldable pub with-mark : (mark tail head : ℕ) → Instance → Instance
 with-mark m t h s =
     record { n = s .n; root = s .root; budget = s .budget; weights = s .weights; marks = set (s .marks) (cell t h) m }
-
-unfoldable pub with-budget : (budget : ℕ) → Instance → Instance
-with-budget b s = record { n = s .n; root = s .root; budget = b; weights = s .weights; marks = s .marks }
 
 -- "restores exactly the mark or budget it replaced"
 unfoldable pub restored : Replaced → Instance → Instance

@@ -5,9 +5,7 @@ use mathlib.Core.Bool.{Bool, true, false, true≢false}
 use mathlib.Core.List.{List, [], _∷_}
 use Prim.Native.Nat.{ℕ, _*_}
 use lib.ListN.{take}
-use Rattle.base.proofs.FrontLaws.{front-take}
 use Rattle.instance.specs.Instance.{Instance}
-use Rattle.instance.specs.States.{states}
 use Rattle.theory.specs.Readings.{States-read}
 use Rattle.theory.proofs.StateLaws.{states-read}
 use Rattle.card_format.specs.Card.{card-refusal, instance-in}
@@ -22,7 +20,7 @@ use Rattle.board.proofs.CallLaws.{call-changes}
 use Rattle.board.proofs.RunLaws.{Called, called-answers, Follows, call-follows}
 use Rattle.planner.specs.declared.View.{View}
 use Rattle.planner.specs.Looking.{Buffers, short-for, Looks-at}
-use Rattle.planner.proofs.CallSteps.{looks-valid}
+use Rattle.planner.proofs.CallSteps.{states-front, looks-valid}
 use Rattle.planner.proofs.Learnt.{Opened-by, opened-by, Looked, looked, Wrote}
 use Rattle.planner.proofs.OpeningLaws.{opened-starts}
 
@@ -59,14 +57,15 @@ run-follows (then-write l rest) k f = run-follows rest k f
 
 -- "every call's answer, accepted or the refusal's number, is the book's. A look at the last board, whatever buffers it
 -- is lent, gives 14 exactly when one is too short; otherwise the n times n states are those of 'Link states', over the
--- feed trees of the card's positions, root and prices under the standing marks, within the standing budget." 02, A2
--- amends the last words: "The claim about presses .. now use[s] the larger of the budget and the cheapest total".
+-- feed trees of the card's positions, root and prices under the standing marks, within the standing budget." The last
+-- words are amended: "The claim about presses and the rule on reduced prices now use the larger of the budget and the
+-- cheapest total" (02, A2).
 pub record Demand-3 (ws : List ℕ) (cs : List Command) (xs : List ℕ) (old new : Buffers) (v : View) : Type 0 where
   pub answers : xs ≡ log-answers cs (new-log (instance-in ws))
   pub last-look : Looks-at true (short-for (instance-in ws .n) old) (effective (log-after cs (new-log (instance-in ws)))) old new v
-  -- the n times n states in the buffer, read in document 01's words and in both directions: closed exactly when no
-  -- arborescence of the effective instance within that limit uses the arc, open exactly when some do and some don't, sure
-  -- exactly when there is one and all use it
+  -- the n times n states in the buffer, read in the documents' words and in both directions: closed exactly when no
+  -- arborescence of the effective instance within that limit uses the arc, open exactly when some do and some don't,
+  -- sure exactly when there is one and all use it
   pub states-shown :
       short-for (instance-in ws .n) old ≡ false →
       States-read (effective (log-after cs (new-log (instance-in ws)))) (take (instance-in ws .n * instance-in ws .n) (new .states))
@@ -74,9 +73,7 @@ pub record Demand-3 (ws : List ℕ) (cs : List Command) (xs : List ℕ) (old new
 shown-states : (t : Bool) (s : Instance) (v : View) (old new : Buffers) → Looks-at true t s old new v → t ≡ false → States-read s (take (s .n * s .n) (new .states))
 unfolding Looks-at
 shown-states true s v old new l e = absurd (true≢false e)
-shown-states false s v old new x e =
-    let reads = states-read s in
-    subst (States-read s) (sym (ap (take (s .n * s .n)) (x .states-buffer) ∙ front-take (states s) (old .states) (s .n * s .n) (reads .size))) reads
+shown-states false s v old new x e = subst (States-read s) (sym (states-front s v old new x)) (states-read s)
 
 pub demand-3 :
     (ws : List ℕ) (cs : List Command) (o : Answered) (xs : List ℕ) (last : Board) (v : View) (old new : Buffers) → card-refusal ws ≡ 0 →

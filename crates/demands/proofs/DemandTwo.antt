@@ -2,13 +2,12 @@
 -- parents in the buffer are those of an arborescence that keeps pins and bans and has the total shown, and the cuts in
 -- the buffer, each of a value of at least 1 and zeros after them, prove by weak duality that none is cheaper. Assumes
 -- nothing.
-use mathlib.Core.Path.{_≡_, sym, ap, _∙_}
+use mathlib.Core.Path.{_≡_}
 use mathlib.Core.Bool.{true, false}
 use mathlib.Core.List.{List}
 use mathlib.Core.Logic.{_⊎_, inl, inr}
 use Prim.Native.Nat.{ℕ, _*_, _≤_}
 use lib.ListN.{length, take}
-use Rattle.base.proofs.FrontLaws.{front-take}
 use Rattle.instance.specs.Limits.{banned, cut-words}
 use Rattle.instance.specs.Instance.{Instance, mark, is-arc}
 use Rattle.instance.specs.Arborescence.{is-pinned, is-arborescence, total, uses}
@@ -20,8 +19,7 @@ use Rattle.theory.specs.Readings.{Least-total, Outcome-reads}
 use Rattle.theory.proofs.Duality.{weak-duality, no-entry}
 use Rattle.theory.proofs.MarkLaws.{pinned-used, banned-unused}
 use Rattle.theory.proofs.OutcomeLaws.{outcome-reads}
-use Rattle.theory.proofs.StateLaws.{states-read}
-use Rattle.theory.proofs.TotalLimit.{cheapest-open}
+use Rattle.theory.proofs.OutcomeStates.{cheapest-usable}
 use Rattle.commands.specs.Valid.{valid}
 use Rattle.board.specs.ModelOf.{model-of, instance-of}
 use Rattle.board.specs.declared.Board.{Board}
@@ -30,7 +28,7 @@ use Rattle.survey.specs.Survey.{Parents-by, Parents-shown, Cuts-shown}
 use Rattle.planner.specs.declared.View.{View}
 use Rattle.planner.specs.declared.View.the-variants.{Shown}
 use Rattle.planner.specs.Looking.{Buffers, short-for}
-use Rattle.planner.proofs.CallSteps.{tree-long, words-long, looks-long}
+use Rattle.planner.proofs.CallSteps.{tree-front, states-front, words-front, looks-long}
 use Rattle.planner.proofs.Learnt.{Looked, looked}
 
 -- pins and bans are kept
@@ -38,13 +36,13 @@ pub record Keeps-marks (s : Instance) (parents : List ℕ) : Type 0 where
   pub pins : (t h : ℕ) → is-pinned s t h ≡ true → uses parents t h ≡ true
   pub bans : (t h : ℕ) → is-arc s t h ≡ true → mark s t h ≡ banned → uses parents t h ≡ false
 
--- a cheapest tree with its price: an arborescence of the total v that keeps the marks, none of whose arcs is shown
--- excluded, and cuts that add to v
-pub record Priced-tree (s : Instance) (tree : List ℕ) (cuts : List Cut) (v : ℕ) : Type 0 where
+-- a tree and what proves it cheapest: an arborescence of the total v that keeps the marks, none of whose arcs is shown
+-- excluded, and cuts that prove v
+pub record Proved-tree (s : Instance) (tree : List ℕ) (cuts : List Cut) (v : ℕ) : Type 0 where
   pub arborescence : is-arborescence s tree ≡ true
   pub costs : total s tree ≡ v
   pub marks-kept : Keeps-marks s tree
-  pub arcs-open : (t h : ℕ) → is-arc s t h ≡ true → uses tree t h ≡ true → 2 ≤ state s t h
+  pub arcs-usable : (t h : ℕ) → is-arc s t h ≡ true → uses tree t h ≡ true → 2 ≤ state s t h
   pub price : Proves s cuts v
 
 -- tree and cuts are free; what the buffers hold is told by them
@@ -58,7 +56,7 @@ pub record Demand-2 (s : Instance) (new : Buffers) (v : View) : Type 0 where
   pub right : Outcome-reads s (outcome s)
   pub tree-shown : Parents-shown (outcome s) s tree
   pub cuts-shown : Cuts-shown (outcome s) s cuts
-  pub priced : (w : ℕ) → (outcome s ≡ Plan w) ⊎ (outcome s ≡ Over w) → Priced-tree s tree cuts w
+  pub proved : (w : ℕ) → (outcome s ≡ Plan w) ⊎ (outcome s ≡ Over w) → Proved-tree s tree cuts w
   pub cheapest : (ps : List ℕ) → is-arborescence s ps ≡ true → values cuts ≤ total s ps
 
 no-cheaper : (o : Outcome) (s : Instance) (cs : List Cut) → Cuts-shown o s cs → (ps : List ℕ) → is-arborescence s ps ≡ true → values cs ≤ total s ps
@@ -69,20 +67,20 @@ no-cheaper NoTree s cs c ps a = absurd (no-entry s ps a (c .0) (c .2))
 
 -- what is shown with plan and with over
 module _ (s : Instance) (tree : List ℕ) (cuts : List Cut) where
-  priced-tree : (w : ℕ) → Least-total s w → (is-arborescence s tree ≡ true) × (total s tree ≡ w) → Proves s cuts w → Priced-tree s tree cuts w
-  priced-tree w least p c =
+  proved-tree : (w : ℕ) → Least-total s w → (is-arborescence s tree ≡ true) × (total s tree ≡ w) → Proves s cuts w → Proved-tree s tree cuts w
+  proved-tree w least p c =
       record {
         arborescence = p .0;
         costs = p .1;
         marks-kept = record { pins = pinned-used s tree (p .0); bans = banned-unused s tree (p .0) };
-        arcs-open = λ t h x u. cheapest-open s t h x tree w least (p .0) (p .1) u;
+        arcs-usable = λ t h x u. cheapest-usable s t h x tree w least (p .0) (p .1) u;
         price = c;
       }
 
-  priced-by : (w : ℕ) → (outcome s ≡ Plan w) ⊎ (outcome s ≡ Over w) → Parents-shown (outcome s) s tree → Cuts-shown (outcome s) s cuts → Priced-tree s tree cuts w
+  proved-by : (w : ℕ) → (outcome s ≡ Plan w) ⊎ (outcome s ≡ Over w) → Parents-shown (outcome s) s tree → Cuts-shown (outcome s) s cuts → Proved-tree s tree cuts w
   unfolding Parents-by Cuts-shown
-  priced-by w (inl e) p c = priced-tree w (outcome-reads s .plans w .0 e .0) (rw e at p) (rw e at c)
-  priced-by w (inr e) p c = priced-tree w (outcome-reads s .exceeds w .0 e .0) (rw e at p) (rw e at c)
+  proved-by w (inl e) p c = proved-tree w (outcome-reads s .plans w .0 e .0) (rw e at p) (rw e at c)
+  proved-by w (inr e) p c = proved-tree w (outcome-reads s .exceeds w .0 e .0) (rw e at p) (rw e at c)
 
 pub demand-2 :
     (b : Board) (v : View) (old new : Buffers) → Looked b old new v → valid (model-of b) ≡ true → short-for (b .n) old ≡ false → Demand-2 (instance-of b) new v
@@ -94,12 +92,12 @@ demand-2 b v old new l g t =
       tree = x .tree;
       cuts = x .cut-list;
       shown = x .result;
-      in-parents = ap (take (s .n)) (x .parents-buffer) ∙ front-take (x .tree) (old .parents) (s .n) (tree-long s v old new small x);
-      in-states = ap (take (s .n * s .n)) (x .states-buffer) ∙ front-take (states s) (old .states) (s .n * s .n) (states-read s .size);
-      in-cuts = ap (take cut-words) (x .cuts-buffer) ∙ front-take (words-of (x .cut-list)) (old .cuts) cut-words (words-long s v old new small x);
+      in-parents = tree-front s v old new x;
+      in-states = states-front s v old new x;
+      in-cuts = words-front s v old new x small;
       right = outcome-reads s;
       tree-shown = x .tree-shown;
       cuts-shown = x .cuts-shown;
-      priced = λ w e. priced-by s (x .tree) (x .cut-list) w e (x .tree-shown) (x .cuts-shown);
+      proved = λ w e. proved-by s (x .tree) (x .cut-list) w e (x .tree-shown) (x .cuts-shown);
       cheapest = no-cheaper (outcome s) s (x .cut-list) (x .cuts-shown);
     }

@@ -162,8 +162,8 @@ unfolding
     lesser least-total cheapest outcome-at outcome fits fitting limit-at total-limit state-over states
 root-two-worked = refl
 
--- P6 with any budget below its cheapest total: "the states are to be those for a budget equal to the cheapest total" (02,
--- A2), over both cheapest trees; either may be shown
+-- P6 with a budget of 3: "the states are to be those for a budget equal to the cheapest total" (02, A2), over both
+-- cheapest trees; either may be shown
 pub p6-over :
     computed (instance-q 3 (arc 0 1 banned ∷ []))
     ≡ record { gives = Over 16; parents = (255 ∷ 2 ∷ 0 ∷ 1 ∷ []) ∷ (255 ∷ 3 ∷ 1 ∷ 0 ∷ []) ∷ []; shows = 0 ∷ 1 ∷ 2 ∷ 2 ∷ 0 ∷ 0 ∷ 2 ∷ 2 ∷ 0 ∷ 2 ∷ 0 ∷ 1 ∷ 0 ∷ 2 ∷ 0 ∷ 0 ∷ [] }

@@ -1,6 +1,6 @@
--- P1 to P10 of document 01 ("Sheet Q and its outcomes"), as one list with one claim about the whole list: each outcome,
--- all states, and every list of parents that may be shown, among them those that document 01 shows. Computed. Assumes
--- nothing.
+-- P1 to P10 of document 01 ("Sheet Q and its outcomes"), P4 and P10 as 02, A2 amends them, as one list with one claim
+-- about the whole list: each outcome, all states, and every list of parents that may be shown, among them those that
+-- document 01 shows. Computed. Assumes nothing.
 use mathlib.Core.Path.{_≡_, refl}
 use mathlib.Core.Bool.{cond}
 use mathlib.Core.List.{List, [], _∷_, map}
@@ -43,8 +43,8 @@ instance-q b ms =
 unfoldable pub two : (budget : ℕ) → (marks : List At) → Instance
 two b ms = instance-from 2 0 b (arc 0 1 5 ∷ []) ms
 
--- What is claimed of an instance: its outcome, every list of parents that may be shown with it, and all states. One
--- list is named exactly where document 01's parents are the only cheapest ones.
+-- What is claimed of an instance: its outcome, every list of parents that may be shown with it, and all states. Where
+-- there is a tree and one list is named, document 01's parents are the only cheapest ones.
 pub record Row : Type 0 where
   pub gives : Outcome
   pub parents : List (List ℕ)

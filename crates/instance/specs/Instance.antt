@@ -18,6 +18,10 @@ pub record Instance : Type 0 where
 abbrev pub instance-with : (n root budget : ℕ) → (weights marks : List ℕ) → Instance
 instance-with n r b ws ms = record { n = n; root = r; budget = b; weights = ws; marks = ms }
 
+-- another budget
+abbrev pub with-budget : (budget : ℕ) → Instance → Instance
+with-budget b s = instance-with (s .n) (s .root) b (s .weights) (s .marks)
+
 -- for promises in which the budget has no part
 abbrev pub without-budget : (n root : ℕ) → (weights marks : List ℕ) → Instance
 without-budget n r ws ms = instance-with n r 0 ws ms

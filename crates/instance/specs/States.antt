@@ -5,7 +5,7 @@ use mathlib.Core.Option.{Option, none, some}
 use Prim.Native.Nat.{ℕ, max, _*_, _/_, _%_}
 use lib.Dec.{leb}
 use Rattle.base.specs.Lists.{tabulate, select, any-of, all-of}
-use Rattle.instance.specs.Instance.{Instance, instance-with, is-arc}
+use Rattle.instance.specs.Instance.{Instance, with-budget, is-arc}
 use Rattle.instance.specs.Arborescence.{is-arborescence, total, uses}
 use Rattle.instance.specs.Candidates.{candidates, cheapest}
 use Rattle.instance.specs.declared.Outcome.{Outcome}
@@ -51,8 +51,8 @@ unfoldable pub total-limit : Instance → ℕ
 total-limit s = limit-at (s .budget) (cheapest s)
 
 -- the instance with that for its budget
-abbrev pub raised : Instance → Instance
-raised s = instance-with (s .n) (s .root) (total-limit s) (s .weights) (s .marks)
+abbrev pub at-limit : Instance → Instance
+at-limit s = with-budget (total-limit s) s
 
 -- "0 not a link; 1 closed, no tree uses it; 2 open, some use it and some don't; 3 sure, there is at least one tree and
 -- all use it": no arc, excluded, optional, mandatory, over a list of arborescences
@@ -60,11 +60,11 @@ unfoldable pub state-over : List (List ℕ) → Instance → (tail head : ℕ) �
 state-over pss s t h =
     cond (is-arc s t h) (cond (any-of (λ ps. uses ps t h) pss) (cond (all-of (λ ps. uses ps t h) pss) 3 2) 1) 0
 
--- "Over the feed trees within budget", which 02, A2 amends: "when over budget, the states are to be those for a budget
--- equal to the cheapest total"
+-- "Over the feed trees within budget .. If there is no tree within budget, every link is closed." 02, A2 amends it:
+-- "when over budget, the states are to be those for a budget equal to the cheapest total". With no tree it stays.
 unfoldable pub state : Instance → (tail head : ℕ) → ℕ
-state s t h = state-over (fitting (raised s)) s t h
+state s t h = state-over (fitting (at-limit s)) s t h
 
 -- "n times n bytes, feeder by feeder"
 unfoldable pub states : Instance → List ℕ
-states s = let pss = fitting (raised s) in tabulate (s .n * s .n) (λ i. state-over pss s (i / s .n) (i % s .n))
+states s = let pss = fitting (at-limit s) in tabulate (s .n * s .n) (λ i. state-over pss s (i / s .n) (i % s .n))

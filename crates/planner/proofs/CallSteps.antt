@@ -4,8 +4,8 @@ use mathlib.Core.Path.{_≡_, ap, _∙_, subst}
 use mathlib.Core.Bool.{Bool, true, false}
 use Prim.Native.Nat.{ℕ, _*_, _≤_}
 use native.Mathlib.Omega.{arith}
-use lib.ListN.{length, drop}
-use Rattle.base.proofs.FrontLaws.{front-length, front-drop}
+use lib.ListN.{length, take, drop}
+use Rattle.base.proofs.FrontLaws.{front-length, front-take, front-drop}
 use Rattle.instance.specs.Limits.{max-vertices, cut-words}
 use Rattle.instance.specs.Instance.{Instance}
 use Rattle.instance.specs.Cuts.{words-of}
@@ -63,23 +63,34 @@ since-then a b =
 pub shown-answer : (s : Instance) (v : View) (old new : Buffers) → Shows s old new v → answer-of v ≡ 0
 shown-answer s v old new x = ap answer-of (x .result)
 
-module _ (s : Instance) (v : View) (old new : Buffers) (small : s .n ≤ max-vertices) (x : Shows s old new v) where
+module _ (s : Instance) (v : View) (old new : Buffers) (x : Shows s old new v) where
   pub tree-long : length (x .tree) ≡ s .n
   tree-long = parents-length (shows-tree (outcome s)) (total-in (outcome s)) s (x .tree) (x .tree-shown)
 
-  pub words-long : length (words-of (x .cut-list)) ≡ cut-words
-  words-long = words-length (outcome s) s (x .cut-list) small (x .cuts-shown)
+  pub words-long : s .n ≤ max-vertices → length (words-of (x .cut-list)) ≡ cut-words
+  words-long small = words-length (outcome s) s (x .cut-list) small (x .cuts-shown)
 
-  shown-since : Rooms (s .n) (length (old .parents)) (length (old .states)) (length (old .cuts)) → Since (s .n) old new
-  shown-since r =
+  -- what stands in the places that it fills
+  pub tree-front : take (s .n) (new .parents) ≡ x .tree
+  tree-front = ap (take (s .n)) (x .parents-buffer) ∙ front-take (x .tree) (old .parents) (s .n) tree-long
+
+  pub states-front : take (s .n * s .n) (new .states) ≡ states s
+  states-front = ap (take (s .n * s .n)) (x .states-buffer) ∙ front-take (states s) (old .states) (s .n * s .n) (states-read s .size)
+
+  pub words-front : s .n ≤ max-vertices → take cut-words (new .cuts) ≡ words-of (x .cut-list)
+  words-front small = ap (take cut-words) (x .cuts-buffer) ∙ front-take (words-of (x .cut-list)) (old .cuts) cut-words (words-long small)
+
+  shown-since : s .n ≤ max-vertices → Rooms (s .n) (length (old .parents)) (length (old .states)) (length (old .cuts)) → Since (s .n) old new
+  shown-since small r =
       let size = states-read s .size in
+      let words = words-long small in
       record {
         parents-long = ap length (x .parents-buffer) ∙ front-length (x .tree) (old .parents) (omega (arith, tree-long, r .for-parents));
         states-long = ap length (x .states-buffer) ∙ front-length (states s) (old .states) (omega (arith, size, r .for-states));
-        cuts-long = ap length (x .cuts-buffer) ∙ front-length (words-of (x .cut-list)) (old .cuts) (omega (arith, words-long, r .for-cuts));
+        cuts-long = ap length (x .cuts-buffer) ∙ front-length (words-of (x .cut-list)) (old .cuts) (omega (arith, words, r .for-cuts));
         parents-after = ap (drop (s .n)) (x .parents-buffer) ∙ front-drop (x .tree) (old .parents) (s .n) tree-long;
         states-after = ap (drop (s .n * s .n)) (x .states-buffer) ∙ front-drop (states s) (old .states) (s .n * s .n) size;
-        cuts-after = ap (drop cut-words) (x .cuts-buffer) ∙ front-drop (words-of (x .cut-list)) (old .cuts) cut-words words-long;
+        cuts-after = ap (drop cut-words) (x .cuts-buffer) ∙ front-drop (words-of (x .cut-list)) (old .cuts) cut-words words;
       }
 
 -- what a look at a valid board says
@@ -127,7 +138,7 @@ module _ (b : Board) (k : Log) (g : valid (model-of b) ≡ true) (y : Tied (mode
         tied = rw (m .2) y;
         good = rw (m .2) g;
         same-n = ap (λ (x : Board). x .n) (m .2);
-        since = shown-since (instance-of b) (m .0) old new (valid-parts (model-of b) g .n-high) x (rooms (b .n) (length (old .parents)) (length (old .states)) (length (old .cuts)) t);
+        since = shown-since (instance-of b) (m .0) old new x (valid-parts (model-of b) g .n-high) (rooms (b .n) (length (old .parents)) (length (old .states)) (length (old .cuts)) t);
       }
   call-step write r old new t m =
       record {

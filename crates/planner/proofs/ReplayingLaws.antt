@@ -128,9 +128,9 @@ shows-since s v old mid new small e x =
       result = x .result;
       tree-shown = x .tree-shown;
       cuts-shown = x .cuts-shown;
-      parents-buffer = x .parents-buffer ∙ same (s .n) (x .tree) (mid .parents) (old .parents) (tree-long s v mid new small x) (e .parents-after);
+      parents-buffer = x .parents-buffer ∙ same (s .n) (x .tree) (mid .parents) (old .parents) (tree-long s v mid new x) (e .parents-after);
       states-buffer = x .states-buffer ∙ same (s .n * s .n) (states s) (mid .states) (old .states) (states-read s .size) (e .states-after);
-      cuts-buffer = x .cuts-buffer ∙ same cut-words (words-of (x .cut-list)) (mid .cuts) (old .cuts) (words-long s v mid new small x) (e .cuts-after);
+      cuts-buffer = x .cuts-buffer ∙ same cut-words (words-of (x .cut-list)) (mid .cuts) (old .cuts) (words-long s v mid new x small) (e .cuts-after);
     }
 
 finish : (cs : List Call) (k : Log) (v : View) (xs₀ xs : List ℕ) (old new : Buffers) → xs ≡ in-front (call-answers cs k) xs₀ →

@@ -35,8 +35,8 @@ pub fn limit(cheapest: u32, budget: u32) -> u32 {
     budget
 }
 
-// "0 not a link; 1 closed, no tree uses it; 2 open, some use it and some don't; 3 sure, there is at least one tree and
-// all use it": of an arc, by the cheapest total of a tree that uses it, and of one that does not.
+// "1 closed, no tree uses it; 2 open, some use it and some don't; 3 sure, there is at least one tree and all use it":
+// of an arc, by the cheapest total of a tree that uses it, and of one that does not.
 pub fn arc_state(limit: u32, using: u32, avoiding: u32) -> u32 {
     if limit < using {
         return 1;
@@ -47,6 +47,7 @@ pub fn arc_state(limit: u32, using: u32, avoiding: u32) -> u32 {
     2
 }
 
+// "0 not a link", or the state of the arc.
 pub fn state(list: Listing, p: Problem, tail: u32, head: u32) -> u32 {
     if !problem::is_arc(p, tail, head) {
         return 0;

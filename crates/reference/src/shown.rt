@@ -74,8 +74,8 @@ pub fn tree_spans(parents: &[u8], n: u32, root: u32) -> bool {
 }
 
 // The parents of what is shown: a tree "picks one remaining link into each position except the root, so that every
-// position is reached from the root", with that total; "255 at the root", and everywhere when none: "when over budget ..
-// the feeder list holds a cheapest tree" (02, A2).
+// position is reached from the root", with that total; "255 at the root", and everywhere when none: "when over budget,
+// .. the feeder list holds a cheapest tree" (02, A2).
 pub fn parents_right(
     table: &[u32; CELLS], // the weights of the remaining arcs
     parents: &[u8], // the bytes that were shown, the parent of vertex k at place k
@@ -129,6 +129,20 @@ fn charge(cuts: &[u32], tail: u32, head: u32) -> u64 {
         }
     }
     sum
+}
+
+// "If total plus reduced price exceeds the budget, the link is closed", by "the larger of the budget and the cheapest
+// total" (02, A2): whether a remaining arc is closed so. Its reduced price is its weight less what the cuts charge it.
+pub fn reduced_closes(
+    cuts: &[u32], // the words that were shown
+    tail: u32, // the arc
+    head: u32,
+    weight: u32,
+    total: u32, // the cheapest total
+    limit: u32, // the larger of the budget and that
+) -> bool {
+    let room = std::num::wrapping_add_u64(wide(limit), charge(cuts, tail, head));
+    room < std::num::wrapping_add_u64(wide(total), wide(weight))
 }
 
 // "for each remaining link, the amounts of the cuts it enters add to at most its price".

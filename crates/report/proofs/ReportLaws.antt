@@ -8,9 +8,9 @@ use native.Mathlib.Omega.{arith}
 use native.Mathlib.Nat.{mul-le-mul}
 use borrow.Author.Tests.{le-ltb, lt-ltb, eq-eqb, ne-eqb}
 use lib.Dec.{ltb, eqb}
-use lib.ListN.{length, take, drop, length-append}
+use lib.ListN.{length, drop, length-append}
 use Rattle.base.proofs.BoolLaws.{or-both-false}
-use Rattle.base.proofs.FrontLaws.{front-length, front-take}
+use Rattle.base.proofs.FrontLaws.{front-length}
 use Rattle.instance.specs.Limits.{max-vertices, cells, cut-words}
 use Rattle.instance.specs.Refusals.{buffer-short}
 use Rattle.instance.specs.Instance.{Instance}
@@ -32,7 +32,7 @@ use Rattle.planner.specs.declared.View.the-variants.{Shown, Refused}
 use Rattle.planner.specs.Opening.{opened-from}
 use Rattle.planner.specs.Looking.{Buffers, too-short, Shows, Looks}
 use Rattle.commands.proofs.ValidLaws.{valid-fields}
-use Rattle.planner.proofs.CallSteps.{tree-long, looks-long}
+use Rattle.planner.proofs.CallSteps.{tree-long, tree-front, states-front, looks-long}
 use Rattle.planner.proofs.OpeningLaws.{opened-answer, opened-starts, opened-instance}
 use Rattle.report.specs.declared.Reported.{Reported}
 use Rattle.text.specs.Buffer.{Filled}
@@ -111,12 +111,6 @@ module _
     pub not-refused : (a : ℕ) → v ≡ Refused a → ⊥
     not-refused a e = shown-not-refused (sym (shows .result) ∙ e)
 
-    first-parents : take (b .n) (new .parents) ≡ shows .tree
-    first-parents = ap (take (b .n)) (shows .parents-buffer) ∙ front-take (shows .tree) (old .parents) (b .n) (tree-long S v old new small shows)
-
-    first-states : take (b .n * b .n) (new .states) ≡ states S
-    first-states = ap (take (b .n * b .n)) (shows .states-buffer) ∙ front-take (states S) (old .states) (b .n * b .n) (states-read S .size)
-
     pub text-shown : (o : Outcome) (k : ℕ) → v ≡ Shown o k → Text-of b o (new .parents) (new .states)
     text-shown o k e =
         record {
@@ -131,7 +125,7 @@ module _
         squares = mul-le-mul small small
 
         parents-size : length (new .parents) ≡ length (old .parents)
-        parents-size = ap length (shows .parents-buffer) ∙ front-length (shows .tree) (old .parents) (omega (arith, small, tree-long S v old new small shows))
+        parents-size = ap length (shows .parents-buffer) ∙ front-length (shows .tree) (old .parents) (omega (arith, small, tree-long S v old new shows))
 
         states-size : length (new .states) ≡ length (old .states)
         states-size = ap length (shows .states-buffer) ∙ front-length (states S) (old .states) (omega (arith, squares, states-read S .size))
@@ -140,7 +134,9 @@ module _
         found = shown-outcome (sym e ∙ shows .result)
 
         same : board-text b o (new .parents) (new .states) ≡ report-text S (outcome S) (shows .tree)
-        same = rw found (text-of-instance S (outcome S) (new .parents) (new .states) first-states) ∙ ap (report-text S (outcome S)) first-parents
+        same =
+            rw found (text-of-instance S (outcome S) (new .parents) (new .states) (states-front S v old new shows))
+            ∙ ap (report-text S (outcome S)) (tree-front S v old new shows)
 
         fits : length (board-text b o (new .parents) (new .states)) ≤ max-text
         fits = rw same (report-length S valid-S (shows .tree) (tree-parents (shows-tree (outcome S)) (total-in (outcome S)) S (shows .tree) (shows .tree-shown)))

@@ -1,5 +1,5 @@
-// The states of all cells, from the table of the arcs that some fitting arborescence uses. An arborescence has one arc
-// into each head, so a used arc is mandatory where it is the only used one into its head.
+// The states of all cells, from the table of the arcs that some arborescence within the limit uses. An arborescence has
+// one arc into each head, so a used arc is mandatory where it is the only used one into its head.
 ghost use mathlib.Core.Path.{_≡_};
 ghost use mathlib.Core.Bool.{_&&_, not, cond};
 ghost use Prim.Native.Nat.{_*_, _≤_, _<_};

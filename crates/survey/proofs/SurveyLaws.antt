@@ -40,17 +40,17 @@ module _ (v b : ℕ) where
   unfolding outcome-at
   over-at h = rw (lt-leb v b h)
 
-  -- the limit has room for the total, and is within a bound on both
-  pub limit-within : v ≤ limit-at b (some v)
+  -- the limit is at least the total, and within a bound on both
+  pub limit-least : v ≤ limit-at b (some v)
   unfolding limit-at
-  limit-within = omega arith
+  limit-least = omega arith
 
   pub limit-most : (k : ℕ) → v ≤ k → b ≤ k → limit-at b (some v) ≤ k
   unfolding limit-at
   limit-most k h l = omega arith
 
   -- tree and cuts are shown with a total alike, within the budget or over it
-  pub tree-at : (s : Instance) (ps : List ℕ) → is-arborescence s ps ≡ true → total s ps ≡ v → Parents-shown (outcome-at b (some v)) s ps
+  tree-at : (s : Instance) (ps : List ℕ) → is-arborescence s ps ≡ true → total s ps ≡ v → Parents-shown (outcome-at b (some v)) s ps
   unfolding outcome-at Parents-by
   tree-at s ps a e = go (leb v b)
     where
@@ -58,7 +58,7 @@ module _ (v b : ℕ) where
       go true = (a, e)
       go false = (a, e)
 
-  pub cuts-at : (s : Instance) (cs : List Cut) → Proves s cs v → Cuts-shown (outcome-at b (some v)) s cs
+  cuts-at : (s : Instance) (cs : List Cut) → Proves s cs v → Cuts-shown (outcome-at b (some v)) s cs
   unfolding outcome-at Cuts-shown
   cuts-at s cs p = go (leb v b)
     where
@@ -111,9 +111,9 @@ module _ (s : Instance) (small : s .n ≤ max-vertices) (reduced words : List �
     unfolding total-limit
     found-limit = ap (limit-at (s .budget)) found-cheapest
 
-    -- the least total is within the greatest budget, as the budget is
-    pub total-small : valid-instance s ≡ true → r .total ≤ max-budget
-    total-small valid = subst (λ (v : ℕ). v ≤ max-budget) (sym same) (total-most s valid ps found-tree)
+    -- its total is within the greatest budget
+    pub found-most : valid-instance s ≡ true → r .total ≤ max-budget
+    found-most valid = let most = total-most s valid ps found-tree in omega (arith, same)
 
     -- an arborescence: its tree and cuts are shown, within the budget or over it
     pub found-survey : (o : Outcome) (limit : ℕ) (used : List ℕ) → o ≡ outcome-at (s .budget) (some (r .total)) → limit ≡ limit-at (s .budget) (some (r .total)) →

@@ -16,7 +16,7 @@ use Rattle.instance.specs.Matrix.{matrix, matrix-instance}
 use Rattle.usable.specs.Table.{Usable-table}
 use Rattle.survey.specs.declared.Survey.{Survey}
 
--- the parents of an arborescence with the total v; or "255 .. everywhere"
+-- the parents of an arborescence with the total v; or "255 .. everywhere", for none
 unfoldable pub Parents-by : (shown : Bool) → (v : ℕ) → Instance → (parents : List ℕ) → Type 0
 Parents-by true v s ps = (is-arborescence s ps ≡ true) × (total s ps ≡ v)
 Parents-by false v s ps = ps ≡ replicate (s .n) no-parent

@@ -49,7 +49,7 @@ fn limit_at(budget: u32, total: u32) -> u32
     budget
 }
 
-// No arborescence: no tree is shown, and no arc is usable; one pair, a set that no remaining arc enters and the value 0.
+// No arborescence: no tree is shown and no arc is usable; one pair, a set that no remaining arc enters and the value 0.
 fn no_tree(set: u32) -> Survey
     ensures { λ r. ⌜ r ≡ record { outcome = outcomes.NoTree; parents = replicate max-vertices no-parent; pairs = 1; cuts = set-at (replicate cut-words 0) 0 set; used = replicate cells 0 } ⌝ }
 {

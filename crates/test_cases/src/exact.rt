@@ -13,36 +13,44 @@ use reference::problem::MAX_VERTICES;
 use reference::problem::PINNED;
 use reference::problem::Problem;
 use reference::problem::STRIDE;
+use reference::shown;
 use reference::worked;
 
 pub fn look_at(p: Problem) -> Shown {
     calls::look(boards::of_problem(p))
 }
 
-// Whether a state fits the shown tree: "closed" where the arc does not remain or there is no tree, not "closed" in the
-// tree, "sure" only in the tree.
-fn state_fits(state: u32, kind: u32, cost: u32, in_tree: bool) -> bool {
-    if kind == outcome::NONE {
+// Whether the state of a remaining arc fits the shown tree and cuts: "closed" where its reduced price says so, not
+// "closed" in the tree, "sure" only in the tree.
+fn remaining_fits(p: Problem, s: Shown, tail: u32, head: u32, weight: u32) -> bool {
+    let state = state_at(s, tail, head);
+    let parents = s.parents;
+    let cuts = s.cuts;
+    let limit = outcome::limit(s.total, p.budget);
+    if shown::reduced_closes(&cuts, tail, head, weight, s.total, limit) {
         return state == 1;
     }
-    if cost == ABSENT {
-        return state == 1;
-    }
-    if in_tree {
+    if access::byte(&parents, head) == tail {
         return 1 < state;
     }
     state < 3
 }
 
-// One state of an instance of 32 vertices against what a look showed beside it.
+// One state of an instance of 32 vertices against what a look showed beside it: "closed" where the arc does not remain
+// or there is no tree.
 fn fits_at(table: &[u32; CELLS], p: Problem, s: Shown, tail: u32, head: u32) -> bool {
-    let parents = s.parents;
     let state = state_at(s, tail, head);
+    let weight = table[problem::cell(tail, head)];
     if !problem::is_arc(p, tail, head) {
         return state == 0;
     }
-    let in_tree = access::byte(&parents, head) == tail;
-    state_fits(state, s.kind, table[problem::cell(tail, head)], in_tree)
+    if s.kind == outcome::NONE {
+        return state == 1;
+    }
+    if weight == ABSENT {
+        return state == 1;
+    }
+    remaining_fits(p, s, tail, head, weight)
 }
 
 pub fn states_fit(table: &[u32; CELLS], p: Problem, s: Shown) -> bool {
@@ -54,6 +62,13 @@ pub fn states_fit(table: &[u32; CELLS], p: Problem, s: Shown) -> bool {
     true
 }
 
+// Whether two looks show the same states.
+pub fn same_states(s: Shown, other: Shown) -> bool {
+    let states = s.states;
+    let others = other.states;
+    access::equal_bytes(&states, &others, CELLS as u32)
+}
+
 // A state of an instance of 32 vertices, whose states stand n to a row.
 fn state_at(s: Shown, tail: u32, head: u32) -> u32 {
     let states = s.states;
@@ -63,7 +78,7 @@ fn state_at(s: Shown, tail: u32, head: u32) -> u32 {
     )
 }
 
-// A total that a look's tree and cuts do not prove.
+// In the place of a total that a look's tree and cuts do not prove, and of a state that rests on it.
 const UNPROVED: u32 = ABSENT - 1;
 
 // The cheapest total of an instance with that mark, by a look whose tree and cuts prove it; ABSENT without a tree.

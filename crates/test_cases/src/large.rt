@@ -9,6 +9,7 @@ use harness::verdict;
 use reference::access;
 use reference::outcome;
 use reference::problem;
+use reference::problem::CELLS;
 use reference::problem::MAX_BUDGET;
 use reference::problem::MAX_VERTICES;
 use reference::problem::MAX_WEIGHT;
@@ -27,6 +28,8 @@ const LOOKS: u32 = 4;
 const KINDS: u32 = 5;
 
 const ARCS: u32 = 8;
+
+const OVERS: u32 = 9;
 
 // Whether the kind is that of a total under a budget; there is nothing to say of one without a tree.
 fn kind_right(kind: u32, total: u32, budget: u32) -> bool {
@@ -50,18 +53,23 @@ fn is_right(p: Problem, s: Shown) -> bool {
     exact::states_fit(&table, p, s)
 }
 
-// A look that is over the budget, judged again with the one half and the other of a blank wall planted.
-fn with_blanks(tally: Tally, p: Problem, s: Shown) -> Tally {
+// A look that is over the budget, with the faults that document 02, A2 does away with: no tree, and every arc closed.
+fn with_over_faults(tally: Tally, p: Problem, s: Shown) -> Tally {
     if s.kind != outcome::OVER {
         return tally;
     }
-    let t = tally::planted(tally, !is_right(p, planted::without_tree(s, p.n)));
-    tally::planted(t, !is_right(p, planted::all_closed(s)))
+    let table = problem::costs(p);
+    let bare = planted::without_tree(s, p.n);
+    let t = tally::planted(
+        tally,
+        verdict::certified(&table, p.n, p.root, bare) == verdict::PARENTS,
+    );
+    tally::planted(t, !exact::states_fit(&table, p, planted::all_closed(s)))
 }
 
 fn with_look(tally: Tally, p: Problem, s: Shown) -> Tally {
     let t = tally::with(tally, access::plus(KINDS, s.kind), 1);
-    with_blanks(tally::checked(t, LOOKS, is_right(p, s)), p, s)
+    with_over_faults(tally::checked(t, LOOKS, is_right(p, s)), p, s)
 }
 
 // One arc that the generator picks, exactly.
@@ -106,15 +114,26 @@ fn tried_within(tally: Tally, p: Problem, budget: u32, g: Random) -> Tally {
     tried(tally, p, budget, g)
 }
 
-// Budgets at the cheapest total, one below, one above, and somewhat above.
+// "when over budget, the states are to be those for a budget equal to the cheapest total": all of them, one below that
+// total. One changed state has to be reported.
+fn tried_over(tally: Tally, p: Problem, total: u32, g: Random) -> Tally {
+    if total == 0 {
+        return tally;
+    }
+    let t = tried(tally, p, total - 1, g);
+    let at_total = exact::look_at(worked::with_budget(p, total));
+    let below = exact::look_at(worked::with_budget(p, total - 1));
+    let u = tally::checked(t, OVERS, exact::same_states(at_total, below));
+    let wrong = planted::with_state(below, random::below(g, CELLS as u32));
+    tally::planted(u, !exact::same_states(at_total, wrong))
+}
+
+// Budgets at the cheapest total, one above, somewhat above, and one below.
 fn tried_around(tally: Tally, p: Problem, total: u32, g: Random) -> Tally {
     let t = tried(tally, p, total, g);
     let u = tried_within(t, p, access::plus(total, 1), g);
     let v = tried_within(u, p, access::plus(total, total / 64), random::next(g));
-    if total == 0 {
-        return v;
-    }
-    tried(v, p, total - 1, g)
+    tried_over(v, p, total, g)
 }
 
 // The cheapest total from a look under the largest budget, and then budgets around it.
@@ -145,6 +164,6 @@ fn run(count: u32) -> Tally {
 pub fn all() {
     tally::report(
         run(240),
-        b"instances of 32\nlooks\nplan\nover\nnone\narcs looked at singly\n",
+        b"instances of 32\nlooks\nplan\nover\nnone\narcs looked at singly\nover held to the cheapest total\n",
     );
 }

@@ -20,7 +20,7 @@ use reference::tally::Tally;
 use reference::worked;
 
 // What is counted beside the counts of large.rt.
-const LIMITS: u32 = 9;
+const LIMITS: u32 = 10;
 
 // The answer to a budget press.
 fn press_answer(p: Problem, budget: u32) -> u32 {
@@ -87,6 +87,6 @@ fn run() -> Tally {
 pub fn all() {
     tally::report(
         run(),
-        b"instances of 32 at the dearest price\nlooks\nplan\nover\nnone\narcs looked at singly\ngreatest budgets\n",
+        b"instances of 32 at the dearest price\nlooks\nplan\nover\nnone\narcs looked at singly\nover held to the cheapest total\ngreatest budgets\n",
     );
 }

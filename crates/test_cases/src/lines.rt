@@ -1,6 +1,6 @@
-// Document 01's own cases, one to a line of the standard input, held against the reference and against the planner: the
-// worked outcomes with their trees, states and cards, every refusal from 1 to 15 but 6 with what it leaves behind, the
-// 200 records.
+// The documents' own cases, one to a line of the standard input, held against the reference and against the planner:
+// the worked outcomes with their trees, states and cards, every refusal from 1 to 15 but 6 with what it leaves behind,
+// the 200 records.
 use crate::buffer_lines;
 use crate::look_lines;
 use harness::boards;

@@ -20,7 +20,7 @@ fn with_word(shown: Shown, at: u32) -> Shown {
     s
 }
 
-fn with_state(shown: Shown, at: u32) -> Shown {
+pub fn with_state(shown: Shown, at: u32) -> Shown {
     let mut s = shown;
     let k = (at % buffers::STATES as u32) as usize;
     s.states[k] = (s.states[k] % 4 + 1) % 4;
@@ -43,8 +43,7 @@ pub fn with_fault(shown: Shown, n: u32, root: u32, g: Random) -> Shown {
     s
 }
 
-// The blank wall that document 02, A2 does away with, in two halves: an outcome over the budget with no tree, and with
-// every arc closed.
+// No tree, as for an outcome without one.
 pub fn without_tree(shown: Shown, n: u32) -> Shown {
     let mut s = shown;
     for v in 0..buffers::PARENTS as u32 {
@@ -55,6 +54,7 @@ pub fn without_tree(shown: Shown, n: u32) -> Shown {
     s
 }
 
+// Every arc closed.
 pub fn all_closed(shown: Shown) -> Shown {
     let mut s = shown;
     for k in 0..buffers::STATES as u32 {

@@ -43,8 +43,14 @@ fn with_states(tally: Tally, states: [u8; buffers::STATES], n: u32) -> Tally {
     t
 }
 
-// A look that is over the budget, judged again with the one half and the other of a blank wall planted.
-fn with_blanks(tally: Tally, table: &[u32; CELLS], list: Listing, p: Problem, s: Shown) -> Tally {
+// A look that is over the budget, with the faults that document 02, A2 does away with: no tree, and every arc closed.
+fn with_over_faults(
+    tally: Tally,
+    table: &[u32; CELLS],
+    list: Listing,
+    p: Problem,
+    s: Shown,
+) -> Tally {
     if s.kind != outcome::OVER {
         return tally;
     }
@@ -69,7 +75,7 @@ fn tried(tally: Tally, table: &[u32; CELLS], list: Listing, p: Problem, budget: 
     let g = random::seeded(tally::count(t, LOOKS));
     let wrong = planted::with_fault(s, q.n, q.root, g);
     let u = tally::planted(t, verdict::against(table, list, q, wrong) != 0);
-    let v = with_blanks(u, table, list, q, s);
+    let v = with_over_faults(u, table, list, q, s);
     with_states(tally::with(v, access::plus(KINDS, s.kind), 1), states, q.n)
 }
 

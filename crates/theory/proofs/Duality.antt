@@ -26,7 +26,7 @@ use Rattle.instance.specs.Cuts.{Cut, inside, enters, charged, values, set-ok, s
 use Rattle.instance.specs.States.{fits}
 use Rattle.instance.proofs.ArcLaws.{remaining-ends}
 use Rattle.instance.proofs.ArborescenceLaws.{joined}
-use Rattle.theory.proofs.StateLaws.{fits-arborescence, fits-total}
+use Rattle.theory.proofs.FitLaws.{fits-arborescence, fits-total}
 
 -- a set below 2 ^ n that is not empty has a member below n
 pub member : (n c : ℕ) → 0 < c → c < 2 ^ n → (v : ℕ) × (v < n) × (inside c v ≡ true)

@@ -5,16 +5,14 @@ use mathlib.Core.Bool.{true}
 use mathlib.Core.List.{List}
 use mathlib.Core.Logic.{_↔_}
 use Prim.Native.Nat.{ℕ, _≤_}
-use native.Mathlib.Omega.{arith}
 use Rattle.base.proofs.BoolLaws.{same-test}
 use Rattle.instance.specs.Limits.{max-vertices}
-use Rattle.instance.specs.Instance.{Instance, instance-with}
+use Rattle.instance.specs.Instance.{Instance, with-budget}
 use Rattle.instance.specs.Arborescence.{remaining, is-arborescence, total}
 use Rattle.instance.specs.Matrix.{matrix, matrix-instance, unmarked}
-use Rattle.instance.specs.States.{fits}
 use Rattle.theory.specs.Usable.{usable}
-use Rattle.theory.proofs.StateLaws.{fits-arborescence, fits-total, make-fits}
-use Rattle.theory.proofs.SameArcs.{Same-arcs, same-back, budget-same, same-arborescence, same-total}
+use Rattle.theory.proofs.FitLaws.{fits-there}
+use Rattle.theory.proofs.SameArcs.{Same-arcs, same-back, with-budget-arcs, same-arborescence, same-total}
 use Rattle.theory.proofs.Usable.{usable-some}
 use Rattle.theory.proofs.Restriction.{matrix-same}
 
@@ -28,15 +26,8 @@ same-on a b c e f =
     }
 
 -- SAME ARCS AND BUDGET
-same-fits : (a b : Instance) → Same-arcs a b → a .budget ≡ b .budget → (ps : List ℕ) → fits a ps ≡ true → fits b ps ≡ true
-same-fits a b e f ps x =
-    let q = fits-arborescence a ps x in
-    let l = fits-total a ps x in
-    let z = same-total a b e ps q in
-    make-fits b ps (same-arborescence a b e ps q) (omega arith)
-
 usable-into : (a b : Instance) → Same-arcs a b → a .budget ≡ b .budget → (t h : ℕ) → usable a t h ≡ true → usable b t h ≡ true
-usable-into a b e f t h u = let w = usable-some a t h .0 u in usable-some b t h .1 (w .0, same-fits a b e f (w .0) (w .1), w .2)
+usable-into a b e f t h u = let w = usable-some a t h .0 u in usable-some b t h .1 (w .0, fits-there a b e f (w .0) (w .1), w .2)
 
 same-usable : (a b : Instance) → Same-arcs a b → a .budget ≡ b .budget → (t h : ℕ) → usable a t h ≡ usable b t h
 same-usable a b e f t h = same-test (usable a t h) (usable b t h) (usable-into a b e f t h) (usable-into b a (same-back a b e) (sym f) t h)
@@ -45,7 +36,7 @@ same-usable a b e f t h = same-test (usable a t h) (usable b t h) (usable-into a
 module _ (n r b : ℕ) (m : List ℕ) where
   pub matrix-instance-same : Same-arcs (matrix-instance n r b m) (unmarked n r m)
   unfolding unmarked
-  matrix-instance-same = budget-same (unmarked n r m) b
+  matrix-instance-same = with-budget-arcs b (unmarked n r m)
 
   pub matrix-instance-remaining : (t h : ℕ) → remaining (matrix-instance n r b m) t h ≡ remaining (unmarked n r m) t h
   matrix-instance-remaining = matrix-instance-same .arcs
@@ -61,10 +52,9 @@ module _ (n r b : ℕ) (m : List ℕ) where
 
 -- USABLE IN THE MATRIX IS USABLE, under any budget
 pub matrix-usable : (s : Instance) (b : ℕ) → s .n ≤ max-vertices → (t h : ℕ)
-    → usable (matrix-instance (s .n) (s .root) b (matrix s)) t h ≡ usable (instance-with (s .n) (s .root) b (s .weights) (s .marks)) t h
+    → usable (matrix-instance (s .n) (s .root) b (matrix s)) t h ≡ usable (with-budget b s) t h
 matrix-usable s b small =
     let left = matrix-instance (s .n) (s .root) b (matrix s) in
     let whole = unmarked (s .n) (s .root) (matrix s) in
-    let with-b = instance-with (s .n) (s .root) b (s .weights) (s .marks) in
     let there = same-on left whole s (matrix-instance-same (s .n) (s .root) b (matrix s)) (matrix-same s small) in
-    same-usable left with-b (same-on left s with-b there (same-back with-b s (budget-same s b))) refl
+    same-usable left (with-budget b s) (same-on left s (with-budget b s) there (same-back (with-budget b s) s (with-budget-arcs b s))) refl

@@ -93,6 +93,14 @@ module _ (s : Instance) where
   pub least-some : (v : ℕ) → Least-total s v → No-arborescence s → ⊥
   least-some v a no-one = not-both (is-arborescence s (a .parents)) (a .arborescence) (no-one (a .parents))
 
+  pub some-least : (ps : List ℕ) → is-arborescence s ps ≡ true → (v : ℕ) × Least-total s v
+  unfolding Cheapest-reads
+  some-least ps a = at (cheapest s) cheapest-reads
+    where
+      at : (o : Option ℕ) → Cheapest-reads s o → (v : ℕ) × Least-total s v
+      at none r = absurd (not-both (is-arborescence s ps) a (r ps))
+      at (some v) r = (v, r)
+
   -- whatever reads so is one total, or none
   cheapest-once : (o p : Option ℕ) → Cheapest-reads s o → Cheapest-reads s p → o ≡ p
   unfolding Cheapest-reads
@@ -115,10 +123,10 @@ over-once v w e = cc
 pub plan-not-over : (v w : ℕ) → Plan v ≡ Over w → ⊥
 plan-not-over v w e = let z : _≡_ {A = ℕ} 0 1 = cc in omega arith
 
-pub plan-not-none : (v : ℕ) → Plan v ≡ NoTree → ⊥
+plan-not-none : (v : ℕ) → Plan v ≡ NoTree → ⊥
 plan-not-none v e = let z : _≡_ {A = ℕ} 0 1 = cc in omega arith
 
-pub over-not-none : (v : ℕ) → Over v ≡ NoTree → ⊥
+over-not-none : (v : ℕ) → Over v ≡ NoTree → ⊥
 over-not-none v e = let z : _≡_ {A = ℕ} 0 1 = cc in omega arith
 
 module _ (s : Instance) where

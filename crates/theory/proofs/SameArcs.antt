@@ -12,7 +12,7 @@ use Rattle.base.specs.Bounded.{sum-below}
 use Rattle.base.proofs.BoolLaws.{is-false, not-both}
 use Rattle.base.proofs.BoundedLaws.{sum-eq}
 use Rattle.instance.specs.Limits.{cut-limit}
-use Rattle.instance.specs.Instance.{Instance, instance-with, weight, mark, is-arc}
+use Rattle.instance.specs.Instance.{Instance, with-budget, weight, mark, is-arc}
 use Rattle.instance.specs.Arborescence.{is-pinned, other-pinned, remaining, parent, is-arborescence, total}
 use Rattle.instance.specs.Candidates.{cheapest}
 use Rattle.instance.specs.Cuts.{Cut, charged, set-ok, sets-ok, Feasible, Proves, No-entry}
@@ -36,14 +36,14 @@ same-back a b e =
     }
 
 -- WHATEVER THE BUDGET
-module _ (s : Instance) (b : ℕ) where
-  pub budget-arc : (t h : ℕ) → is-arc (instance-with (s .n) (s .root) b (s .weights) (s .marks)) t h ≡ is-arc s t h
+module _ (b : ℕ) (s : Instance) where
+  pub with-budget-arc : (t h : ℕ) → is-arc (with-budget b s) t h ≡ is-arc s t h
   unfolding is-arc weight
-  budget-arc t h = refl
+  with-budget-arc t h = refl
 
-  pub budget-same : Same-arcs (instance-with (s .n) (s .root) b (s .weights) (s .marks)) s
+  pub with-budget-arcs : Same-arcs (with-budget b s) s
   unfolding remaining is-arc other-pinned is-pinned mark weight
-  budget-same = record { vertices = refl; roots = refl; arcs = λ t h. refl; weights = λ t h _. refl }
+  with-budget-arcs = record { vertices = refl; roots = refl; arcs = λ t h. refl; weights = λ t h _. refl }
 
 -- SAME ARBORESCENCES, TOTALS AND CUTS
 module _ (a b : Instance) (e : Same-arcs a b) where

@@ -1,6 +1,6 @@
 -- Instances that are the same where an arc can be have the same outcome and the same states. Assumes nothing.
 use mathlib.Core.Path.{_≡_, refl, sym, ap, _∙_, fun-ext}
-use mathlib.Core.Bool.{Bool, true, cond}
+use mathlib.Core.Bool.{Bool, cond}
 use mathlib.Core.List.{List, [], _∷_}
 use Prim.Native.Nat.{ℕ, zero, suc, _*_, _/_, _%_}
 use lib.Dec.{eqb}
@@ -9,12 +9,13 @@ use Rattle.base.proofs.BoolLaws.{same-test}
 use Rattle.instance.specs.Limits.{no-parent}
 use Rattle.instance.specs.Instance.{Instance, weight, mark}
 use Rattle.instance.specs.Candidates.{prefixed, choices, candidates-from, candidates}
-use Rattle.instance.specs.States.{outcome-at, outcome, fits, fitting, limit-at, total-limit, raised, state-over, state, states}
+use Rattle.instance.specs.States.{outcome-at, outcome, fits, fitting, limit-at, total-limit, at-limit, state-over, state, states}
 use Rattle.instance.specs.Same.{Same-instance}
 use Rattle.instance.proofs.SameLaws.{same-turned, same-is-arc, same-arc-weight, same-remaining}
 use Rattle.instance.proofs.ArcLaws.{remaining-arc}
-use Rattle.theory.proofs.SameArcs.{Same-arcs, same-arborescence, same-total, same-cheapest}
-use Rattle.theory.proofs.StateLaws.{fits-arborescence, fits-total, make-fits, states-tabulate}
+use Rattle.theory.proofs.SameArcs.{Same-arcs, same-cheapest}
+use Rattle.theory.proofs.StateLaws.{states-tabulate}
+use Rattle.theory.proofs.FitLaws.{fits-there}
 
 pub arcs-same : (a b : Instance) → Same-instance a b → Same-arcs a b
 arcs-same a b e =
@@ -31,9 +32,9 @@ module _ (a b : Instance) (e : Same-instance a b) where
   unfolding outcome
   same-outcome = λ i. outcome-at (e .same-budget i) (same-cheapest a b (arcs-same a b e) i)
 
-  same-raised : Same-instance (raised a) (raised b)
+  same-at-limit : Same-instance (at-limit a) (at-limit b)
   unfolding total-limit weight mark
-  same-raised =
+  same-at-limit =
       record {
         same-n = e .same-n;
         same-root = e .same-root;
@@ -43,15 +44,11 @@ module _ (a b : Instance) (e : Same-instance a b) where
       }
 
 -- THE FITTING ARBORESCENCES
-fits-there : (a b : Instance) → Same-instance a b → (ps : List ℕ) → fits a ps ≡ true → fits b ps ≡ true
-fits-there a b e ps f =
-    let x = fits-arborescence a ps f in
-    let s = arcs-same a b e in
-    make-fits b ps (same-arborescence a b s ps x) (rw (same-total a b s ps x, e .same-budget) at (fits-total a ps f))
-
 module _ (a b : Instance) (e : Same-instance a b) where
   same-fits : (ps : List ℕ) → fits a ps ≡ fits b ps
-  same-fits ps = same-test (fits a ps) (fits b ps) (fits-there a b e ps) (fits-there b a (same-turned a b e) ps)
+  same-fits ps =
+      same-test (fits a ps) (fits b ps) (fits-there a b (arcs-same a b e) (e .same-budget) ps)
+      (fits-there b a (arcs-same b a (same-turned a b e)) (sym (e .same-budget)) ps)
 
   same-choices : (v : ℕ) → choices a v ≡ choices b v
   unfolding choices
@@ -75,7 +72,7 @@ module _ (a b : Instance) (e : Same-instance a b) where
 module _ (a b : Instance) (e : Same-instance a b) where
   pub same-state : (t h : ℕ) → state a t h ≡ state b t h
   unfolding state state-over
-  same-state t h = rw (same-is-arc a b e t h, same-fitting (raised a) (raised b) (same-raised a b e))
+  same-state t h = rw (same-is-arc a b e t h, same-fitting (at-limit a) (at-limit b) (same-at-limit a b e))
 
   pub same-states : states a ≡ states b
   same-states =

@@ -1,5 +1,5 @@
--- The computed state of each cell is the one that document 01's words allow, and the only one; so is the list of all
--- states. Assumes nothing.
+-- The computed state of each cell is the one that the words of documents 01 and 02 allow, and the only one; so is the
+-- list of all states. Assumes nothing.
 use mathlib.Core.Path.{_≡_, refl, sym, ap, _∙_, subst}
 use mathlib.Core.Bool.{Bool, true, false, cond}
 use mathlib.Core.List.{List}
@@ -8,38 +8,27 @@ use Prim.Native.Nat.{ℕ, zero, suc, _+_, _*_, _/_, _%_, _≤_}
 use native.Mathlib.Omega.{arith}
 use native.Mathlib.Nat.{div-add-mod'}
 use lib.Arith.{digits-div, digits-mod, digits-lt}
-use lib.Dec.{leb}
 use lib.ListN.{length, getD}
-use borrow.Author.Tests.{leb-true, le-leb}
 use Rattle.base.specs.Lists.{tabulate, any-of, all-of}
-use Rattle.base.proofs.BoolLaws.{test, not-both, and-left, and-right, and-both}
+use Rattle.base.proofs.BoolLaws.{test, not-both}
 use Rattle.base.proofs.ListLaws.{length-tabulate, getD-tabulate, tabulate-is}
 use Rattle.base.proofs.GridLaws.{grid-row, grid-column}
 use Rattle.instance.specs.Instance.{Instance, is-arc}
-use Rattle.instance.specs.Arborescence.{is-arborescence, total, uses}
-use Rattle.instance.specs.States.{fits, fitting, raised, state-over, state, states}
-use Rattle.theory.specs.Readings.{Some-uses, Some-avoids, None-uses, All-use, State-reads, States-read}
+use Rattle.instance.specs.Arborescence.{is-arborescence, uses}
+use Rattle.instance.specs.States.{fits, fitting, at-limit, state-over, state, states}
+use Rattle.theory.specs.Readings.{Within-limit, Some-uses, Some-avoids, None-uses, All-use, State-reads, States-read}
 use Rattle.theory.proofs.CandidateLaws.{any-selected, all-selected, one-fails, none-passes}
-
--- FITTING LISTS
-module _ (s : Instance) (ps : List ℕ) where
-  pub fits-arborescence : fits s ps ≡ true → is-arborescence s ps ≡ true
-  unfolding fits
-  fits-arborescence e = and-left (is-arborescence s ps) (leb (total s ps) (s .budget)) e
-
-  pub fits-total : fits s ps ≡ true → total s ps ≤ s .budget
-  unfolding fits
-  fits-total e = leb-true (total s ps) (s .budget) (and-right (is-arborescence s ps) (leb (total s ps) (s .budget)) e)
-
-  pub make-fits : is-arborescence s ps ≡ true → total s ps ≤ s .budget → fits s ps ≡ true
-  unfolding fits
-  make-fits a l = and-both (is-arborescence s ps) (leb (total s ps) (s .budget)) a (le-leb (total s ps) (s .budget) l)
+use Rattle.theory.proofs.FitLaws.{fits-arborescence}
+use Rattle.theory.proofs.TotalLimit.{within-limit}
 
 -- ONE CELL
 module _ (s : Instance) (t h : ℕ) where
-  -- the state from the two tests over all fitting lists
-  reads-cases : (a u w : Bool) → is-arc s t h ≡ a → (u ≡ true → Some-uses (raised s) t h) → (u ≡ false → None-uses (raised s) t h)
-      → (w ≡ true → All-use (raised s) t h) → (w ≡ false → Some-avoids (raised s) t h) → State-reads s t h (cond a (cond u (cond w 3 2) 1) 0)
+  abbrev C : List ℕ → Type 0
+  C = Within-limit s
+
+  -- the state from the two tests over all lists that count
+  reads-cases : (a u w : Bool) → is-arc s t h ≡ a → (u ≡ true → Some-uses C t h) → (u ≡ false → None-uses C t h)
+      → (w ≡ true → All-use C t h) → (w ≡ false → Some-avoids C t h) → State-reads s t h (cond a (cond u (cond w 3 2) 1) 0)
   reads-cases false u w e some none all one =
       record {
         absent = λ _. refl;
@@ -85,11 +74,14 @@ module _ (s : Instance) (t h : ℕ) where
   pub state-reads : State-reads s t h (state s t h)
   unfolding state state-over fitting
   state-reads =
-      reads-cases (is-arc s t h) (any-of used (fitting r)) (all-of used (fitting r)) refl (any-selected r (fits r) sound used .0)
-      (none-passes r (fits r) sound used) (all-selected r (fits r) sound used .0) (one-fails r (fits r) sound used)
+      reads-cases (is-arc s t h) (any-of used (fitting r)) (all-of used (fitting r)) refl
+      (λ e. let x = any-selected r (fits r) sound used .0 e in (x .0, within-limit s (x .0) .0 (x .1), x .2))
+      (λ e ps c. none-passes r (fits r) sound used e ps (within-limit s ps .1 c))
+      (λ e ps c. all-selected r (fits r) sound used .0 e ps (within-limit s ps .1 c))
+      (λ e. let x = one-fails r (fits r) sound used e in (x .0, within-limit s (x .0) .0 (x .1), x .2))
     where
       r : Instance
-      r = raised s
+      r = at-limit s
 
       used : List ℕ → Bool
       used ps = uses ps t h

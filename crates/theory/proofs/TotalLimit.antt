@@ -1,24 +1,23 @@
--- The limit on totals under which the states are shown (02, A2): what it is with each outcome, which arborescences are
--- within it, and which states follow without listing anything. Assumes nothing.
-use mathlib.Core.Path.{_≡_, sym, ap, _∙_}
-use mathlib.Core.Bool.{true}
+-- The limit on totals under which the states are taken (02, A2): what it is with each outcome, and that the
+-- arborescences within it are those of the reading. Assumes nothing.
+use mathlib.Core.Path.{_≡_, sym, ap}
+use mathlib.Core.Bool.{true, false}
 use mathlib.Core.List.{List}
-use mathlib.Core.Logic.{_↔_, _≢_}
+use mathlib.Core.Logic.{_↔_, _⊎_, inl, inr, ⊎-elim}
 use mathlib.Core.Option.{none, some}
-use Prim.Native.Nat.{ℕ, max, _+_, _*_, _/_, _%_, _≤_, _<_}
+use Prim.Native.Nat.{ℕ, max, _≤_}
 use native.Mathlib.Omega.{arith}
-use Rattle.base.specs.Lists.{tabulate}
-use Rattle.base.proofs.BoolLaws.{not-both}
-use Rattle.instance.specs.Instance.{Instance, instance-with, weight, is-arc}
-use Rattle.instance.specs.Arborescence.{remaining, is-arborescence, total, uses}
-use Rattle.instance.specs.Cuts.{Cut, values, Feasible, reduced-cost}
-use Rattle.instance.specs.declared.Outcome.the-variants.{Plan, Over, NoTree}
-use Rattle.instance.specs.States.{outcome, fits, fitting, limit-at, total-limit, raised, state-over, state, states}
-use Rattle.theory.specs.Readings.{None-uses, Least-total, No-arborescence, Cheapest-reads}
-use Rattle.theory.proofs.StateLaws.{fits-arborescence, fits-total, make-fits, state-reads, states-tabulate}
-use Rattle.theory.proofs.OutcomeLaws.{cheapest-only, outcome-reads}
-use Rattle.theory.proofs.SameArcs.{Same-arcs, same-back, budget-same, same-arborescence, same-total, same-feasible, same-cheapest}
-use Rattle.theory.proofs.Duality.{reduced-unused}
+use lib.Dec.{leb}
+use borrow.Author.Tests.{leb-true, leb-false}
+use Rattle.base.proofs.BoolLaws.{test}
+use Rattle.instance.specs.Instance.{Instance}
+use Rattle.instance.specs.Arborescence.{is-arborescence, total}
+use Rattle.instance.specs.declared.Outcome.the-variants.{Plan, Over}
+use Rattle.instance.specs.States.{outcome, fits, limit-at, total-limit, at-limit}
+use Rattle.theory.specs.Readings.{Within-limit, Least-total, No-arborescence, Cheapest-reads}
+use Rattle.theory.proofs.OutcomeLaws.{some-least, cheapest-only, outcome-reads}
+use Rattle.theory.proofs.SameArcs.{Same-arcs, same-back, with-budget-arcs, same-arborescence, same-total}
+use Rattle.theory.proofs.FitLaws.{fits-arborescence, fits-total, make-fits}
 
 -- WHAT IT IS
 module _ (s : Instance) where
@@ -39,78 +38,71 @@ module _ (s : Instance) where
 
 -- WHAT IS WITHIN IT
 module _ (s : Instance) where
-  there : Same-arcs (raised s) s
-  there = budget-same s (total-limit s)
+  limit-arcs : Same-arcs (at-limit s) s
+  limit-arcs = with-budget-arcs (total-limit s) s
 
-  back : Same-arcs s (raised s)
-  back = same-back (raised s) s there
+  pub limit-arcs-back : Same-arcs s (at-limit s)
+  limit-arcs-back = same-back (at-limit s) s limit-arcs
 
-  pub within-limit : (ps : List ℕ) → (fits (raised s) ps ≡ true) ↔ ((is-arborescence s ps ≡ true) × (total s ps ≤ total-limit s))
-  within-limit ps = (
-    (λ f.
-        let a = fits-arborescence (raised s) ps f in
-        let l = fits-total (raised s) ps f in
-        let e = same-total (raised s) s there ps a in
-        (same-arborescence (raised s) s there ps a, omega arith)),
-    (λ x. let e = same-total s (raised s) back ps (x .0) in make-fits (raised s) ps (same-arborescence s (raised s) back ps (x .0)) (omega (arith, x .1))),
-  )
+  module _ (ps : List ℕ) where
+    -- at most the larger of two numbers is at most one of them
+    cheap-by : (v : ℕ) → Least-total s v → total s ps ≤ total-limit s → (total s ps ≤ s .budget) ⊎ ((qs : List ℕ) → is-arborescence s qs ≡ true → total s ps ≤ total s qs)
+    cheap-by v l most =
+        let m = limit-larger s v l in
+        ⊎-elim (λ (e : leb (total s ps) (s .budget) ≡ true). inl (leb-true (total s ps) (s .budget) e))
+        (λ (e : leb (total s ps) (s .budget) ≡ false).
+        inr (λ qs b. let past = leb-false (total s ps) (s .budget) e in let low = l .least qs b in omega arith))
+        (test (leb (total s ps) (s .budget)))
 
-  -- the cheapest are, over the budget too
-  pub cheapest-within : (ps : List ℕ) (v : ℕ) → Least-total s v → is-arborescence s ps ≡ true → total s ps ≡ v → fits (raised s) ps ≡ true
-  cheapest-within ps v l a e = let m = limit-larger s v l in within-limit ps .1 (a, omega arith)
+    within : fits (at-limit s) ps ≡ true → Within-limit s ps
+    within f =
+        let a = fits-arborescence (at-limit s) ps f in
+        let b = same-arborescence (at-limit s) s limit-arcs ps a in
+        let least = some-least s ps b in
+        let l = fits-total (at-limit s) ps f in
+        let e = same-total (at-limit s) s limit-arcs ps a in
+        record { arborescence = b; cheap = cheap-by (least .0) (least .1) (omega arith) }
 
-  -- and there no others
-  pub over-within : (v : ℕ) → outcome s ≡ Over v → (ps : List ℕ) → fits (raised s) ps ≡ true → total s ps ≡ v
-  over-within v e ps f =
-      let r = outcome-reads s .exceeds v .0 e in
-      let x = within-limit ps .0 f in
-      let most = limit-over s v e in
-      let least = r .0 .least ps (x .0) in
-      omega (arith, x .1)
+    most-by : (v : ℕ) → Least-total s v → Within-limit s ps → total s ps ≤ total-limit s
+    most-by v l c =
+        let m = limit-larger s v l in
+        ⊎-elim (λ (x : total s ps ≤ s .budget). omega arith)
+        (λ (x : (qs : List ℕ) → is-arborescence s qs ≡ true → total s ps ≤ total s qs).
+        let y = x (l .parents) (l .arborescence) in omega (arith, l .attained))
+        (c .cheap)
 
--- THE STATES WITH EACH OUTCOME
-module _ (s : Instance) where
-  abbrev with-budget : ℕ → Instance
-  with-budget b = instance-with (s .n) (s .root) b (s .weights) (s .marks)
+    fits-limit : Within-limit s ps → fits (at-limit s) ps ≡ true
+    fits-limit c =
+        let least = some-least s ps (c .arborescence) in
+        let most = most-by (least .0) (least .1) c in
+        let e = same-total s (at-limit s) limit-arcs-back ps (c .arborescence) in
+        make-fits (at-limit s) ps (same-arborescence s (at-limit s) limit-arcs-back ps (c .arborescence)) (omega arith)
 
-  abbrev states-at : (limit : ℕ) → List ℕ
-  states-at k = tabulate (s .n * s .n) (λ i. state-over (fitting (with-budget k)) s (i / s .n) (i % s .n))
+    -- THE READING
+    pub within-limit : (fits (at-limit s) ps ≡ true) ↔ Within-limit s ps
+    within-limit = (within, fits-limit)
 
-  at-limit : (b : ℕ) → states (with-budget b) ≡ states-at (total-limit (with-budget b))
-  unfolding state state-over is-arc weight
-  at-limit b = states-tabulate (with-budget b)
+    -- with a plan it is the plain budget that decides
+    pub plan-within : (v : ℕ) → outcome s ≡ Plan v → Within-limit s ps ↔ (fits s ps ≡ true)
+    plan-within v e = (
+      (λ c.
+          let r = outcome-reads s .plans v .0 e in
+          let most = most-by v (r .0) c in
+          let limit = limit-plan s v e in
+          make-fits s ps (c .arborescence) (omega arith)),
+      (λ f. record { arborescence = fits-arborescence s ps f; cheap = inl (fits-total s ps f) }),
+    )
 
-  -- "when over budget, the states are to be those for a budget equal to the cheapest total"
-  pub over-states : (v : ℕ) → outcome s ≡ Over v → states s ≡ states (with-budget v)
-  unfolding total-limit limit-at Cheapest-reads
-  over-states v e =
-      let least = outcome-reads s .exceeds v .0 e .0 in
-      let same : total-limit (with-budget v) ≡ max v v =
-      ap (limit-at v) (same-cheapest (with-budget v) s (budget-same s v) ∙ sym (cheapest-only s (some v) least)) in
-      let limit : total-limit s ≡ total-limit (with-budget v) = limit-over s v e ∙ omega (arith, same) in
-      at-limit (s .budget) ∙ ap states-at limit ∙ sym (at-limit v)
-
-  module _ (t h : ℕ) (x : is-arc s t h ≡ true) where
-    unused-excluded : None-uses (raised s) t h → state s t h ≡ 1
-    unused-excluded u = state-reads s t h .excluded x .1 u
-
-    -- "None" stays as it is: every link is closed
-    pub none-excluded : outcome s ≡ NoTree → state s t h ≡ 1
-    none-excluded e =
-        unused-excluded
-        (λ ps f. absurd (not-both (is-arborescence s ps) (within-limit s ps .0 f .0) (outcome-reads s .fails .0 e ps)))
-
-    -- "If total plus reduced price exceeds the budget, the link is closed": of "the larger of the budget and the cheapest
-    -- total" (02, A2), and for any feasible cuts
-    pub reduced-excludes : (cs : List Cut) → Feasible s cs → remaining s t h ≡ true → total-limit s < values cs + reduced-cost s cs t h → state s t h ≡ 1
-    unfolding reduced-cost weight
-    reduced-excludes cs f r past =
-        unused-excluded
-        (reduced-unused (raised s) cs t h (same-feasible s (raised s) (back s) cs f) (there s .arcs t h ∙ r) past)
-
-    -- every link of a cheapest tree is open or sure, over the budget too: where there is a tree, no blank wall is shown
-    pub cheapest-open : (ps : List ℕ) (v : ℕ) → Least-total s v → is-arborescence s ps ≡ true → total s ps ≡ v → uses ps t h ≡ true → 2 ≤ state s t h
-    cheapest-open ps v l a e u =
-        let r = state-reads s t h in
-        let more : state s t h ≢ 1 = λ z. not-both (uses ps t h) u (r .excluded x .0 z ps (cheapest-within s ps v l a e)) in
-        omega (arith, r .present x .0)
+    -- over the budget the cheapest trees count, and no others
+    pub over-within : (v : ℕ) → outcome s ≡ Over v → Within-limit s ps ↔ ((is-arborescence s ps ≡ true) × (total s ps ≡ v))
+    over-within v e = (
+      (λ c.
+          let r = outcome-reads s .exceeds v .0 e in
+          let most = most-by v (r .0) c in
+          let limit = limit-over s v e in
+          let least = r .0 .least ps (c .arborescence) in
+          (c .arborescence, omega arith)),
+      (λ x.
+          let r = outcome-reads s .exceeds v .0 e in
+          record { arborescence = x .0; cheap = inr (λ qs b. let low = r .0 .least qs b in omega (arith, x .1)) }),
+    )

@@ -14,22 +14,22 @@ use Rattle.base.proofs.BoundedLaws.{any-intro, any-found}
 use Rattle.instance.specs.Instance.{Instance, is-arc}
 use Rattle.instance.specs.Arborescence.{remaining, parent, uses}
 use Rattle.instance.specs.Cuts.{Cut, values, Feasible, reduced-cost}
-use Rattle.instance.specs.States.{fits, fitting, total-limit, raised, state-over, state}
-use Rattle.theory.specs.Readings.{Some-uses, None-uses, All-use}
+use Rattle.instance.specs.States.{fits, fitting, total-limit, at-limit, state-over, state}
+use Rattle.theory.specs.Readings.{Fits, Some-uses, None-uses, All-use}
 use Rattle.theory.specs.Usable.{usable}
 use Rattle.instance.proofs.ArcLaws.{arc-ends, remaining-ends}
 use Rattle.instance.proofs.ArborescenceLaws.{joined, uses-one, uses-parent, uses-remains}
 use Rattle.theory.proofs.CandidateLaws.{any-selected, all-selected, none-passes}
-use Rattle.theory.proofs.SameArcs.{budget-arc}
-use Rattle.theory.proofs.StateLaws.{fits-arborescence}
+use Rattle.theory.proofs.SameArcs.{with-budget-arc}
+use Rattle.theory.proofs.FitLaws.{fits-arborescence}
 use Rattle.theory.proofs.Duality.{reduced-unused}
 
 module _ (s : Instance) (t h : ℕ) where
-  pub usable-some : (usable s t h ≡ true) ↔ Some-uses s t h
+  pub usable-some : (usable s t h ≡ true) ↔ Some-uses (Fits s) t h
   unfolding usable fitting
   usable-some = any-selected s (fits s) (fits-arborescence s) (λ ps. uses ps t h)
 
-  pub usable-none : (usable s t h ≡ false) ↔ None-uses s t h
+  pub usable-none : (usable s t h ≡ false) ↔ None-uses (Fits s) t h
   unfolding usable fitting
   usable-none = (
     none-passes s (fits s) (fits-arborescence s) (λ ps. uses ps t h),
@@ -54,14 +54,14 @@ module _ (s : Instance) (t h : ℕ) (x : is-arc s t h ≡ true) where
   abbrev other-usable : Bool
   other-usable = any-below (s .n) (λ g. not (eqb g t) && usable s g h)
 
-  other-avoids : other-usable ≡ true → All-use s t h → ⊥
+  other-avoids : other-usable ≡ true → All-use (Fits s) t h → ⊥
   other-avoids e all =
       let g = any-found (s .n) (λ k. not (eqb k t) && usable s k h) e in
       let w = usable-some s (g .0) h .0 (and-right (not (eqb (g .0) t)) (usable s (g .0) h) (g .2)) in
       not-both (eqb (g .0) t) (eq-eqb (g .0) t (uses-one (w .0) (g .0) t h (w .2) (all (w .0) (w .1))))
       (not-true (eqb (g .0) t) (and-left (not (eqb (g .0) t)) (usable s (g .0) h) (g .2)))
 
-  all-use : other-usable ≡ false → All-use s t h
+  all-use : other-usable ≡ false → All-use (Fits s) t h
   unfolding uses
   all-use e ps p =
       is-true (eqb (parent ps h) t)
@@ -79,15 +79,16 @@ module _ (s : Instance) (t h : ℕ) (x : is-arc s t h ≡ true) where
       used : Bool
       used = all-of (λ ps. uses ps t h) (fitting s)
 
-      all-used : (used ≡ true) ↔ All-use s t h
+      all-used : (used ≡ true) ↔ All-use (Fits s) t h
       all-used = all-selected s (fits s) (fits-arborescence s) (λ ps. uses ps t h)
 
       at : (b : Bool) → other-usable ≡ b → used ≡ not b
       at true e = is-false used (λ u. other-avoids e (all-used .0 u))
       at false e = all-used .1 (all-use e)
 
-  arc-state : _≡_ {A = ℕ} (cond (usable s t h) (cond (all-of (λ ps. uses ps t h) (fitting s)) 3 2) 1) (cond (usable s t h) (cond other-usable 2 3) 1)
-  arc-state = swap (usable s t h) (all-of (λ ps. uses ps t h) (fitting s)) other-usable all-not-other
+  -- an arc that is used is mandatory or optional, by whether all use it and by whether another is usable
+  by-others : _≡_ {A = ℕ} (cond (usable s t h) (cond (all-of (λ ps. uses ps t h) (fitting s)) 3 2) 1) (cond (usable s t h) (cond other-usable 2 3) 1)
+  by-others = swap (usable s t h) (all-of (λ ps. uses ps t h) (fitting s)) other-usable all-not-other
     where
       swap : (u a o : Bool) → a ≡ not o → _≡_ {A = ℕ} (cond u (cond a 3 2) 1) (cond u (cond o 2 3) 1)
       swap u a true e = rw e
@@ -95,8 +96,8 @@ module _ (s : Instance) (t h : ℕ) (x : is-arc s t h ≡ true) where
 
 -- THE STATE FROM USABILITY, under the limit on totals
 pub state-usable : (s : Instance) (t h : ℕ)
-    → state s t h ≡ cond (is-arc s t h) (cond (usable (raised s) t h) (cond (any-below (s .n) (λ g. not (eqb g t) && usable (raised s) g h)) 2 3) 1) 0
+    → state s t h ≡ cond (is-arc s t h) (cond (usable (at-limit s) t h) (cond (any-below (s .n) (λ g. not (eqb g t) && usable (at-limit s) g h)) 2 3) 1) 0
 unfolding state state-over usable
 state-usable s t h =
-    ⊎-elim (λ (x : is-arc s t h ≡ true). rw x (arc-state (raised s) t h (budget-arc s (total-limit s) t h ∙ x)))
+    ⊎-elim (λ (x : is-arc s t h ≡ true). rw x (by-others (at-limit s) t h (with-budget-arc (total-limit s) s t h ∙ x)))
     (λ (x : is-arc s t h ≡ false). rw x) (test (is-arc s t h))

@@ -1,43 +1,53 @@
--- Document 01's words on outcomes and link states, read as statements about all lists of parents, where `instance`
--- computes them from a listing. The theorems that the two agree are in proofs/. Assumes nothing: these are definitions.
+-- Document 01's words on outcomes and link states, as 02 amends them, read as statements about all lists of parents,
+-- where `instance` computes them from a listing. The theorems that the two agree are in proofs/. Assumes nothing: these
+-- are definitions.
 use mathlib.Core.Path.{_≡_}
 use mathlib.Core.Bool.{true, false}
 use mathlib.Core.List.{List}
 use mathlib.Core.Option.{Option, none, some}
-use mathlib.Core.Logic.{_↔_}
+use mathlib.Core.Logic.{_↔_, _⊎_}
 use Prim.Native.Nat.{ℕ, _+_, _*_, _≤_, _<_}
 use lib.ListN.{length, getD}
 use Rattle.instance.specs.Instance.{Instance, is-arc}
 use Rattle.instance.specs.Arborescence.{is-arborescence, total, uses}
 use Rattle.instance.specs.declared.Outcome.{Outcome}
 use Rattle.instance.specs.declared.Outcome.the-variants.{Plan, Over, NoTree}
-use Rattle.instance.specs.States.{fits, raised}
+use Rattle.instance.specs.States.{fits}
 
--- FITTING LISTS AND AN ARC ("Over the feed trees within budget")
-abbrev pub Some-fits : Instance → Type 0
-Some-fits s = (ps : List ℕ) × (fits s ps ≡ true)
+-- WHICH LISTS COUNT
+-- a feed tree "within budget"
+abbrev pub Fits : Instance → List ℕ → Type 0
+Fits s ps = fits s ps ≡ true
 
-abbrev pub Some-uses : Instance → (tail head : ℕ) → Type 0
-Some-uses s t h = (ps : List ℕ) × (fits s ps ≡ true) × (uses ps t h ≡ true)
+-- a feed tree within "the larger of the budget and the cheapest total" (02, A2): within the budget, or none is cheaper
+pub record Within-limit (s : Instance) (ps : List ℕ) : Type 0 where
+  pub arborescence : is-arborescence s ps ≡ true
+  pub cheap : (total s ps ≤ s .budget) ⊎ ((qs : List ℕ) → is-arborescence s qs ≡ true → total s ps ≤ total s qs)
 
-abbrev pub Some-avoids : Instance → (tail head : ℕ) → Type 0
-Some-avoids s t h = (ps : List ℕ) × (fits s ps ≡ true) × (uses ps t h ≡ false)
+-- THOSE THAT COUNT AND AN ARC
+abbrev pub Some-count : (counts : List ℕ → Type 0) → Type 0
+Some-count C = (ps : List ℕ) × C ps
 
-abbrev pub None-uses : Instance → (tail head : ℕ) → Type 0
-None-uses s t h = (ps : List ℕ) → fits s ps ≡ true → uses ps t h ≡ false
+abbrev pub Some-uses : (counts : List ℕ → Type 0) → (tail head : ℕ) → Type 0
+Some-uses C t h = (ps : List ℕ) × C ps × (uses ps t h ≡ true)
 
-abbrev pub All-use : Instance → (tail head : ℕ) → Type 0
-All-use s t h = (ps : List ℕ) → fits s ps ≡ true → uses ps t h ≡ true
+abbrev pub Some-avoids : (counts : List ℕ → Type 0) → (tail head : ℕ) → Type 0
+Some-avoids C t h = (ps : List ℕ) × C ps × (uses ps t h ≡ false)
+
+abbrev pub None-uses : (counts : List ℕ → Type 0) → (tail head : ℕ) → Type 0
+None-uses C t h = (ps : List ℕ) → C ps → uses ps t h ≡ false
+
+abbrev pub All-use : (counts : List ℕ → Type 0) → (tail head : ℕ) → Type 0
+All-use C t h = (ps : List ℕ) → C ps → uses ps t h ≡ true
 
 -- v is the state of the cell: "0 not a link; 1 closed, no tree uses it; 2 open, some use it and some don't; 3 sure,
--- there is at least one tree and all use it", over the trees within "the larger of the budget and the cheapest total"
--- (02, A2)
+-- there is at least one tree and all use it"
 pub record State-reads (s : Instance) (t h v : ℕ) : Type 0 where
   pub absent : is-arc s t h ≡ false → v ≡ 0
   pub present : is-arc s t h ≡ true → (1 ≤ v) × (v ≤ 3)
-  pub excluded : is-arc s t h ≡ true → (v ≡ 1) ↔ None-uses (raised s) t h
-  pub optional : is-arc s t h ≡ true → (v ≡ 2) ↔ (Some-uses (raised s) t h × Some-avoids (raised s) t h)
-  pub mandatory : is-arc s t h ≡ true → (v ≡ 3) ↔ (Some-fits (raised s) × All-use (raised s) t h)
+  pub excluded : is-arc s t h ≡ true → (v ≡ 1) ↔ None-uses (Within-limit s) t h
+  pub optional : is-arc s t h ≡ true → (v ≡ 2) ↔ (Some-uses (Within-limit s) t h × Some-avoids (Within-limit s) t h)
+  pub mandatory : is-arc s t h ≡ true → (v ≡ 3) ↔ (Some-count (Within-limit s) × All-use (Within-limit s) t h)
 
 -- "the first n times n bytes, feeder by feeder"
 pub record States-read (s : Instance) (vs : List ℕ) : Type 0 where

@@ -1,7 +1,7 @@
 -- Laws of tables of arcs: adding an arborescence; and a table with nothing in it, which is right where there is no
 -- arborescence. Assumes nothing.
 use mathlib.Core.Path.{_≡_, refl, sym, _∙_}
-use mathlib.Core.Bool.{true, false, _&&_, not, cond}
+use mathlib.Core.Bool.{false, _&&_, not, cond}
 use mathlib.Core.List.{List}
 use mathlib.Core.Logic.{_≢_}
 use Prim.Native.Nat.{ℕ, _+_, _/_, _%_, _≤_, _<_}
@@ -18,7 +18,7 @@ use Rattle.instance.specs.Instance.{cell}
 use Rattle.instance.specs.Arborescence.{parent, uses}
 use Rattle.instance.specs.Cuts.{Cut, No-entry}
 use Rattle.instance.specs.Matrix.{matrix-instance, unmarked}
-use Rattle.theory.proofs.StateLaws.{fits-arborescence}
+use Rattle.theory.proofs.FitLaws.{fits-arborescence}
 use Rattle.theory.proofs.Duality.{no-entry}
 use Rattle.theory.proofs.Usable.{usable-none}
 use Rattle.theory.proofs.MatrixInstances.{matrix-instance-arborescence}

@@ -19,7 +19,7 @@ use Rattle.instance.proofs.ArcLaws.{arc-ends, arc-weight, unmarked-remaining}
 use Rattle.instance.proofs.MatrixLaws.{weight-read, matrix-arc}
 use Rattle.theory.specs.Usable.{usable}
 use Rattle.instance.proofs.ArborescenceLaws.{root-parent}
-use Rattle.theory.proofs.StateLaws.{fits-arborescence, fits-total, make-fits}
+use Rattle.theory.proofs.FitLaws.{fits-arborescence, fits-total, make-fits}
 use Rattle.theory.proofs.SameArcs.{same-back, same-feasible}
 use Rattle.theory.proofs.Usable.{usable-some, usable-none, lost-unusable, reduced-unusable}
 use Rattle.theory.proofs.MatrixInstances.{matrix-instance-same, matrix-instance-remaining, matrix-instance-arborescence, matrix-instance-total}

@@ -18,7 +18,7 @@ use Rattle.usable.specs.Fitting.{Fitting-plan}
 use Rattle.usable.specs.Table.{Usable-table}
 use Rattle.usable.proofs.FittingLaws.{planned-fitting}
 use Rattle.survey.specs.Survey.{Surveys}
-use Rattle.survey.proofs.SurveyLaws.{limit-within, limit-most, none-survey, total-small, found-survey}
+use Rattle.survey.proofs.SurveyLaws.{limit-least, limit-most, none-survey, found-most, found-survey}
 use Rattle.survey.proofs.plan_instance.Statement.{statement}
 use Rattle.survey.proofs.plan_instance.Tie as tie
 
@@ -90,11 +90,11 @@ usable-arcs-requires c κs =
     let s = inst (start-of p) in
     let r = p .plan-matrix .result in
     let valid = start-of p .pre .0 in
-    let most = total-small s (ok (start-of p) .small) _ _ r (planned p) (found k) valid in
+    let most = found-most s (ok (start-of p) .small) _ _ r (planned p) (found k) valid in
     let fits = limit-most (r .total) (s .budget) max-budget most (valid-budget s valid) in
     rw (k .limit-at .ensures)
     (subst (λ (m : List ℕ). Fitting-plan m (p .plan-matrix .last .0) (r .parents) (s .n) (s .root) (r .total) (limit-at (s .budget) (some (r .total)))) (same-matrix k)
-    (planned-fitting (s .n) (s .root) _ _ _ _ r _ (ok (start-of p)) (planned p) (found k) (limit-within (r .total) (s .budget)) fits))
+    (planned-fitting (s .n) (s .root) _ _ _ _ r _ (ok (start-of p)) (planned p) (found k) (limit-least (r .total) (s .budget)) fits))
 
 returns-2 : tie.Need-returns-2
 returns-2 c =

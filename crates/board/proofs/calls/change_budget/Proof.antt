@@ -2,8 +2,8 @@
 use mathlib.Core.Path.{refl, ap}
 use borrow.Author.Tests.{lt-ltb, le-ltb, le-leb, lt-leb}
 use borrow.Author.Needs.{needs}
+use Rattle.instance.specs.Instance.{with-budget}
 use Rattle.instance.specs.Refusals.{bad-budget, history-full}
-use Rattle.commands.specs.Model.{with-budget}
 use Rattle.commands.specs.Commands.{decided, budget-refusal, budgeted}
 use Rattle.board.proofs.ModelOfLaws.{length-history}
 use Rattle.board.proofs.CallLaws.{answers-refused, answers-accepted}
@@ -22,7 +22,7 @@ recorded-requires : tie.Need-recorded-requires
 recorded-requires c κs = search needs
 
 returns-3 : tie.Need-returns-3
-unfolding budgeted budget-refusal decided with-budget
+unfolding budgeted budget-refusal decided
 returns-3 c =
     let e = c .before in
     let g = c .recorded .ensures in

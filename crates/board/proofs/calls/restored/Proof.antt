@@ -1,7 +1,7 @@
 -- `restored` puts back what a record of a valid board says: its cell is one of the array. Assumes nothing.
 use mathlib.Core.Path.{refl}
 use borrow.Author.Needs.{needs}
-use Rattle.commands.specs.Model.{restored, with-mark, with-budget}
+use Rattle.commands.specs.Model.{restored, with-mark}
 use Rattle.commands.proofs.ValidLaws.{record-cell}
 use Rattle.board.proofs.calls.restored.Statement.{statement}
 use Rattle.board.proofs.calls.restored.Tie as tie
@@ -32,7 +32,7 @@ unfolding restored with-mark
 returns c = rw (c .before .replaced .given .1) (record { instance = refl; records = refl; count = refl })
 
 returns-2 : tie.Need-returns-2
-unfolding restored with-budget
+unfolding restored
 returns-2 c = rw (c .before .replaced2 .given .1) (record { instance = refl; records = refl; count = refl })
 
 pub restored-spec : {M : Type 1} → statement M

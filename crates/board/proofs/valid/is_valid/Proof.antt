@@ -6,7 +6,6 @@ use borrow.Author.Needs.{needs}
 use Rattle.base.specs.Bounded.{all-below}
 use Rattle.instance.specs.Limits.{cells}
 use Rattle.instance.specs.Valid.{header-valid, cell-valid}
-use Rattle.commands.specs.Model.{with-budget}
 use Rattle.board.specs.ModelOf.{instance-of, model-of}
 use Rattle.board.specs.declared.Board.{Board}
 use Rattle.commands.proofs.ValidLaws.{cells-valid-of}
@@ -22,7 +21,6 @@ header-ok : (c : tie.Else1) → header-valid (board c .n) (board c .root) (board
 header-ok c = sym (c .before .header-valid .ensures) ∙ not-false _ (c .if1 .left)
 
 cells-ok : (c : tie.Else2) → all-below cells (cell-valid (instance-of (board (c .before .before .before .before .before)))) ≡ true
-unfolding with-budget
 cells-ok c =
     let b = board (c .before .before .before .before .before) in
     sym (cells-valid-of (instance-of b) 0) ∙ sym (c .before .cells-valid .ensures) ∙ not-false _ (c .if2 .left)
@@ -37,7 +35,6 @@ cells-valid-requires : tie.Need-cells-valid-requires
 cells-valid-requires c κs = search needs
 
 returns-2 : tie.Need-returns-2
-unfolding with-budget
 returns-2 c =
     let e = c .before .before .before .before .before in
     let b = board e in
