@@ -41,7 +41,7 @@ abbrev pub All-use : (counts : List ℕ → Type 0) → (tail head : ℕ) → Ty
 All-use C t h = (ps : List ℕ) → C ps → uses ps t h ≡ true
 
 -- v is the state of the cell: "0 not a link; 1 closed, no tree uses it; 2 open, some use it and some don't; 3 sure,
--- there is at least one tree and all use it"
+-- there is at least one tree and all use it", of the trees within the limit
 pub record State-reads (s : Instance) (t h v : ℕ) : Type 0 where
   pub absent : is-arc s t h ≡ false → v ≡ 0
   pub present : is-arc s t h ≡ true → (1 ≤ v) × (v ≤ 3)
