@@ -19,7 +19,7 @@ use Rattle.theory.specs.Readings.{Least-total, Outcome-reads}
 use Rattle.theory.proofs.Duality.{weak-duality, no-entry}
 use Rattle.theory.proofs.MarkLaws.{pinned-used, banned-unused}
 use Rattle.theory.proofs.OutcomeLaws.{outcome-reads}
-use Rattle.theory.proofs.OutcomeStates.{cheapest-usable}
+use Rattle.theory.proofs.OutcomeStates.{cheapest-not-excluded}
 use Rattle.commands.specs.Valid.{valid}
 use Rattle.board.specs.ModelOf.{model-of, instance-of}
 use Rattle.board.specs.declared.Board.{Board}
@@ -42,7 +42,7 @@ pub record Proved-tree (s : Instance) (tree : List ℕ) (cuts : List Cut) (v : �
   pub arborescence : is-arborescence s tree ≡ true
   pub costs : total s tree ≡ v
   pub marks-kept : Keeps-marks s tree
-  pub arcs-usable : (t h : ℕ) → is-arc s t h ≡ true → uses tree t h ≡ true → 2 ≤ state s t h
+  pub arcs-not-excluded : (t h : ℕ) → is-arc s t h ≡ true → uses tree t h ≡ true → 2 ≤ state s t h
   pub price : Proves s cuts v
 
 -- tree and cuts are free; what the buffers hold is told by them
@@ -73,7 +73,7 @@ module _ (s : Instance) (tree : List ℕ) (cuts : List Cut) where
         arborescence = p .0;
         costs = p .1;
         marks-kept = record { pins = pinned-used s tree (p .0); bans = banned-unused s tree (p .0) };
-        arcs-usable = λ t h x u. cheapest-usable s t h x tree w least (p .0) (p .1) u;
+        arcs-not-excluded = λ t h x u. cheapest-not-excluded s t h x tree w least (p .0) (p .1) u;
         price = c;
       }
 

@@ -1,4 +1,4 @@
--- Document 01's worked cases, corner cases of the definitions and which instances are valid, computed; laws of arcs,
+-- The documents' worked cases, corner cases of the definitions and which instances are valid, computed; laws of arcs,
 -- arborescences, valid and same instances, paths, sets, cuts and matrices. Assumes nothing.
 pub mod WorkedCases
 pub mod CornerCases

@@ -51,8 +51,8 @@ unfoldable pub total-limit : Instance → ℕ
 total-limit s = limit-at (s .budget) (cheapest s)
 
 -- the instance with that for its budget
-abbrev pub at-limit : Instance → Instance
-at-limit s = with-budget (total-limit s) s
+abbrev pub with-limit : Instance → Instance
+with-limit s = with-budget (total-limit s) s
 
 -- "0 not a link; 1 closed, no tree uses it; 2 open, some use it and some don't; 3 sure, there is at least one tree and
 -- all use it": no arc, excluded, optional, mandatory, over a list of arborescences
@@ -63,8 +63,8 @@ state-over pss s t h =
 -- "Over the feed trees within budget .. If there is no tree within budget, every link is closed." 02, A2 amends it:
 -- "when over budget, the states are to be those for a budget equal to the cheapest total". With no tree it stays.
 unfoldable pub state : Instance → (tail head : ℕ) → ℕ
-state s t h = state-over (fitting (at-limit s)) s t h
+state s t h = state-over (fitting (with-limit s)) s t h
 
 -- "n times n bytes, feeder by feeder"
 unfoldable pub states : Instance → List ℕ
-states s = let pss = fitting (at-limit s) in tabulate (s .n * s .n) (λ i. state-over pss s (i / s .n) (i % s .n))
+states s = let pss = fitting (with-limit s) in tabulate (s .n * s .n) (λ i. state-over pss s (i / s .n) (i % s .n))

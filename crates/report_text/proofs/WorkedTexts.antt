@@ -1,4 +1,4 @@
--- The texts of document 01's cases, computed from instance to bytes: P1 as document 01 shows it, P4 (over, with feed
+-- The texts of the documents' cases, computed from instance to bytes: P1 as document 01 shows it, P4 (over, with feed
 -- lines and P3's rows by 02, A2), P7 (none), P8 (one vertex) and a refused card, as one list with one claim. Assumes
 -- nothing.
 use mathlib.Core.Path.{_≡_, refl}

@@ -15,7 +15,7 @@ use Rattle.base.proofs.SumLaws.{others-count, any-same}
 use Rattle.instance.specs.Limits.{max-vertices, no-arc, cells}
 use Rattle.instance.specs.Instance.{Instance, cell, can-be-arc, is-arc}
 use Rattle.instance.specs.Matrix.{matrix, matrix-instance}
-use Rattle.instance.specs.States.{total-limit, at-limit, state, states}
+use Rattle.instance.specs.States.{total-limit, with-limit, state, states}
 use Rattle.instance.proofs.ArcLaws.{ends}
 use Rattle.instance.proofs.MatrixLaws.{weight-read}
 use Rattle.theory.specs.Usable.{usable}
@@ -58,7 +58,7 @@ state-counted n root used weights t h = at (can-be-arc n root t h) refl (is-used
 -- totals
 module _ (s : Instance) (small : s .n ≤ max-vertices) (size : length (s .weights) ≡ cells) (used : List ℕ)
     (k : Usable-table (matrix-instance (s .n) (s .root) (total-limit s) (matrix s)) used) where
-  says : (t h : ℕ) → t < s .n → h < s .n → is-used used t h ≡ usable (at-limit s) t h
+  says : (t h : ℕ) → t < s .n → h < s .n → is-used used t h ≡ usable (with-limit s) t h
   says t h l m = k .exact t h l m ∙ matrix-usable s (total-limit s) small t h
 
   cell-shown : (t h : ℕ) → t < s .n → h < s .n → state-by used (s .weights) (s .n) (s .root) t h ≡ state s t h
@@ -67,7 +67,7 @@ module _ (s : Instance) (small : s .n ≤ max-vertices) (size : length (s .weigh
       rw (
         weight-read s t h size (omega arith),
         says t h l m,
-        any-same (s .n) (λ g. not (eqb g t) && is-used used g h) (λ g. not (eqb g t) && usable (at-limit s) g h) (λ g b. ap (λ (x : Bool). not (eqb g t) && x) (says g h b m)),
+        any-same (s .n) (λ g. not (eqb g t) && is-used used g h) (λ g. not (eqb g t) && usable (with-limit s) g h) (λ g b. ap (λ (x : Bool). not (eqb g t) && x) (says g h b m)),
       )
       (sym (state-usable s t h))
 

@@ -20,6 +20,41 @@ pub fn look_at(p: Problem) -> Shown {
     calls::look(boards::of_problem(p))
 }
 
+// Whether its reduced price closes an arc; one that does not remain has none.
+fn is_priced_out(
+    cuts: &[u32], // the words that were shown
+    tail: u32, // the arc
+    head: u32,
+    weight: u32,
+    total: u32, // the cheapest total
+    limit: u32, // what a total may be at most
+) -> bool {
+    if weight == ABSENT {
+        return false;
+    }
+    shown::reduced_closes(cuts, tail, head, weight, total, limit)
+}
+
+// The place of the first such arc among the states, or their number.
+pub fn first_priced_out(table: &[u32; CELLS], p: Problem, s: Shown) -> u32 {
+    let cuts = s.cuts;
+    let total = s.total;
+    let limit = outcome::limit(total, p.budget);
+    for k in 0..CELLS as u32 {
+        if is_priced_out(
+            &cuts,
+            k / STRIDE,
+            k % STRIDE,
+            table[k as usize],
+            total,
+            limit,
+        ) {
+            return k;
+        }
+    }
+    CELLS as u32
+}
+
 // Whether the state of a remaining arc fits the shown tree and cuts: "closed" where its reduced price says so, not
 // "closed" in the tree, "sure" only in the tree.
 fn remaining_fits(p: Problem, s: Shown, tail: u32, head: u32, weight: u32) -> bool {
@@ -27,7 +62,7 @@ fn remaining_fits(p: Problem, s: Shown, tail: u32, head: u32, weight: u32) -> bo
     let parents = s.parents;
     let cuts = s.cuts;
     let limit = outcome::limit(s.total, p.budget);
-    if shown::reduced_closes(&cuts, tail, head, weight, s.total, limit) {
+    if is_priced_out(&cuts, tail, head, weight, s.total, limit) {
         return state == 1;
     }
     if access::byte(&parents, head) == tail {

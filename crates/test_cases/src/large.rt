@@ -1,6 +1,6 @@
 // Instances of 32 vertices: dense, sparse, nested cycles, all weights equal. The shown tree and the cuts prove the
-// total; the states are held to what follows from the shown tree and the cuts, and for some arcs to looks with that arc
-// pinned and banned.
+// total; the states are held to what follows from the shown tree and the cuts, for some arcs to looks with that arc
+// pinned and banned, and one below the cheapest total to those at it.
 use crate::exact;
 use crate::make;
 use crate::planted;
@@ -67,9 +67,26 @@ fn with_over_faults(tally: Tally, p: Problem, s: Shown) -> Tally {
     tally::planted(t, !exact::states_fit(&table, p, planted::all_closed(s)))
 }
 
+// An arc that its reduced price closes, shown open: that has to be reported.
+fn with_opened(tally: Tally, p: Problem, s: Shown) -> Tally {
+    if s.kind == outcome::NONE {
+        return tally;
+    }
+    let table = problem::costs(p);
+    let at = exact::first_priced_out(&table, p, s);
+    if CELLS as u32 <= at {
+        return tally;
+    }
+    tally::planted(
+        tally,
+        !exact::states_fit(&table, p, planted::with_state(s, at)),
+    )
+}
+
 fn with_look(tally: Tally, p: Problem, s: Shown) -> Tally {
     let t = tally::with(tally, access::plus(KINDS, s.kind), 1);
-    with_over_faults(tally::checked(t, LOOKS, is_right(p, s)), p, s)
+    let u = tally::checked(t, LOOKS, is_right(p, s));
+    with_opened(with_over_faults(u, p, s), p, s)
 }
 
 // One arc that the generator picks, exactly.

@@ -12,7 +12,7 @@ use Rattle.instance.specs.Instance.{Instance, with-budget, weight, is-arc}
 use Rattle.instance.specs.Arborescence.{remaining, is-arborescence, total, uses}
 use Rattle.instance.specs.Cuts.{Cut, values, Feasible, reduced-cost}
 use Rattle.instance.specs.declared.Outcome.the-variants.{Over, NoTree}
-use Rattle.instance.specs.States.{outcome, fitting, limit-at, total-limit, at-limit, state-over, state, states}
+use Rattle.instance.specs.States.{outcome, fitting, limit-at, total-limit, with-limit, state-over, state, states}
 use Rattle.theory.specs.Readings.{Within-limit, None-uses, Least-total, Cheapest-reads}
 use Rattle.theory.proofs.OutcomeLaws.{cheapest-only, outcome-reads}
 use Rattle.theory.proofs.SameArcs.{with-budget-arcs, same-feasible, same-cheapest}
@@ -55,13 +55,13 @@ module _ (s : Instance) (t h : ℕ) (x : is-arc s t h ≡ true) where
   unfolding reduced-cost weight
   reduced-excludes cs f r past =
       let back = limit-arcs-back s in
-      let unused = reduced-unused (at-limit s) cs t h (same-feasible s (at-limit s) back cs f) (sym (back .arcs t h) ∙ r) past in
+      let unused = reduced-unused (with-limit s) cs t h (same-feasible s (with-limit s) back cs f) (sym (back .arcs t h) ∙ r) past in
       unused-excluded (λ ps c. unused ps (within-limit s ps .1 c))
 
   -- no arc of a cheapest tree is excluded, over the budget neither: where there is a tree, no blank wall is shown
-  pub cheapest-usable : (ps : List ℕ) (v : ℕ) → Least-total s v → is-arborescence s ps ≡ true → total s ps ≡ v → uses ps t h ≡ true → 2 ≤ state s t h
-  cheapest-usable ps v l a e u =
+  pub cheapest-not-excluded : (ps : List ℕ) (v : ℕ) → Least-total s v → is-arborescence s ps ≡ true → total s ps ≡ v → uses ps t h ≡ true → 2 ≤ state s t h
+  cheapest-not-excluded ps v l a e u =
       let r = state-reads s t h in
-      let c : Within-limit s ps = record { arborescence = a; cheap = inr (λ qs b. let low = l .least qs b in omega arith) } in
+      let c : Within-limit s ps = record { arborescence = a; within = inr (λ qs b. let low = l .least qs b in omega arith) } in
       let other : state s t h ≢ 1 = λ z. not-both (uses ps t h) u (r .excluded x .0 z ps c) in
       omega (arith, r .present x .0)

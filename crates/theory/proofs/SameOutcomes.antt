@@ -9,7 +9,7 @@ use Rattle.base.proofs.BoolLaws.{same-test}
 use Rattle.instance.specs.Limits.{no-parent}
 use Rattle.instance.specs.Instance.{Instance, weight, mark}
 use Rattle.instance.specs.Candidates.{prefixed, choices, candidates-from, candidates}
-use Rattle.instance.specs.States.{outcome-at, outcome, fits, fitting, limit-at, total-limit, at-limit, state-over, state, states}
+use Rattle.instance.specs.States.{outcome-at, outcome, fits, fitting, limit-at, total-limit, with-limit, state-over, state, states}
 use Rattle.instance.specs.Same.{Same-instance}
 use Rattle.instance.proofs.SameLaws.{same-turned, same-is-arc, same-arc-weight, same-remaining}
 use Rattle.instance.proofs.ArcLaws.{remaining-arc}
@@ -32,9 +32,9 @@ module _ (a b : Instance) (e : Same-instance a b) where
   unfolding outcome
   same-outcome = λ i. outcome-at (e .same-budget i) (same-cheapest a b (arcs-same a b e) i)
 
-  same-at-limit : Same-instance (at-limit a) (at-limit b)
+  same-with-limit : Same-instance (with-limit a) (with-limit b)
   unfolding total-limit weight mark
-  same-at-limit =
+  same-with-limit =
       record {
         same-n = e .same-n;
         same-root = e .same-root;
@@ -72,7 +72,7 @@ module _ (a b : Instance) (e : Same-instance a b) where
 module _ (a b : Instance) (e : Same-instance a b) where
   pub same-state : (t h : ℕ) → state a t h ≡ state b t h
   unfolding state state-over
-  same-state t h = rw (same-is-arc a b e t h, same-fitting (at-limit a) (at-limit b) (same-at-limit a b e))
+  same-state t h = rw (same-is-arc a b e t h, same-fitting (with-limit a) (with-limit b) (same-with-limit a b e))
 
   pub same-states : states a ≡ states b
   same-states =

@@ -15,7 +15,7 @@ use Rattle.base.proofs.ListLaws.{length-tabulate, getD-tabulate, tabulate-is}
 use Rattle.base.proofs.GridLaws.{grid-row, grid-column}
 use Rattle.instance.specs.Instance.{Instance, is-arc}
 use Rattle.instance.specs.Arborescence.{is-arborescence, uses}
-use Rattle.instance.specs.States.{fits, fitting, at-limit, state-over, state, states}
+use Rattle.instance.specs.States.{fits, fitting, with-limit, state-over, state, states}
 use Rattle.theory.specs.Readings.{Within-limit, Some-uses, Some-avoids, None-uses, All-use, State-reads, States-read}
 use Rattle.theory.proofs.CandidateLaws.{any-selected, all-selected, one-fails, none-passes}
 use Rattle.theory.proofs.FitLaws.{fits-arborescence}
@@ -23,12 +23,9 @@ use Rattle.theory.proofs.TotalLimit.{within-limit}
 
 -- ONE CELL
 module _ (s : Instance) (t h : ℕ) where
-  abbrev C : List ℕ → Type 0
-  C = Within-limit s
-
-  -- the state from the two tests over all lists that count
-  reads-cases : (a u w : Bool) → is-arc s t h ≡ a → (u ≡ true → Some-uses C t h) → (u ≡ false → None-uses C t h)
-      → (w ≡ true → All-use C t h) → (w ≡ false → Some-avoids C t h) → State-reads s t h (cond a (cond u (cond w 3 2) 1) 0)
+  -- the state from the two tests over all lists within the limit
+  reads-cases : (a u w : Bool) → is-arc s t h ≡ a → (u ≡ true → Some-uses (Within-limit s) t h) → (u ≡ false → None-uses (Within-limit s) t h)
+      → (w ≡ true → All-use (Within-limit s) t h) → (w ≡ false → Some-avoids (Within-limit s) t h) → State-reads s t h (cond a (cond u (cond w 3 2) 1) 0)
   reads-cases false u w e some none all one =
       record {
         absent = λ _. refl;
@@ -81,7 +78,7 @@ module _ (s : Instance) (t h : ℕ) where
       (λ e. let x = one-fails r (fits r) sound used e in (x .0, within-limit s (x .0) .0 (x .1), x .2))
     where
       r : Instance
-      r = at-limit s
+      r = with-limit s
 
       used : List ℕ → Bool
       used ps = uses ps t h

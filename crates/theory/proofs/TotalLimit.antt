@@ -13,7 +13,7 @@ use Rattle.base.proofs.BoolLaws.{test}
 use Rattle.instance.specs.Instance.{Instance}
 use Rattle.instance.specs.Arborescence.{is-arborescence, total}
 use Rattle.instance.specs.declared.Outcome.the-variants.{Plan, Over}
-use Rattle.instance.specs.States.{outcome, fits, limit-at, total-limit, at-limit}
+use Rattle.instance.specs.States.{outcome, fits, limit-at, total-limit, with-limit}
 use Rattle.theory.specs.Readings.{Within-limit, Least-total, No-arborescence, Cheapest-reads}
 use Rattle.theory.proofs.OutcomeLaws.{some-least, cheapest-only, outcome-reads}
 use Rattle.theory.proofs.SameArcs.{Same-arcs, same-back, with-budget-arcs, same-arborescence, same-total}
@@ -38,30 +38,30 @@ module _ (s : Instance) where
 
 -- WHAT IS WITHIN IT
 module _ (s : Instance) where
-  limit-arcs : Same-arcs (at-limit s) s
+  limit-arcs : Same-arcs (with-limit s) s
   limit-arcs = with-budget-arcs (total-limit s) s
 
-  pub limit-arcs-back : Same-arcs s (at-limit s)
-  limit-arcs-back = same-back (at-limit s) s limit-arcs
+  pub limit-arcs-back : Same-arcs s (with-limit s)
+  limit-arcs-back = same-back (with-limit s) s limit-arcs
 
   module _ (ps : List ℕ) where
     -- at most the larger of two numbers is at most one of them
-    cheap-by : (v : ℕ) → Least-total s v → total s ps ≤ total-limit s → (total s ps ≤ s .budget) ⊎ ((qs : List ℕ) → is-arborescence s qs ≡ true → total s ps ≤ total s qs)
-    cheap-by v l most =
+    one-of : (v : ℕ) → Least-total s v → total s ps ≤ total-limit s → (total s ps ≤ s .budget) ⊎ ((qs : List ℕ) → is-arborescence s qs ≡ true → total s ps ≤ total s qs)
+    one-of v l most =
         let m = limit-larger s v l in
         ⊎-elim (λ (e : leb (total s ps) (s .budget) ≡ true). inl (leb-true (total s ps) (s .budget) e))
         (λ (e : leb (total s ps) (s .budget) ≡ false).
         inr (λ qs b. let past = leb-false (total s ps) (s .budget) e in let low = l .least qs b in omega arith))
         (test (leb (total s ps) (s .budget)))
 
-    within : fits (at-limit s) ps ≡ true → Within-limit s ps
-    within f =
-        let a = fits-arborescence (at-limit s) ps f in
-        let b = same-arborescence (at-limit s) s limit-arcs ps a in
+    fits-within : fits (with-limit s) ps ≡ true → Within-limit s ps
+    fits-within f =
+        let a = fits-arborescence (with-limit s) ps f in
+        let b = same-arborescence (with-limit s) s limit-arcs ps a in
         let least = some-least s ps b in
-        let l = fits-total (at-limit s) ps f in
-        let e = same-total (at-limit s) s limit-arcs ps a in
-        record { arborescence = b; cheap = cheap-by (least .0) (least .1) (omega arith) }
+        let l = fits-total (with-limit s) ps f in
+        let e = same-total (with-limit s) s limit-arcs ps a in
+        record { arborescence = b; within = one-of (least .0) (least .1) (omega arith) }
 
     most-by : (v : ℕ) → Least-total s v → Within-limit s ps → total s ps ≤ total-limit s
     most-by v l c =
@@ -69,18 +69,18 @@ module _ (s : Instance) where
         ⊎-elim (λ (x : total s ps ≤ s .budget). omega arith)
         (λ (x : (qs : List ℕ) → is-arborescence s qs ≡ true → total s ps ≤ total s qs).
         let y = x (l .parents) (l .arborescence) in omega (arith, l .attained))
-        (c .cheap)
+        (c .within)
 
-    fits-limit : Within-limit s ps → fits (at-limit s) ps ≡ true
-    fits-limit c =
+    within-fits : Within-limit s ps → fits (with-limit s) ps ≡ true
+    within-fits c =
         let least = some-least s ps (c .arborescence) in
         let most = most-by (least .0) (least .1) c in
-        let e = same-total s (at-limit s) limit-arcs-back ps (c .arborescence) in
-        make-fits (at-limit s) ps (same-arborescence s (at-limit s) limit-arcs-back ps (c .arborescence)) (omega arith)
+        let e = same-total s (with-limit s) limit-arcs-back ps (c .arborescence) in
+        make-fits (with-limit s) ps (same-arborescence s (with-limit s) limit-arcs-back ps (c .arborescence)) (omega arith)
 
     -- THE READING
-    pub within-limit : (fits (at-limit s) ps ≡ true) ↔ Within-limit s ps
-    within-limit = (within, fits-limit)
+    pub within-limit : (fits (with-limit s) ps ≡ true) ↔ Within-limit s ps
+    within-limit = (fits-within, within-fits)
 
     -- with a plan it is the plain budget that decides
     pub plan-within : (v : ℕ) → outcome s ≡ Plan v → Within-limit s ps ↔ (fits s ps ≡ true)
@@ -90,7 +90,7 @@ module _ (s : Instance) where
           let most = most-by v (r .0) c in
           let limit = limit-plan s v e in
           make-fits s ps (c .arborescence) (omega arith)),
-      (λ f. record { arborescence = fits-arborescence s ps f; cheap = inl (fits-total s ps f) }),
+      (λ f. record { arborescence = fits-arborescence s ps f; within = inl (fits-total s ps f) }),
     )
 
     -- over the budget the cheapest trees count, and no others
@@ -104,5 +104,5 @@ module _ (s : Instance) where
           (c .arborescence, omega arith)),
       (λ x.
           let r = outcome-reads s .exceeds v .0 e in
-          record { arborescence = x .0; cheap = inr (λ qs b. let low = r .0 .least qs b in omega (arith, x .1)) }),
+          record { arborescence = x .0; within = inr (λ qs b. let low = r .0 .least qs b in omega (arith, x .1)) }),
     )

@@ -14,7 +14,7 @@ use Rattle.base.proofs.BoundedLaws.{any-intro, any-found}
 use Rattle.instance.specs.Instance.{Instance, is-arc}
 use Rattle.instance.specs.Arborescence.{remaining, parent, uses}
 use Rattle.instance.specs.Cuts.{Cut, values, Feasible, reduced-cost}
-use Rattle.instance.specs.States.{fits, fitting, total-limit, at-limit, state-over, state}
+use Rattle.instance.specs.States.{fits, fitting, total-limit, with-limit, state-over, state}
 use Rattle.theory.specs.Readings.{Fits, Some-uses, None-uses, All-use}
 use Rattle.theory.specs.Usable.{usable}
 use Rattle.instance.proofs.ArcLaws.{arc-ends, remaining-ends}
@@ -96,8 +96,8 @@ module _ (s : Instance) (t h : ℕ) (x : is-arc s t h ≡ true) where
 
 -- THE STATE FROM USABILITY, under the limit on totals
 pub state-usable : (s : Instance) (t h : ℕ)
-    → state s t h ≡ cond (is-arc s t h) (cond (usable (at-limit s) t h) (cond (any-below (s .n) (λ g. not (eqb g t) && usable (at-limit s) g h)) 2 3) 1) 0
+    → state s t h ≡ cond (is-arc s t h) (cond (usable (with-limit s) t h) (cond (any-below (s .n) (λ g. not (eqb g t) && usable (with-limit s) g h)) 2 3) 1) 0
 unfolding state state-over usable
 state-usable s t h =
-    ⊎-elim (λ (x : is-arc s t h ≡ true). rw x (by-others (at-limit s) t h (with-budget-arc (total-limit s) s t h ∙ x)))
+    ⊎-elim (λ (x : is-arc s t h ≡ true). rw x (by-others (with-limit s) t h (with-budget-arc (total-limit s) s t h ∙ x)))
     (λ (x : is-arc s t h ≡ false). rw x) (test (is-arc s t h))

@@ -14,7 +14,7 @@ use Rattle.instance.specs.declared.Outcome.{Outcome}
 use Rattle.instance.specs.declared.Outcome.the-variants.{Plan, Over, NoTree}
 use Rattle.instance.specs.States.{fits}
 
--- WHICH LISTS COUNT
+-- KINDS OF LISTS
 -- a feed tree "within budget"
 abbrev pub Fits : Instance → List ℕ → Type 0
 Fits s ps = fits s ps ≡ true
@@ -22,23 +22,23 @@ Fits s ps = fits s ps ≡ true
 -- a feed tree within "the larger of the budget and the cheapest total" (02, A2): within the budget, or none is cheaper
 pub record Within-limit (s : Instance) (ps : List ℕ) : Type 0 where
   pub arborescence : is-arborescence s ps ≡ true
-  pub cheap : (total s ps ≤ s .budget) ⊎ ((qs : List ℕ) → is-arborescence s qs ≡ true → total s ps ≤ total s qs)
+  pub within : (total s ps ≤ s .budget) ⊎ ((qs : List ℕ) → is-arborescence s qs ≡ true → total s ps ≤ total s qs)
 
--- THOSE THAT COUNT AND AN ARC
-abbrev pub Some-count : (counts : List ℕ → Type 0) → Type 0
-Some-count C = (ps : List ℕ) × C ps
+-- THE LISTS OF A KIND AND AN ARC
+abbrev pub Some-are : (kind : List ℕ → Type 0) → Type 0
+Some-are K = (ps : List ℕ) × K ps
 
-abbrev pub Some-uses : (counts : List ℕ → Type 0) → (tail head : ℕ) → Type 0
-Some-uses C t h = (ps : List ℕ) × C ps × (uses ps t h ≡ true)
+abbrev pub Some-uses : (kind : List ℕ → Type 0) → (tail head : ℕ) → Type 0
+Some-uses K t h = (ps : List ℕ) × K ps × (uses ps t h ≡ true)
 
-abbrev pub Some-avoids : (counts : List ℕ → Type 0) → (tail head : ℕ) → Type 0
-Some-avoids C t h = (ps : List ℕ) × C ps × (uses ps t h ≡ false)
+abbrev pub Some-avoids : (kind : List ℕ → Type 0) → (tail head : ℕ) → Type 0
+Some-avoids K t h = (ps : List ℕ) × K ps × (uses ps t h ≡ false)
 
-abbrev pub None-uses : (counts : List ℕ → Type 0) → (tail head : ℕ) → Type 0
-None-uses C t h = (ps : List ℕ) → C ps → uses ps t h ≡ false
+abbrev pub None-uses : (kind : List ℕ → Type 0) → (tail head : ℕ) → Type 0
+None-uses K t h = (ps : List ℕ) → K ps → uses ps t h ≡ false
 
-abbrev pub All-use : (counts : List ℕ → Type 0) → (tail head : ℕ) → Type 0
-All-use C t h = (ps : List ℕ) → C ps → uses ps t h ≡ true
+abbrev pub All-use : (kind : List ℕ → Type 0) → (tail head : ℕ) → Type 0
+All-use K t h = (ps : List ℕ) → K ps → uses ps t h ≡ true
 
 -- v is the state of the cell: "0 not a link; 1 closed, no tree uses it; 2 open, some use it and some don't; 3 sure,
 -- there is at least one tree and all use it", of the trees within the limit
@@ -47,7 +47,7 @@ pub record State-reads (s : Instance) (t h v : ℕ) : Type 0 where
   pub present : is-arc s t h ≡ true → (1 ≤ v) × (v ≤ 3)
   pub excluded : is-arc s t h ≡ true → (v ≡ 1) ↔ None-uses (Within-limit s) t h
   pub optional : is-arc s t h ≡ true → (v ≡ 2) ↔ (Some-uses (Within-limit s) t h × Some-avoids (Within-limit s) t h)
-  pub mandatory : is-arc s t h ≡ true → (v ≡ 3) ↔ (Some-count (Within-limit s) × All-use (Within-limit s) t h)
+  pub mandatory : is-arc s t h ≡ true → (v ≡ 3) ↔ (Some-are (Within-limit s) × All-use (Within-limit s) t h)
 
 -- "the first n times n bytes, feeder by feeder"
 pub record States-read (s : Instance) (vs : List ℕ) : Type 0 where
