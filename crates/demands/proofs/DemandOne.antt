@@ -4,7 +4,7 @@
 -- and a refused card gets its line. (That every call ends, and that nothing is required of the caller, is what each
 -- function's own proof says.) Assumes nothing.
 use mathlib.Core.Path.{_≡_, refl, sym, ap, _∙_, subst}
-use mathlib.Core.Bool.{Bool, true, false}
+use mathlib.Core.Bool.{Bool, true, false, cond}
 use mathlib.Core.List.{List, [], _∷_}
 use Prim.Native.Nat.{ℕ, zero, suc, _≤_}
 use native.Mathlib.Omega.{arith}
@@ -19,6 +19,8 @@ use Rattle.card_format.specs.Card.{card-refusal}
 use Rattle.card_format.proofs.OpensLaws.{card-refusal-most}
 use Rattle.card_format.proofs.SixRetired.{six-retired}
 use Rattle.card.specs.declared.write.Written.{Written}
+use Rattle.certificate.specs.Certificate.{certificate-refusal, certificate-numbers}
+use Rattle.certificate.proofs.CertificateLaws.{refusal-listed}
 use Rattle.commands.specs.Valid.{valid}
 use Rattle.commands.specs.Commands.{Command, command-numbers}
 use Rattle.commands.specs.Log.{Log}
@@ -37,9 +39,10 @@ use Rattle.report.proofs.Learnt.{Reported-by, reported-by}
 use Rattle.planner.specs.declared.View.{View}
 use Rattle.planner.specs.Opening.{answered-with, opened-from}
 use Rattle.planner.specs.Looking.{Buffers, answer-of, short-for, Looks-at, Looks}
+use Rattle.planner.specs.Checking.{check-answer}
 use Rattle.planner.specs.Replaying.{Call, Replays-at, Replays}
 use Rattle.planner.proofs.CallSteps.{shown-answer}
-use Rattle.planner.proofs.Learnt.{Opened-by, opened-by, Looked, looked, Wrote, wrote, Replayed, replayed}
+use Rattle.planner.proofs.Learnt.{Opened-by, opened-by, Looked, looked, Wrote, wrote, Checked, checked, Replayed, replayed}
 use Rattle.planner.proofs.WritingLaws.{Write-case, refused-board, refused-buffer, stored, write-cases}
 use Rattle.planner.proofs.OpeningLaws.{opened-answer, opened-starts}
 
@@ -49,6 +52,7 @@ pub data Given : ℕ → Type 0 where
   by-command : {c : Command} {b : Board} {r : Answered} → Called c b r → Given (r .answer)
   by-looking : {b : Board} {v : View} {old new : Buffers} → Looked b old new v → Given (answer-of v)
   by-writing : {b : Board} {r : Written} {out out′ : List ℕ} → Wrote b out out′ r → Given (r .answer)
+  by-checking : {b : Board} {ps ps′ : List ℕ} {v k : ℕ} {ws ws′ : List ℕ} {r : ℕ} → Checked b ps ps′ v k ws ws′ r → Given r
   by-reporting : {ws : List ℕ} {r : Reported} {out out′ : List ℕ} → Reported-by ws out out′ r → Given (r .answer)
   by-replaying : {ws ks fs gs : List ℕ} {v : View} {xs xs′ : List ℕ} {old new : Buffers} → Replayed ws ks fs gs xs xs′ old new v → Given (answer-of v)
 
@@ -61,11 +65,16 @@ card-numbers = 0 ∷ card-short ∷ bad-count ∷ bad-length ∷ bad-root ∷ ba
 abbrev pub buffer-numbers : List ℕ
 buffer-numbers = 0 ∷ invalid-board ∷ buffer-short ∷ []
 
+-- "in order 15, 14, 21 .. 25" (02, A6)
+abbrev pub check-numbers : List ℕ
+check-numbers = invalid-board ∷ certificate-numbers
+
 abbrev pub numbers : {a : ℕ} → Given a → List ℕ
 numbers (by-opening p) = card-numbers
 numbers (by-command {c = c} p) = command-numbers c
 numbers (by-looking p) = buffer-numbers
 numbers (by-writing p) = buffer-numbers
+numbers (by-checking p) = check-numbers
 numbers (by-reporting p) = buffer-short ∷ card-numbers
 numbers (by-replaying p) = buffer-short ∷ card-numbers
 
@@ -83,6 +92,7 @@ As-before (by-opening {o = o} p) = o .board ≡ blank
 As-before (by-command {b = b} {r = r} p) = r .board ≡ b
 As-before (by-looking {old = old} {new = new} p) = new ≡ old
 As-before (by-writing {out = out} {out′ = out′} p) = out′ ≡ out
+As-before (by-checking {ps = ps} {ps′ = ps′} {ws = ws} {ws′ = ws′} p) = (ps′ ≡ ps) × (ws′ ≡ ws)
 As-before (by-reporting {r = r} {out = out} {out′ = out′} p) = Reports-before out out′ r
 As-before (by-replaying {xs = xs} {xs′ = xs′} {old = old} {new = new} p) = (xs′ ≡ xs) × (new ≡ old)
 
@@ -92,6 +102,7 @@ Leaves-valid (by-opening {o = o} p) = valid (model-of (o .board)) ≡ true
 Leaves-valid (by-command {r = r} p) = valid (model-of (r .board)) ≡ true
 Leaves-valid (by-looking {b = b} p) = valid (model-of b) ≡ true
 Leaves-valid (by-writing {b = b} p) = valid (model-of b) ≡ true
+Leaves-valid (by-checking {b = b} p) = valid (model-of b) ≡ true
 Leaves-valid (by-reporting {ws = ws} p) = card-refusal ws ≡ 0
 Leaves-valid (by-replaying {ws = ws} p) = card-refusal ws ≡ 0
 
@@ -160,6 +171,25 @@ module _ (b : Board) (r : Written) (out out′ : List ℕ) where
   writes-valid (refused-board e p q) z = absurd (omega (arith, sym z ∙ ap (λ (x : Written). x .answer) p))
   writes-valid (refused-buffer e l p q) z = e
   writes-valid (stored e l p q) z = e
+
+-- CHECKS
+module _ (b : Board) (ps : List ℕ) (v k : ℕ) (ws : List ℕ) where
+  check-among : among (check-answer b ps v k ws) check-numbers ≡ true
+  unfolding any-of
+  check-among = by (valid (model-of b))
+    where
+      by : (g : Bool) → among (cond g (certificate-refusal (instance-of b) ps v k ws) invalid-board) check-numbers ≡ true
+      by false = refl
+      by true =
+          or-right (eqb (certificate-refusal (instance-of b) ps v k ws) invalid-board) (among (certificate-refusal (instance-of b) ps v k ws) certificate-numbers)
+          (refusal-listed (instance-of b) ps v k ws)
+
+  check-valid : check-answer b ps v k ws ≡ 0 → valid (model-of b) ≡ true
+  check-valid = by (valid (model-of b))
+    where
+      by : (g : Bool) → cond g (certificate-refusal (instance-of b) ps v k ws) invalid-board ≡ 0 → g ≡ true
+      by true e = refl
+      by false e = absurd (omega (arith, e))
 
 -- REPORTS, by whether the buffer is too short and the card opens
 module _ (ws : List ℕ) (r : Reported) (out out′ : List ℕ) where
@@ -241,6 +271,13 @@ demand-1 (by-writing {b = b} {r = r} {out = out} {out′ = out′} p) =
       own-number = writes-among b r out out′ w;
       as-before = writes-as-before b r out out′ w;
       leaves-valid = writes-valid b r out out′ w;
+    }
+demand-1 (by-checking {b = b} {ps = ps} {v = v} {k = k} {ws = ws} p) =
+    let c = checked p in
+    record {
+      own-number = rw (c .result) (check-among b ps v k ws);
+      as-before = λ _. (c .parents-kept, c .words-kept);
+      leaves-valid = λ z. check-valid b ps v k ws (sym (c .result) ∙ z);
     }
 demand-1 (by-reporting {ws = ws} {r = r} {out = out} {out′ = out′} p) =
     let x = reported-by p in

@@ -1,5 +1,5 @@
 -- DEMAND 3, of the public calls themselves and for every caller: one claim about every list of commands on a freshly
--- opened card, refused ones included, looks and writes between them or not. Assumes nothing.
+-- opened card, refused ones included, looks, writes and checks between them or not. Assumes nothing.
 use mathlib.Core.Path.{_≡_, refl, sym, ap, _∙_, subst}
 use mathlib.Core.Bool.{Bool, true, false, true≢false}
 use mathlib.Core.List.{List, [], _∷_}
@@ -21,10 +21,11 @@ use Rattle.board.proofs.RunLaws.{Called, called-answers, Follows, call-follows}
 use Rattle.planner.specs.declared.View.{View}
 use Rattle.planner.specs.Looking.{Buffers, short-for, Looks-at}
 use Rattle.planner.proofs.CallSteps.{states-front, looks-valid}
-use Rattle.planner.proofs.Learnt.{Opened-by, opened-by, Looked, looked, Wrote}
+use Rattle.planner.proofs.Learnt.{Opened-by, opened-by, Looked, looked, Wrote, Checked}
 use Rattle.planner.proofs.OpeningLaws.{opened-starts}
 
--- a run: "each later one the board as the call before left it, refused or not; looks and writes may come between"
+-- a run: "each later one the board as the call before left it, refused or not; looks and writes may come between", and
+-- checks of plans made elsewhere (02, A6), which leave the board too
 pub data Run : List Command → Board → (answers : List ℕ) → (last : Board) → Type 0 where
   no-call : {b : Board} → Run [] b [] b
   then-command :
@@ -34,6 +35,9 @@ pub data Run : List Command → Board → (answers : List ℕ) → (last : Board
       {cs : List Command} {b : Board} {xs : List ℕ} {e : Board} {v : View} {old new : Buffers} → Looked b old new v → Run cs b xs e → Run cs b xs e
   then-write :
       {cs : List Command} {b : Board} {xs : List ℕ} {e : Board} {r : Written} {out out′ : List ℕ} → Wrote b out out′ r → Run cs b xs e → Run cs b xs e
+  then-check :
+      {cs : List Command} {b : Board} {xs : List ℕ} {e : Board} {ps ps′ : List ℕ} {v k : ℕ} {ws ws′ : List ℕ} {r : ℕ} → Checked b ps ps′ v k ws ws′ r → Run cs b xs e →
+      Run cs b xs e
 
 pub record Follows-run (cs : List Command) (k : Log) (b : Board) (xs : List ℕ) (e : Board) : Type 0 where
   pub same-answers : xs ≡ log-answers cs k
@@ -54,6 +58,7 @@ run-follows (then-command {c = c} {b = b} {r = r} l rest) k f =
     }
 run-follows (then-look l rest) k f = run-follows rest k f
 run-follows (then-write l rest) k f = run-follows rest k f
+run-follows (then-check l rest) k f = run-follows rest k f
 
 -- "every call's answer, accepted or the refusal's number, is the book's. A look at the last board, whatever buffers it
 -- is lent, gives 14 exactly when one is too short; otherwise the n times n states are those of 'Link states', over the

@@ -4,3 +4,4 @@ pub mod DemandTwo
 pub mod DemandThree
 pub mod RoundTrips
 pub mod SixRetired
+pub mod PlansElsewhere

@@ -12,7 +12,7 @@ use Rattle.commands.specs.Commands.{Command, set-mark, set-budget, undo, comman
 use Rattle.commands.specs.Log.{Log, unnoted, note}
 use Rattle.commands.proofs.LogLaws.{note-listed}
 use Rattle.planner.specs.Replaying.{Call, command, look, write, log-call, call-answers}
-use Rattle.demands.proofs.DemandOne.{Given, by-opening, by-command, by-looking, by-writing, by-reporting, by-replaying, numbers, among, demand-1}
+use Rattle.demands.proofs.DemandOne.{Given, by-opening, by-command, by-looking, by-writing, by-checking, by-reporting, by-replaying, numbers, among, demand-1}
 
 -- ONE CALL
 -- 6 is among the numbers of no command
@@ -29,6 +29,7 @@ all-lack-six (by-opening p) = refl
 all-lack-six (by-command {c = c} p) = commands-lack-six c
 all-lack-six (by-looking p) = refl
 all-lack-six (by-writing p) = refl
+all-lack-six (by-checking p) = refl
 all-lack-six (by-reporting p) = refl
 all-lack-six (by-replaying p) = refl
 

@@ -1,7 +1,7 @@
--- What an arc and a remaining arc are, taken apart; an arc as a program reads it; with no marks every arc remains.
--- Assumes nothing.
+-- What an arc and a remaining arc are, taken apart; a test of every remaining arc; an arc as a program reads it; with
+-- no marks every arc remains. Assumes nothing.
 use mathlib.Core.Path.{_≡_, refl}
-use mathlib.Core.Bool.{true, false, _&&_, not, and-true}
+use mathlib.Core.Bool.{Bool, true, false, _&&_, not, cond, and-true}
 use mathlib.Core.List.{List}
 use Prim.Native.Nat.{ℕ, _≤_, _<_}
 use native.Mathlib.Omega.{arith}
@@ -9,11 +9,12 @@ use lib.Dec.{ltb, eqb}
 use lib.ListN.{length, getD}
 use borrow.Author.Tests.{ltb-true, not-true}
 use Rattle.base.proofs.BoolLaws.{and-left, and-right, and-false-right}
-use Rattle.base.proofs.BoundedLaws.{any-false}
+use Rattle.base.specs.Bounded.{all-below}
+use Rattle.base.proofs.BoundedLaws.{any-false, all-at, all-intro}
 use Rattle.base.proofs.ListLaws.{default}
 use Rattle.instance.specs.Limits.{max-vertices, no-arc, banned, cells}
 use Rattle.instance.specs.Instance.{Instance, cell, weight, mark, can-be-arc, is-arc}
-use Rattle.instance.specs.Arborescence.{is-pinned, other-pinned, remaining}
+use Rattle.instance.specs.Arborescence.{is-pinned, other-pinned, remaining, if-remaining, each-remaining}
 use Rattle.instance.specs.Matrix.{unmarked}
 
 -- the ends of a cell where an arc can be
@@ -50,6 +51,25 @@ module _ (s : Instance) (t h : ℕ) where
 
   pub remaining-ends : remaining s t h ≡ true → Ends (s .n) (s .root) t h
   remaining-ends e = arc-ends (remaining-arc e)
+
+-- A TEST OF EVERY REMAINING ARC
+module _ (s : Instance) (P : ℕ → ℕ → Bool) where
+  pub each-at : each-remaining s P ≡ true → (t h : ℕ) → remaining s t h ≡ true → P t h ≡ true
+  unfolding if-remaining each-remaining
+  each-at e t h r =
+      let l = remaining-ends s t h r in
+      let row = all-at (s .n) (λ u. all-below (s .n) (if-remaining s P u)) t (l .tail-below) e in
+      rw r at (all-at (s .n) (if-remaining s P t) h (l .head-below) row)
+
+  pub each-intro : ((t h : ℕ) → remaining s t h ≡ true → P t h ≡ true) → each-remaining s P ≡ true
+  unfolding if-remaining each-remaining
+  each-intro p =
+      all-intro (s .n) (λ t. all-below (s .n) (if-remaining s P t))
+      (λ t _. all-intro (s .n) (if-remaining s P t) (λ h _. at t h (remaining s t h) refl))
+    where
+      at : (t h : ℕ) (b : Bool) → remaining s t h ≡ b → cond (remaining s t h) (P t h) true ≡ true
+      at t h true e = rw e (p t h e)
+      at t h false e = rw e
 
 -- AS A PROGRAM READS IT: an array has 1,024 elements, so what is read past its end (0 there, no arc in the definitions)
 -- never matters

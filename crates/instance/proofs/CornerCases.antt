@@ -2,7 +2,7 @@
 -- into one vertex, lists that are no arborescence, a matrix that is too short, a root other than 0 and weights of 0, a
 -- budget far below the cheapest total. Assumes nothing.
 use mathlib.Core.Path.{_≡_, refl}
-use mathlib.Core.Bool.{Bool, true, false, _&&_, not, cond}
+use mathlib.Core.Bool.{true, false, _&&_, not}
 use mathlib.Core.List.{List, [], _∷_, map}
 use Prim.Native.Nat.{ℕ, suc}
 use native.Mathlib.Omega.{arith}
@@ -10,27 +10,15 @@ use lib.Dec.{leb}
 use borrow.Author.Tests.{leb-true, not-true}
 use Rattle.base.specs.Bounded.{all-below, any-below, sum-below}
 use Rattle.base.specs.Lists.{tabulate-from, tabulate, select, any-of, all-of}
-use Rattle.base.proofs.BoundedLaws.{all-at}
 use Rattle.instance.specs.Limits.{pinned, banned}
 use Rattle.instance.specs.Instance.{Instance, weight, mark, can-be-arc, is-arc}
-use Rattle.instance.specs.Arborescence.{is-pinned, other-pinned, remaining, reaches, parent-ok, is-arborescence, total, uses}
+use Rattle.instance.specs.Arborescence.{is-pinned, other-pinned, remaining, if-remaining, each-remaining, reaches, parent-ok, is-arborescence, total, uses}
 use Rattle.instance.specs.Candidates.{prefixed, choices, candidates-from, candidates, arborescences, lesser, least-total, cheapest}
 use Rattle.instance.specs.Cuts.{Cut, cuts-from, cuts-in, inside, enters, charged, values, set-ok, sets-ok, all-positive, Proves, reduced-cost, No-entry}
 use Rattle.instance.specs.declared.Outcome.the-variants.{Plan, Over}
 use Rattle.instance.specs.States.{outcome-at, outcome, fits, fitting, limit-at, total-limit, state-over, state, states}
 use Rattle.instance.proofs.WorkedCases.{At, arc, filled, instance-from, instance-q, two, parents-with, computed}
-use Rattle.instance.proofs.ArcLaws.{remaining-ends}
-
--- A TABLE OF CELLS: a test of every remaining arc, computed, holds of every remaining arc
-unfoldable each-remaining : Instance → (P : (tail head : ℕ) → Bool) → Bool
-each-remaining s P = all-below (s .n) (λ t. all-below (s .n) (λ h. cond (remaining s t h) (P t h) true))
-
-at-remaining : (s : Instance) (P : ℕ → ℕ → Bool) → each-remaining s P ≡ true → (t h : ℕ) → remaining s t h ≡ true → P t h ≡ true
-unfolding each-remaining
-at-remaining s P e t h r =
-    let l = remaining-ends s t h r in
-    let row = all-at (s .n) (λ u. all-below (s .n) (λ v. cond (remaining s u v) (P u v) true)) t (l .tail-below) e in
-    rw r at (all-at (s .n) (λ v. cond (remaining s t v) (P t v) true) h (l .head-below) row)
+use Rattle.instance.proofs.ArcLaws.{each-at}
 
 abbrev cut : (set value : ℕ) → Cut
 cut c v = record { set = c; value = v }
@@ -41,7 +29,7 @@ p1-cuts = cut 2 2 ∷ cut 4 1 ∷ cut 8 4 ∷ cut 6 5 ∷ cut 14 3 ∷ []
 
 p1-covered : each-remaining (instance-q 16 []) (λ t h. leb (charged p1-cuts t h) (weight (instance-q 16 []) t h)) ≡ true
 unfolding
-    each-remaining all-below any-below instance-q instance-from filled weight mark can-be-arc is-arc is-pinned other-pinned remaining inside enters
+    if-remaining each-remaining all-below any-below instance-q instance-from filled weight mark can-be-arc is-arc is-pinned other-pinned remaining inside enters
     charged p1-cuts
 p1-covered = refl
 
@@ -59,7 +47,7 @@ p1-proves =
             covered =
                 λ t h r.
                 leb-true (charged p1-cuts t h) (weight (instance-q 16 []) t h)
-                (at-remaining (instance-q 16 []) (λ u v. leb (charged p1-cuts u v) (weight (instance-q 16 []) u v)) p1-covered t h r);
+                (each-at (instance-q 16 []) (λ u v. leb (charged p1-cuts u v) (weight (instance-q 16 []) u v)) p1-covered t h r);
           };
       positive = refl;
       few = omega arith;
@@ -85,7 +73,7 @@ p3-excluded = refl
 -- "n = 2, root 0, link banned": "none, cut pair (2, 0)"
 banned-shut : each-remaining (two 5 (arc 0 1 banned ∷ [])) (λ t h. not (enters 2 t h)) ≡ true
 unfolding
-    each-remaining all-below any-below two instance-from filled weight mark can-be-arc is-arc is-pinned other-pinned remaining inside enters
+    if-remaining each-remaining all-below any-below two instance-from filled weight mark can-be-arc is-arc is-pinned other-pinned remaining inside enters
 banned-shut = refl
 
 pub banned-no-entry : No-entry (two 5 (arc 0 1 banned ∷ [])) (cut 2 0)
@@ -94,7 +82,7 @@ banned-no-entry =
     record {
       set-good = refl;
       value-zero = refl;
-      shut = λ t h r. not-true (enters 2 t h) (at-remaining (two 5 (arc 0 1 banned ∷ [])) (λ u v. not (enters 2 u v)) banned-shut t h r);
+      shut = λ t h r. not-true (enters 2 t h) (each-at (two 5 (arc 0 1 banned ∷ [])) (λ u v. not (enters 2 u v)) banned-shut t h r);
     }
 
 -- .. "with amount 0": a pair of another amount is none

@@ -1,5 +1,5 @@
 -- Remaining arcs, arborescences and their totals. Assumes nothing: these are definitions.
-use mathlib.Core.Bool.{Bool, _&&_, _||_, not, cond}
+use mathlib.Core.Bool.{Bool, true, _&&_, _||_, not, cond}
 use mathlib.Core.List.{List}
 use Prim.Native.Nat.{ℕ, zero, suc}
 use lib.Dec.{eqb}
@@ -19,6 +19,13 @@ other-pinned s t h = any-below (s .n) (λ g. not (eqb g t) && is-pinned s g h)
 -- pinned feeder. Two pins into one position therefore leave it with none."
 unfoldable pub remaining : Instance → (tail head : ℕ) → Bool
 remaining s t h = is-arc s t h && (not (eqb (mark s t h) banned) && not (other-pinned s t h))
+
+-- P holds of an arc, if it remains; and of every remaining arc
+unfoldable pub if-remaining : Instance → (P : (tail head : ℕ) → Bool) → (tail head : ℕ) → Bool
+if-remaining s P t h = cond (remaining s t h) (P t h) true
+
+unfoldable pub each-remaining : Instance → (P : (tail head : ℕ) → Bool) → Bool
+each-remaining s P = all-below (s .n) (λ t. all-below (s .n) (if-remaining s P t))
 
 -- A list of parents (document 01: a feeder list) has the tail of the arc into each vertex, and 255 at the root.
 abbrev pub parent : (parents : List ℕ) → (v : ℕ) → ℕ

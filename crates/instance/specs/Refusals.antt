@@ -1,4 +1,4 @@
--- The refusals of document 01, each under one name with its sentence and what document 02 amends of it; 0 is accepted.
+-- The refusals of documents 01 and 02, each under one name with its sentence and what 02 amends of it; 0 is accepted.
 -- Assumes nothing: these are definitions.
 use Prim.Native.Nat.{ℕ}
 
@@ -67,3 +67,25 @@ buffer-short = 14
 -- record naming no link or restoring a value out of range"; 02, A9: "15 .. use the new limits"
 abbrev pub invalid-board : ℕ
 invalid-board = 15
+
+-- a plan made elsewhere that is refused with one of these (02, A6): "in order 15, 14, 21 .. 25"
+
+-- "not a feed tree"
+abbrev pub not-arborescence : ℕ
+not-arborescence = 21
+
+-- "wrong total"
+abbrev pub wrong-total : ℕ
+wrong-total = 22
+
+-- "a bad cut or more than 61"
+abbrev pub bad-cut : ℕ
+bad-cut = 23
+
+-- "a link overcharged"
+abbrev pub overcharged : ℕ
+overcharged = 24
+
+-- "amounts not adding up"
+abbrev pub wrong-values : ℕ
+wrong-values = 25

@@ -26,5 +26,7 @@ pub const MAX_RECORDS: usize = 200;
 // Weights and marks are kept with a stride of 32, whatever n is.
 pub const CELLS: usize = VERTICES * VERTICES;
 
-// Words for 61 cuts, a set and a value each.
-pub const CUT_WORDS: usize = 122;
+pub const MAX_CUTS: u32 = 61;
+
+// Two words for each cut, a set and a value.
+pub const CUT_WORDS: usize = 2 * MAX_CUTS as usize;

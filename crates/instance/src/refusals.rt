@@ -46,3 +46,18 @@ pub const BUFFER_SHORT: u32 = 14;
 // 15: board handed in has a field outside the ranges above, a mark other than 0 on no link, more than 200 recorded, or
 // a record naming no link or restoring a value out of range.
 pub const INVALID_BOARD: u32 = 15;
+
+// 21: a plan made elsewhere is not a feed tree.
+pub const NOT_ARBORESCENCE: u32 = 21;
+
+// 22: its total is wrong.
+pub const WRONG_TOTAL: u32 = 22;
+
+// 23: a bad cut, or more than MAX_CUTS.
+pub const BAD_CUT: u32 = 23;
+
+// 24: a link is overcharged.
+pub const OVERCHARGED: u32 = 24;
+
+// 25: the amounts do not add up.
+pub const WRONG_VALUES: u32 = 25;

@@ -15,6 +15,7 @@ use Rattle.planner.specs.declared.View.{View}
 use Rattle.planner.specs.Opening.{opened-from}
 use Rattle.planner.specs.Writing.{Writes}
 use Rattle.planner.specs.Looking.{Buffers, buffers, Looks}
+use Rattle.planner.specs.Checking.{Checks}
 use Rattle.planner.specs.Replaying.{Replays}
 use Rattle.planner.proofs.opening.open_card.Reads as open-reads
 use Rattle.planner.proofs.opening.open_card.Kinds as open-kinds
@@ -22,6 +23,8 @@ use Rattle.planner.proofs.looking.look.Reads as look-reads
 use Rattle.planner.proofs.looking.look.Kinds as look-kinds
 use Rattle.planner.proofs.writing.write_card.Reads as write-reads
 use Rattle.planner.proofs.writing.write_card.Kinds as write-kinds
+use Rattle.planner.proofs.checking.check_plan.Reads as check-reads
+use Rattle.planner.proofs.checking.check_plan.Kinds as check-kinds
 use Rattle.planner.proofs.replaying.replay.Reads as replay-reads
 use Rattle.planner.proofs.replaying.replay.Kinds as replay-kinds
 
@@ -48,6 +51,14 @@ looked (by-look κs a v e l) = l
 
 pub wrote : {b : Board} {r : Written} {out out′ : List ℕ} → Wrote b out out′ r → Writes b out out′ r
 wrote (by-write κs a r e l) = l
+
+pub data Checked : Board → (ps ps′ : List ℕ) → (total count : ℕ) → (ws ws′ : List ℕ) → (answer : ℕ) → Type 0 where
+  by-check :
+      (κs : Lfts 2) (a : Dens κs check-kinds.ps) (r : ℕ) (e : AtExit (endedOf 2 check-kinds.ps check-kinds.r) κs) → check-reads.Learnt κs a r e →
+      Checked (a .0) (now (a .1 .0)) (now (e .1 .0)) (a .1 .1 .0) (a .1 .1 .1 .0) (now (a .1 .1 .1 .1 .0)) (now (e .1 .1 .1 .1 .0)) r
+
+pub checked : {b : Board} {ps ps′ : List ℕ} {v k : ℕ} {ws ws′ : List ℕ} {r : ℕ} → Checked b ps ps′ v k ws ws′ r → Checks b ps ps′ v k ws ws′ r
+checked (by-check κs a r e l) = l
 
 pub data Replayed : (card kinds firsts seconds : List ℕ) → (answers answers′ : List ℕ) → (old new : Buffers) → View → Type 0 where
   by-replay :

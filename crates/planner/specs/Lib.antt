@@ -3,4 +3,5 @@ pub mod Opening
 pub mod Looking
 pub mod Displaying
 pub mod Writing
+pub mod Checking
 pub mod Replaying

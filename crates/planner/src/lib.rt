@@ -1,6 +1,7 @@
-// The public calls, gathered here: open_card, pin, ban, clear, set_budget, take_back, look, write_card and replay. None
-// requires anything of its caller: whatever is handed in gets an answer, and after a refusal the board and all buffers
-// are as they were.
+// The public calls, gathered here: open_card, pin, ban, clear, set_budget, take_back, look, write_card, check_plan and
+// replay. None requires anything of its caller: whatever is handed in gets an answer, and after a refusal the board and
+// all buffers are as they were.
+mod checking; // checking.rt: a plan made elsewhere, checked for a board
 mod copies; // copies.rt: copies into the caller's buffers
 mod displaying; // displaying.rt: what planning found, copied there
 mod looking; // looking.rt: a look at a board
@@ -16,6 +17,7 @@ pub use board::calls::pin;
 pub use board::calls::set_budget;
 pub use board::calls::take_back;
 pub use card::write::Written;
+pub use checking::check_plan;
 pub use instance::Outcome;
 pub use instance::Vertex;
 pub use looking::look;

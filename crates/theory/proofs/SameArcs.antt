@@ -76,7 +76,7 @@ module _ (a b : Instance) (e : Same-arcs a b) where
   unfolding set-ok
   same-set c = rw (e .vertices, e .roots)
 
-  same-sets : (cs : List Cut) → sets-ok a cs ≡ sets-ok b cs
+  pub same-sets : (cs : List Cut) → sets-ok a cs ≡ sets-ok b cs
   unfolding sets-ok
   same-sets [] = refl
   same-sets (c ∷ cs) = rw (same-set (c .set), same-sets cs)
