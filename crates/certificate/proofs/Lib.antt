@@ -1,6 +1,3 @@
 -- Laws of plans made elsewhere. Assumes nothing.
-pub mod RestLaws
-pub mod TreeLaws
-pub mod CutsLaws
 pub mod CertificateLaws
 pub mod WorkedCertificates

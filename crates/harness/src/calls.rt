@@ -10,6 +10,7 @@ use reference::call;
 use reference::call::Call;
 use reference::card::CARD_ROOM;
 use reference::card::Card;
+use reference::certificate::Certificate;
 use reference::outcome;
 
 // The kind of a look that is refused, beside those of the reference.
@@ -136,6 +137,19 @@ pub fn write(b: Board) -> CardOut {
 pub fn open(c: Card) -> Answered {
     let bytes = c.bytes;
     planner::open_card(access::front(&bytes, c.length))
+}
+
+// A check of a plan, with as much of it lent as was sent.
+pub fn check(b: Board, o: Certificate) -> u32 {
+    let parents = o.parents;
+    let words = o.words;
+    planner::check_plan(
+        b,
+        access::front(&parents, o.parents_sent),
+        o.total,
+        o.count,
+        buffers::front_words(&words, o.words_sent),
+    )
 }
 
 // A call that changes a board, by its kind.

@@ -6,6 +6,7 @@ use crate::verdict;
 use board::Answered;
 use board::Board;
 use reference::card::CARD_ROOM;
+use reference::certificate;
 
 pub struct Reply {
     pub answer: u32,
@@ -48,5 +49,15 @@ pub fn of_write(b: Board, room: u32) -> Reply {
     Reply {
         answer: w.answer,
         untouched: buffers::bytes_untouched(&bytes, 0, CARD_ROOM as u32),
+    }
+}
+
+// Of a check of a list that is no tree, with so many bytes of it lent. What it is lent it can not write.
+pub fn of_check(b: Board, parents: u32) -> Reply {
+    let mut o = certificate::empty();
+    o.parents_sent = parents;
+    Reply {
+        answer: calls::check(b, o),
+        untouched: true,
     }
 }

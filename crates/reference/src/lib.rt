@@ -4,11 +4,14 @@
 pub mod access; // access.rt: small steps that ask nothing of their caller
 pub mod call; // call.rt: calls that change a board, and random ones
 pub mod card; // card.rt: cards, bit by bit
+pub mod certificate; // certificate.rt: plans made elsewhere, and the answers to them
+pub mod dual; // dual.rt: a planner of another kind
+pub mod families; // families.rt: instances of 32 vertices
 pub mod log; // log.rt: the log of document 01, "The book for demand 3"
 pub mod outcome; // outcome.rt: what a look has to show, from the listing
 pub mod problem; // problem.rt: instances, and the arcs that remain
 pub mod random; // random.rt: numbers that look random
-pub mod refusals; // refusals.rt: document 01's table of refusals
+pub mod refusals; // refusals.rt: the documents' refusals
 pub mod sample; // sample.rt: random instances
 pub mod script; // script.rt: lines of a program's standard input
 pub mod shown; // shown.rt: the documents' conditions on a shown tree and cuts

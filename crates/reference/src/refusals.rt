@@ -1,4 +1,4 @@
-// Document 01's table of refusals, as the reference reads it. 0 is accepted. "6 is retired; 5, 11, 15, 19 and 27 use
+// The documents' refusals, as the reference reads them. 0 is accepted. "6 is retired; 5, 11, 15, 19 and 27 use
 // the new limits." (02, A9)
 pub const CARD_SHORT: u32 = 1; // card under 5 bytes
 
@@ -27,3 +27,14 @@ pub const HISTORY_EMPTY: u32 = 13; // take-back with none recorded
 pub const BUFFER_SHORT: u32 = 14; // a lent buffer too short
 
 pub const INVALID_BOARD: u32 = 15; // board handed in has a field outside the ranges
+
+// Of a plan made elsewhere (02, A6).
+pub const NOT_A_TREE: u32 = 21; // not a feed tree
+
+pub const WRONG_TOTAL: u32 = 22; // wrong total
+
+pub const BAD_CUT: u32 = 23; // a bad cut or more than 61
+
+pub const OVERCHARGED: u32 = 24; // a link overcharged
+
+pub const WRONG_AMOUNTS: u32 = 25; // amounts not adding up

@@ -12,7 +12,7 @@ use crate::call::Call;
 pub const SCRIPT_ROOM: usize = 8192;
 
 // More than the numbers of any line.
-pub const NUMBERS: usize = 16;
+pub const NUMBERS: usize = 32;
 
 // What was read of a line: its numbers stand from place 1 on, those that it expects after the inputs.
 pub struct Line {

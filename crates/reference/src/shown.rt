@@ -94,12 +94,12 @@ pub fn parents_right(
 }
 
 // Whether a vertex is in a set: bit k for vertex k.
-fn holds(set: u32, vertex: u32) -> bool {
+pub fn holds(set: u32, vertex: u32) -> bool {
     set >> (vertex % 32) & 1 == 1
 }
 
 // "A cut is a non-empty set of positions without the root": and only of the n positions that there are.
-fn is_cut_set(n: u32, root: u32, set: u32) -> bool {
+pub fn is_cut_set(n: u32, root: u32, set: u32) -> bool {
     if set == 0 {
         return false;
     }
@@ -113,19 +113,20 @@ fn is_cut_set(n: u32, root: u32, set: u32) -> bool {
 }
 
 // "A link enters a cut if its feeder is outside and its fed position inside."
-fn enters(set: u32, tail: u32, head: u32) -> bool {
+pub fn enters(set: u32, tail: u32, head: u32) -> bool {
     if holds(set, tail) {
         return false;
     }
     holds(set, head)
 }
 
-// What the cuts that an arc enters charge it. No arc enters the empty sets that follow the cuts.
-fn charge(cuts: &[u32], tail: u32, head: u32) -> u64 {
+// What the cuts that an arc enters charge it: the first so many. No arc enters the empty sets that follow those shown.
+pub fn charge(cuts: &[u32], count: u32, tail: u32, head: u32) -> u64 {
     let mut sum = 0;
-    for k in 0..PAIRS {
-        if enters(word(cuts, 2 * k), tail, head) {
-            sum = std::num::wrapping_add_u64(sum, wide(word(cuts, 2 * k + 1)));
+    for k in 0..count {
+        let at = plus(k, k);
+        if enters(word(cuts, at), tail, head) {
+            sum = std::num::wrapping_add_u64(sum, wide(word(cuts, plus(at, 1))));
         }
     }
     sum
@@ -141,16 +142,16 @@ pub fn reduced_closes(
     total: u32, // the cheapest total
     limit: u32, // the larger of the budget and that
 ) -> bool {
-    let room = std::num::wrapping_add_u64(wide(limit), charge(cuts, tail, head));
+    let room = std::num::wrapping_add_u64(wide(limit), charge(cuts, PAIRS, tail, head));
     room < std::num::wrapping_add_u64(wide(total), wide(weight))
 }
 
 // "for each remaining link, the amounts of the cuts it enters add to at most its price".
-fn none_overcharged(table: &[u32; CELLS], cuts: &[u32]) -> bool {
+pub fn none_overcharged(table: &[u32; CELLS], cuts: &[u32], count: u32) -> bool {
     for k in 0..CELLS as u32 {
         let weight = table[k as usize];
         if weight != ABSENT {
-            if wide(weight) < charge(cuts, k / STRIDE, k % STRIDE) {
+            if wide(weight) < charge(cuts, count, k / STRIDE, k % STRIDE) {
                 return false;
             }
         }
@@ -172,11 +173,11 @@ fn cuts_are_proper(cuts: &[u32], n: u32, root: u32, count: u32) -> bool {
     true
 }
 
-// The sum of all amounts.
-fn amounts(cuts: &[u32]) -> u64 {
+// The sum of the first so many amounts.
+pub fn amounts(cuts: &[u32], count: u32) -> u64 {
     let mut sum = 0;
-    for k in 0..PAIRS {
-        sum = std::num::wrapping_add_u64(sum, wide(word(cuts, 2 * k + 1)));
+    for k in 0..count {
+        sum = std::num::wrapping_add_u64(sum, wide(word(cuts, plus(plus(k, k), 1))));
     }
     sum
 }
@@ -203,10 +204,10 @@ fn are_cuts(table: &[u32; CELLS], cuts: &[u32], n: u32, root: u32, count: u32, t
     if !all_words(cuts, plus(count, count), CUT_WORDS, 0) {
         return false;
     }
-    if amounts(cuts) != wide(total) {
+    if amounts(cuts, PAIRS) != wide(total) {
         return false;
     }
-    none_overcharged(table, cuts)
+    none_overcharged(table, cuts, PAIRS)
 }
 
 // Whether a remaining arc enters a set.

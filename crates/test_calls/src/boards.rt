@@ -11,11 +11,13 @@ use harness::replies::Reply;
 use reference::call;
 use reference::call::Call;
 use reference::card::CARD_ROOM;
+use reference::certificate::PARENT_ROOM;
 use reference::problem::MAX_VERTICES;
 use reference::random;
 use reference::random::Random;
 use reference::refusals::BUFFER_SHORT;
 use reference::refusals::INVALID_BOARD;
+use reference::refusals::NOT_A_TREE;
 use reference::sample;
 use reference::shown::CUT_WORDS;
 use reference::tally;
@@ -30,9 +32,9 @@ const CALLS: u32 = 5;
 
 const REFUSED: u32 = 6;
 
-// The calls that are made on each board: six that change one, a write, a look, and both with buffers too short for any
-// board here.
-const KINDS_OF_CALL: u32 = 10;
+// The calls that are made on each board: six that change one; a write, a look, and both with buffers too short for any
+// board here; a check of a list that is no tree, and of one that is too short.
+const KINDS_OF_CALL: u32 = 12;
 
 const WRITE: u32 = 6;
 
@@ -41,6 +43,10 @@ const LOOK: u32 = 7;
 const SHORT_WRITE: u32 = 8;
 
 const SHORT_LOOK: u32 = 9;
+
+const CHECK: u32 = 10;
+
+const SHORT_CHECK: u32 = 11;
 
 fn nth_call(k: u32) -> Call {
     match k {
@@ -72,6 +78,8 @@ fn reply_of(b: Board, k: u32) -> Reply {
         ),
         SHORT_WRITE => replies::of_write(b, 4),
         SHORT_LOOK => replies::of_look(b, 1, 3, CUT_WORDS - 1),
+        CHECK => replies::of_check(b, PARENT_ROOM as u32),
+        SHORT_CHECK => replies::of_check(b, 1),
         _ => replies::of_call(b, calls::made(b, nth_call(k))),
     }
 }
@@ -87,6 +95,9 @@ fn is_right(r: Reply, k: u32, is_damaged: bool) -> bool {
     }
     if k < SHORT_WRITE {
         return r.answer == 0;
+    }
+    if k == CHECK {
+        return replies::is_reply(r, NOT_A_TREE);
     }
     replies::is_reply(r, BUFFER_SHORT)
 }

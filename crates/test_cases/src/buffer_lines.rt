@@ -1,12 +1,17 @@
-// Lines on cards and lent buffers.
+// Lines on cards, lent buffers and plans made elsewhere.
 use harness::calls;
 use harness::replies;
 use harness::session;
 use harness::session::Session;
 use reference::access;
 use reference::card;
+use reference::certificate;
+use reference::certificate::Certificate;
+use reference::problem;
+use reference::refusals::INVALID_BOARD;
 use reference::script;
 use reference::script::Line;
+use reference::script::NUMBERS;
 use reference::worked;
 
 // "write: 8 0 0 0 80 0 5 0": the card of what the log says has these bytes, and the board is written so.
@@ -62,4 +67,40 @@ pub fn card_right(line: Line) -> bool {
         return false;
     }
     calls::open(c).answer == answer
+}
+
+// The plan of a line, whose words begin at a place.
+fn plan_of(line: Line, n: u32, words: u32) -> Certificate {
+    let mut o = certificate::empty();
+    for k in 0..NUMBERS as u32 {
+        let number = script::number(line, access::plus(k, 1));
+        if k < n {
+            o = certificate::with_parent(o, k, access::narrow(number));
+        }
+        if words <= k {
+            o = certificate::with_word(o, std::num::wrapping_sub_u32(k, words), number);
+        }
+    }
+    o
+}
+
+// "answer to 255 0 1 1, total 15, 1 cut 14 15: 25": a plan for the board; the reference's answer by the log and the
+// planner's are the line's. 15 is the planner's alone.
+pub fn plan_right(line: Line, s: Session) -> bool {
+    let board = s.board;
+    let p = session::problem_now(s);
+    let table = problem::costs(p);
+    let words = access::plus(p.n, 2);
+    let mut o = plan_of(line, p.n, words);
+    o.total = script::number(line, access::plus(p.n, 1));
+    o.count = script::number(line, words);
+    o.parents_sent = p.n;
+    o.words_sent = std::num::wrapping_sub_u32(line.inputs, words);
+    let answer = script::expected(line, 1);
+    if certificate::answer(&table, o, p.n, p.root) != answer {
+        if answer != INVALID_BOARD {
+            return false;
+        }
+    }
+    calls::check(board, o) == answer
 }

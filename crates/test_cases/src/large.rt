@@ -2,11 +2,11 @@
 // total; the states are held to what follows from the shown tree and the cuts, for some arcs to looks with that arc
 // pinned and banned, and one below the cheapest total to those at it.
 use crate::exact;
-use crate::make;
 use crate::planted;
 use harness::calls::Shown;
 use harness::verdict;
 use reference::access;
+use reference::families;
 use reference::outcome;
 use reference::problem;
 use reference::problem::CELLS;
@@ -173,7 +173,7 @@ fn run(count: u32) -> Tally {
     let mut t = tally::zero();
     for k in 0..count {
         let g = random::seeded(k);
-        t = tried_all(t, make::nth_instance(k), g);
+        t = tried_all(t, families::nth_instance(k), g);
     }
     t
 }

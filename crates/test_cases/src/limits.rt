@@ -2,13 +2,13 @@
 // that weight; the greatest budget, and one above it.
 use crate::exact;
 use crate::large;
-use crate::make;
 use harness::boards;
 use harness::calls;
 use reference::access;
 use reference::call;
 use reference::call::Call;
 use reference::card;
+use reference::families;
 use reference::problem::MAX_BUDGET;
 use reference::problem::Problem;
 use reference::random;
@@ -76,10 +76,10 @@ fn tried(tally: Tally, p: Problem, k: u32) -> Tally {
 
 fn run() -> Tally {
     let mut t = tally::zero();
-    for k in 0..make::FAMILIES {
-        let p = make::nth_instance(k);
-        t = tried(t, make::raised(p), k);
-        t = tried(t, make::at_greatest(p), k);
+    for k in 0..families::FAMILIES {
+        let p = families::nth_instance(k);
+        t = tried(t, families::raised(p), k);
+        t = tried(t, families::at_greatest(p), k);
     }
     t
 }

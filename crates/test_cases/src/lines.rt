@@ -1,6 +1,6 @@
 // The documents' own cases, one to a line of the standard input, held against the reference and against the planner:
 // the worked outcomes with their trees, states and cards, every refusal from 1 to 15 but 6 with what it leaves behind,
-// the 200 records.
+// the 200 records, plans made elsewhere.
 use crate::buffer_lines;
 use crate::look_lines;
 use harness::boards;
@@ -64,6 +64,7 @@ fn is_right(line: Line, s: Session) -> bool {
         b'l' => buffer_lines::look_right(line, s),
         b'i' => buffer_lines::buffers_right(line, s),
         b'c' => buffer_lines::card_right(line),
+        b'a' => buffer_lines::plan_right(line, s),
         _ => !line.expects,
     }
 }

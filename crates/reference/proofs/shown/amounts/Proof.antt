@@ -5,10 +5,10 @@ use Rattle.reference.proofs.shown.amounts.Statement.{statement}
 use Rattle.reference.proofs.shown.amounts.Tie as tie
 
 abbrev Inv-loop : tie.InvT-loop
-Inv-loop cuts sum₀ k₀ sum k = Unit
+Inv-loop cuts count sum₀ k₀ sum k = Unit
 
 abbrev μ-loop : tie.MeasureT-loop
-μ-loop cuts sum₀ k₀ sum k = 61 - k
+μ-loop cuts count sum₀ k₀ sum k = count - k
 
 pub amounts-spec : {M : Type 1} → statement M
 amounts-spec =
@@ -17,8 +17,8 @@ amounts-spec =
     Inv-loop
     μ-loop
     (λ c. search needs)
-    (λ c. search needs)
-    (λ c. search needs)
+    (λ c κs. search needs)
+    (λ c κs. search needs)
     (λ c κs. search needs)
     (λ c κs. search needs)
     (λ c κs. search needs)

@@ -5,10 +5,10 @@ use Rattle.reference.proofs.shown.none_overcharged.Statement.{statement
 use Rattle.reference.proofs.shown.none_overcharged.Tie as tie
 
 abbrev Inv-loop : tie.InvT-loop
-Inv-loop table cuts k₀ k = Unit
+Inv-loop table cuts count k₀ k = Unit
 
 abbrev μ-loop : tie.MeasureT-loop
-μ-loop table cuts k₀ k = 1024 - k
+μ-loop table cuts count k₀ k = 1024 - k
 
 pub none-overcharged-spec : {M : Type 1} → statement M
 none-overcharged-spec =

@@ -8,7 +8,7 @@ abbrev Inv-loop : tie.InvT-loop
 Inv-loop b t₀ k₀ t k = Unit
 
 abbrev μ-loop : tie.MeasureT-loop
-μ-loop b t₀ k₀ t k = 10 - k
+μ-loop b t₀ k₀ t k = 12 - k
 
 pub planted-spec : {M : Type 1} → statement M
 planted-spec =

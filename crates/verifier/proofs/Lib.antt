@@ -1,0 +1,4 @@
+-- Laws of judging a plan made elsewhere. Assumes nothing.
+pub mod RestLaws
+pub mod TreeLaws
+pub mod CutsLaws
