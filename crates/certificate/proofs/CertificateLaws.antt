@@ -1,6 +1,6 @@
--- When a plan made elsewhere is accepted, read in both directions; that it is then a cheapest arborescence, whoever made
--- it; and that the answer goes by the remaining arcs and their weights alone: not by the budget, nor by what the lists
--- hold elsewhere. Assumes nothing.
+-- When a plan made elsewhere is accepted, read in both directions; that it is then a cheapest arborescence, whoever
+-- made it; and that the answer goes by the remaining arcs and their weights alone: not by the budget, nor by what the
+-- lists hold elsewhere. Assumes nothing.
 --
 -- The idea of the proof that an accepted plan is cheapest is weak duality: every arborescence has an arc into each set,
 -- so the values of all cuts are paid by it, and no arc is charged above its weight. Nothing is said of how the tree or
@@ -9,9 +9,7 @@ use mathlib.Core.Path.{_≡_, refl, sym, ap, _∙_, subst}
 use mathlib.Core.Bool.{Bool, true, false, _&&_, _||_, not, cond}
 use mathlib.Core.List.{List}
 use mathlib.Core.Logic.{_↔_}
-use mathlib.Core.Option.{some}
 use Prim.Native.Nat.{ℕ, _*_, _≤_, _<_}
-use native.Mathlib.Omega.{arith}
 use lib.Dec.{ltb, leb, eqb}
 use lib.ListN.{length, take}
 use borrow.Author.Tests.{ltb-false, lt-ltb, le-ltb, leb-true, le-leb, eqb-true, eq-eqb, not-false}
@@ -20,14 +18,12 @@ use Rattle.base.proofs.BoolLaws.{same-test, and-left, and-right, and-both, or-r
 use Rattle.instance.specs.Limits.{max-cuts}
 use Rattle.instance.specs.Refusals.{buffer-short, not-arborescence, wrong-total, bad-cut, overcharged, wrong-values}
 use Rattle.instance.specs.Instance.{Instance, with-budget, weight}
-use Rattle.instance.specs.Arborescence.{remaining, each-remaining, is-arborescence, total}
-use Rattle.instance.specs.Candidates.{cheapest}
-use Rattle.instance.specs.Cuts.{Cut, cuts-in, charged, values, sets-ok, Feasible}
-use Rattle.instance.specs.Matrix.{matrix, unmarked}
+use Rattle.instance.specs.Arborescence.{is-arborescence, total}
+use Rattle.instance.specs.Cuts.{Cut, cuts-in, charged, values, sets-ok}
 use Rattle.instance.proofs.ArcLaws.{each-at, each-intro}
 use Rattle.instance.proofs.CutLaws.{cuts-length}
 use Rattle.theory.specs.Readings.{Least-total, No-arborescence}
-use Rattle.theory.proofs.Optimality.{proved-least, proved-cheapest}
+use Rattle.theory.proofs.Optimality.{proved-least}
 use Rattle.theory.proofs.SameArcs.{Same-arcs, same-back, with-budget-arcs, same-arborescence, same-total, same-sets}
 use Rattle.certificate.specs.Certificate.{covered, none-overcharged, certificate-fault, certificate-refusal, certificate-numbers}
 use Rattle.certificate.specs.Readings.{Accepted}
@@ -170,9 +166,6 @@ module _ (s : Instance) (ps : List ℕ) (v k : ℕ) (ws : List ℕ) where
   pub accepted-least : Accepted s ps v k ws → Least-total s v
   accepted-least x =
       subst (Least-total s) (x .costs) (proved-least s tree cs (x .arborescence) (x .feasible) (x .adds ∙ sym (x .costs)))
-
-  pub accepted-cheapest : Accepted s ps v k ws → cheapest s ≡ some v
-  accepted-cheapest x = proved-cheapest s tree cs (x .arborescence) (x .feasible) (x .adds ∙ sym (x .costs)) ∙ ap some (x .costs)
 
   -- without a tree no plan is one
   pub no-tree-refused : No-arborescence s → s .n ≤ length ps → 2 * k ≤ length ws → certificate-refusal s ps v k ws ≡ not-arborescence

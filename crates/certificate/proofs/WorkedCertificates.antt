@@ -1,5 +1,5 @@
--- Plans made elsewhere, computed: each number with what it comes before, the traps, and plans that are accepted. Assumes
--- nothing.
+-- Plans made elsewhere, computed: each number with what it comes before, the traps, and plans that are accepted.
+-- Assumes nothing.
 use mathlib.Core.Path.{_≡_, refl}
 use mathlib.Core.List.{List, [], _∷_, _++_, map}
 use Prim.Native.Nat.{ℕ, zero, suc}
@@ -59,7 +59,8 @@ plans b =
     ∷ to-q b tree 15 6 (cuts ++ (8 ∷ [])) buffer-short
     ∷ to-q b (0 ∷ 0 ∷ 0 ∷ 0 ∷ []) 99 4000000000 cuts buffer-short
     ∷ to-q b tree 15 2147483648 [] buffer-short
-    -- 21: something else than 255 at the root, 255 elsewhere, a cycle, no link (3→2), no position; the total is wrong too
+    -- 21: something else than 255 at the root, 255 elsewhere, a cycle, no link (3→2), no position; the total is wrong
+    -- too
     ∷ to-q b (0 ∷ 0 ∷ 1 ∷ 1 ∷ []) 15 5 cuts not-arborescence
     ∷ to-q b (255 ∷ 0 ∷ 1 ∷ 255 ∷ []) 11 5 cuts not-arborescence
     ∷ to-q b (255 ∷ 2 ∷ 1 ∷ 1 ∷ []) 7 5 cuts not-arborescence

@@ -1,5 +1,5 @@
--- A plan made elsewhere, with cuts that are to prove it cheapest: when it is accepted, and by which number it is refused.
--- Everything about it is decided, so a check is an equation. Assumes nothing: these are definitions.
+-- A plan made elsewhere, with cuts that are to prove it cheapest: when it is accepted, and by which number it is
+-- refused. Everything about it is decided, so a check is an equation. Assumes nothing: these are definitions.
 use mathlib.Core.Bool.{Bool, _&&_, _||_, not, cond}
 use mathlib.Core.List.{List, [], _∷_}
 use Prim.Native.Nat.{ℕ, _*_}
@@ -18,10 +18,10 @@ covered s cs t h = leb (charged cs t h) (weight s t h)
 abbrev pub none-overcharged : Instance → List Cut → Bool
 none-overcharged s cs = each-remaining s (covered s cs)
 
--- "Accepted means: a feed tree with 255 at the root, its total right, every cut a non-empty set of positions without the
--- root, no remaining link charged above its price, and amounts adding to the total." Otherwise "in order .. 21 not a
--- feed tree, 22 wrong total, 23 a bad cut or more than 61, 24 a link overcharged, 25 amounts not adding up". "Amount 0
--- is allowed; the budget is not judged."
+-- "Accepted means: a feed tree with 255 at the root, its total right, every cut a non-empty set of positions without
+-- the root, no remaining link charged above its price, and amounts adding to the total." Otherwise "in order .. 21 not
+-- a feed tree, 22 wrong total, 23 a bad cut or more than 61, 24 a link overcharged, 25 amounts not adding up". "Amount
+-- 0 is allowed; the budget is not judged."
 unfoldable pub certificate-fault : Instance → (parents : List ℕ) → (total : ℕ) → (cuts : List Cut) → ℕ
 certificate-fault s ps v cs =
     cond (not (is-arborescence s ps)) not-arborescence
@@ -30,8 +30,9 @@ certificate-fault s ps v cs =
     (cond (not (none-overcharged s cs)) overcharged
     (cond (not (eqb (values cs) v)) wrong-values 0))))
 
--- as it is sent: "a feeder list, a total, a count of cuts and that many pairs of words". The first n of the list and the
--- first pairs of the words are looked at; fewer are too short: 14, which comes before 21
+-- as it is sent: "a feeder list, a total, a count of cuts and that many pairs of words". Fewer than n feeders, or fewer
+-- than that many pairs, are too short, and 14 comes before 21; what stands after the first n and after the pairs is not
+-- looked at
 unfoldable pub certificate-refusal : Instance → (parents : List ℕ) → (total count : ℕ) → (words : List ℕ) → ℕ
 certificate-refusal s ps v k ws =
     cond (ltb (length ps) (s .n) || ltb (length ws) (2 * k)) buffer-short

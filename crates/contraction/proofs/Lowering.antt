@@ -1,17 +1,13 @@
 -- Lowered weights: nothing charged, one charge after another, and what stays 0. Assumes nothing.
-use mathlib.Core.Path.{_≡_, refl, _∙_}
-use mathlib.Core.List.{List, [], _∷_, _++_}
+use mathlib.Core.Path.{refl, _∙_}
+use mathlib.Core.List.{List, [], _++_}
 use mathlib.Core.Logic.{_⊎_, inl, inr, ⊎-elim}
 use Prim.Native.Nat.{ℕ, _+_, _≤_, _<_}
 use native.Mathlib.Omega.{arith}
 use Rattle.instance.specs.Limits.{no-arc}
 use Rattle.instance.specs.Cuts.{Cut, charged}
+use Rattle.instance.proofs.CutLaws.{charged-append}
 use Rattle.contraction.specs.Groups.{Lowered, Chosen}
-
-charged-append : (cs ds : List Cut) (t h : ℕ) → charged (cs ++ ds) t h ≡ charged cs t h + charged ds t h
-unfolding charged
-charged-append [] ds t h = omega arith
-charged-append (c ∷ cs) ds t h = let e = charged-append cs ds t h in omega arith
 
 pub lowered-none : (n : ℕ) (w : ℕ → ℕ → ℕ) → Lowered n w w []
 unfolding charged

@@ -58,14 +58,14 @@ module _ (s : Instance) (P : ℕ → ℕ → Bool) where
   unfolding if-remaining each-remaining
   each-at e t h r =
       let l = remaining-ends s t h r in
-      let row = all-at (s .n) (λ u. all-below (s .n) (if-remaining s P u)) t (l .tail-below) e in
-      rw r at (all-at (s .n) (if-remaining s P t) h (l .head-below) row)
+      let into = all-at (s .n) (λ v. all-below (s .n) (λ u. if-remaining s P u v)) h (l .head-below) e in
+      rw r at (all-at (s .n) (λ u. if-remaining s P u h) t (l .tail-below) into)
 
   pub each-intro : ((t h : ℕ) → remaining s t h ≡ true → P t h ≡ true) → each-remaining s P ≡ true
   unfolding if-remaining each-remaining
   each-intro p =
-      all-intro (s .n) (λ t. all-below (s .n) (if-remaining s P t))
-      (λ t _. all-intro (s .n) (if-remaining s P t) (λ h _. at t h (remaining s t h) refl))
+      all-intro (s .n) (λ h. all-below (s .n) (λ t. if-remaining s P t h))
+      (λ h _. all-intro (s .n) (λ t. if-remaining s P t h) (λ t _. at t h (remaining s t h) refl))
     where
       at : (t h : ℕ) (b : Bool) → remaining s t h ≡ b → cond (remaining s t h) (P t h) true ≡ true
       at t h true e = rw e (p t h e)

@@ -1,5 +1,5 @@
--- Cuts in a buffer of words: how many, one part after another, what a store elsewhere leaves, and one
--- pair stored. Assumes nothing.
+-- Cuts in a buffer of words: how many, one part after another, what a store elsewhere leaves, and one pair stored; what
+-- cuts charge and add to, part by part. Assumes nothing.
 use mathlib.Core.Path.{_≡_, refl, sym, ap, _∙_}
 use mathlib.Core.List.{List, [], _∷_, _++_}
 use mathlib.Core.Logic.{_⊎_, inl}
@@ -8,7 +8,7 @@ use native.Mathlib.Omega.{arith}
 use native.Mathlib.Nat.{zero-add, suc-add, sub-zero}
 use lib.ListN.{length, set, length-set, getD}
 use lib.Seq.{getD-set-same, getD-set-other}
-use Rattle.instance.specs.Cuts.{Cut, cuts-from, values}
+use Rattle.instance.specs.Cuts.{Cut, cuts-from, charged, values}
 
 pub cuts-length : (a i : ℕ) (l : List ℕ) → length (cuts-from a i l) ≡ a
 unfolding cuts-from
@@ -57,6 +57,12 @@ pub cuts-begun : (m j : ℕ) (l l′ : List ℕ) → m ≤ j → ((i : ℕ) → 
     → cuts-from m 0 l ++ cuts-from (j - m) m l′ ≡ cuts-from j 0 l′
 cuts-begun m j l l′ b frame =
     ap (λ (x : ℕ). cuts-from x 0 l ++ cuts-from (j - m) m l′) (sym (sub-zero m)) ∙ cuts-joined 0 m j l l′ (omega arith) b frame ∙ ap (λ (x : ℕ). cuts-from x 0 l′) (sub-zero j)
+
+-- WHAT THEY CHARGE: one part of the cuts and another
+pub charged-append : (cs ds : List Cut) (t h : ℕ) → charged (cs ++ ds) t h ≡ charged cs t h + charged ds t h
+unfolding charged
+charged-append [] ds t h = omega arith
+charged-append (c ∷ cs) ds t h = let e = charged-append cs ds t h in omega arith
 
 -- VALUES
 pub values-step : (a i : ℕ) (l : List ℕ) → values (cuts-from (suc a) i l) ≡ getD l (2 * i + 1) 0 + values (cuts-from a (suc i) l)

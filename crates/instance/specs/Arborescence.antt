@@ -25,7 +25,7 @@ unfoldable pub if-remaining : Instance → (P : (tail head : ℕ) → Bool) → 
 if-remaining s P t h = cond (remaining s t h) (P t h) true
 
 unfoldable pub each-remaining : Instance → (P : (tail head : ℕ) → Bool) → Bool
-each-remaining s P = all-below (s .n) (λ t. all-below (s .n) (if-remaining s P t))
+each-remaining s P = all-below (s .n) (λ h. all-below (s .n) (λ t. if-remaining s P t h))
 
 -- A list of parents (document 01: a feeder list) has the tail of the arc into each vertex, and 255 at the root.
 abbrev pub parent : (parents : List ℕ) → (v : ℕ) → ℕ

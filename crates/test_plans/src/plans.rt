@@ -1,5 +1,5 @@
-// Plans of the reference's planner and of the planner itself, for small and large instances: as they are, with one thing
-// changed, with two; and for a board with a tree's link banned, or with a price below what it is charged.
+// Plans of the reference's planner and of the planner itself, for small and large instances: as they are, with one
+// thing changed, with two; and for a board with a tree's link banned, or with a price below what it is charged.
 use crate::changes;
 use crate::changes::Change;
 use harness::boards;

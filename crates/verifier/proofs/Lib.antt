@@ -2,3 +2,4 @@
 pub mod RestLaws
 pub mod TreeLaws
 pub mod CutsLaws
+pub mod KeptLaws

@@ -1,20 +1,21 @@
 // The cuts of a plan made elsewhere: whether they are cuts, what they charge each remaining arc, and what they add to.
-// Their values are any 32-bit numbers, so no sum of them is formed: what is left of a weight, or of the total, is counted
-// down.
+// Their values are any 32-bit numbers, so no sum of them is formed: what is left of a weight, or of the total, is
+// counted down.
 ghost use mathlib.Core.Path.{_≡_};
 ghost use mathlib.Core.Bool.{true, _&&_, cond};
 ghost use mathlib.Core.List.{[]};
 ghost use Prim.Native.Nat.{_+_, _*_, _≤_, _<_};
 ghost use lib.Dec.{leb, eqb};
 ghost use lib.ListN.{length, getD};
-ghost use Rattle.base.specs.Bounded.{all-below};
 ghost use Rattle.instance.specs.Limits.{max-vertices, cells, max-cuts};
 ghost use Rattle.instance.specs.Arborescence.{if-remaining};
 ghost use Rattle.instance.specs.Cuts.{cuts-in, inside, enters, charged, values, set-ok, sets-ok};
 ghost use Rattle.instance.specs.Matrix.{unmarked};
 ghost use Rattle.certificate.specs.Certificate.{covered, none-overcharged};
+ghost use Rattle.verifier.specs.Kept.{Keeps, covered-into};
 use checks::arc::is_arc;
 use instance::limits::CELLS;
+use instance::limits::CUT_WORDS;
 use instance::limits::MAX_CUTS;
 
 // Whether a vertex is in a set.
@@ -68,9 +69,39 @@ fn is_entering(set: u32, tail: u32, head: u32) -> bool
     is_inside(set, head)
 }
 
+// Some of the cuts, as pairs from the front on.
+struct Kept {
+    words: [u32; CUT_WORDS],
+    count: u32,
+}
+
+// The cuts that have a vertex: an arc into it enters no others. Most cuts have few vertices, so each arc is then held
+// against few cuts.
+fn cuts_with(cuts: &[u32], vertex: u32, count: u32) -> Kept
+    requires { ⌜ (vertex < max-vertices) × (count ≤ max-cuts) × (2 * count ≤ length (now cuts)) ⌝ }
+    ensures { λ r. ⌜ Keeps (now (cuts .entry)) vertex count (r .words) (r .count) ⌝ }
+{
+    let mut words = [0u32; CUT_WORDS];
+    let mut kept: usize = 0;
+    let mut k: usize = 0;
+    while k < (count as usize) {
+        let set = cuts[2 * k];
+        if is_inside(set, vertex) {
+            words[2 * kept] = set;
+            words[2 * kept + 1] = cuts[2 * k + 1];
+            kept += 1;
+        }
+        k += 1;
+    }
+    Kept {
+        words,
+        count: kept as u32,
+    }
+}
+
 // What a cut charges an arc.
-fn charge(cuts: &[u32], k: usize, tail: u32, head: u32) -> u32
-    requires { ⌜ (tail < max-vertices) × (head < max-vertices) × (k < max-cuts) × (2 * k + 1 < length (now cuts)) ⌝ }
+fn charge(cuts: &[u32; CUT_WORDS], k: usize, tail: u32, head: u32) -> u32
+    requires { ⌜ (tail < max-vertices) × (head < max-vertices) × (k < max-cuts) ⌝ }
     ensures { λ r. ⌜ r ≡ cond (enters (getD (now (cuts .entry)) (2 * k) 0) tail head) (getD (now (cuts .entry)) (2 * k + 1) 0) 0 ⌝ }
 {
     if is_entering(cuts[2 * k], tail, head) {
@@ -80,8 +111,8 @@ fn charge(cuts: &[u32], k: usize, tail: u32, head: u32) -> u32
 }
 
 // Whether the cuts charge an arc with at most its weight.
-fn is_covered(cuts: &[u32], tail: u32, head: u32, weight: u32, count: u32) -> bool
-    requires { ⌜ (tail < max-vertices) × (head < max-vertices) × (count ≤ max-cuts) × (2 * count ≤ length (now cuts)) ⌝ }
+fn is_covered(cuts: &[u32; CUT_WORDS], tail: u32, head: u32, weight: u32, count: u32) -> bool
+    requires { ⌜ (tail < max-vertices) × (head < max-vertices) × (count ≤ max-cuts) ⌝ }
     ensures { λ r. ⌜ r ≡ leb (charged (cuts-in count (now (cuts .entry))) tail head) weight ⌝ }
 {
     let mut room = weight;
@@ -100,14 +131,14 @@ fn is_covered(cuts: &[u32], tail: u32, head: u32, weight: u32, count: u32) -> bo
 // The same, where the cell has a remaining arc.
 fn arc_covered(
     m: &[u32; CELLS],
-    cuts: &[u32],
+    cuts: &[u32; CUT_WORDS],
     n: u32,
     root: u32,
     tail: u32,
     head: u32,
     count: u32,
 ) -> bool
-    requires { ⌜ (length (now m) ≡ cells) × (n ≤ max-vertices) × (count ≤ max-cuts) × (2 * count ≤ length (now cuts)) ⌝ }
+    requires { ⌜ (length (now m) ≡ cells) × (n ≤ max-vertices) × (count ≤ max-cuts) ⌝ }
     ensures { λ r. ⌜ r ≡ if-remaining (unmarked n root (now (m .entry))) (covered (unmarked n root (now (m .entry))) (cuts-in count (now (cuts .entry)))) tail head ⌝ }
 {
     if !is_arc(m, n, root, tail, head) {
@@ -117,14 +148,21 @@ fn arc_covered(
     is_covered(cuts, tail, head, m[i], count)
 }
 
-// Whether no remaining arc from one tail is charged above its weight.
-fn tail_covered(m: &[u32; CELLS], cuts: &[u32], n: u32, root: u32, tail: u32, count: u32) -> bool
-    requires { ⌜ (length (now m) ≡ cells) × (n ≤ max-vertices) × (count ≤ max-cuts) × (2 * count ≤ length (now cuts)) ⌝ }
-    ensures { λ r. ⌜ r ≡ all-below n (if-remaining (unmarked n root (now (m .entry))) (covered (unmarked n root (now (m .entry))) (cuts-in count (now (cuts .entry)))) tail) ⌝ }
+// Whether no remaining arc into one head is charged above its weight, by cuts that have the head.
+fn arcs_covered(
+    m: &[u32; CELLS],
+    cuts: &[u32; CUT_WORDS],
+    n: u32,
+    root: u32,
+    head: u32,
+    count: u32,
+) -> bool
+    requires { ⌜ (length (now m) ≡ cells) × (n ≤ max-vertices) × (count ≤ max-cuts) ⌝ }
+    ensures { λ r. ⌜ r ≡ covered-into (unmarked n root (now (m .entry))) (cuts-in count (now (cuts .entry))) head ⌝ }
 {
-    let mut head = n;
-    while 0 < head {
-        head -= 1;
+    let mut tail = n;
+    while 0 < tail {
+        tail -= 1;
         if !arc_covered(m, cuts, n, root, tail, head, count) {
             return false;
         }
@@ -132,15 +170,25 @@ fn tail_covered(m: &[u32; CELLS], cuts: &[u32], n: u32, root: u32, tail: u32, co
     true
 }
 
+// The same by all cuts.
+fn head_covered(m: &[u32; CELLS], cuts: &[u32], n: u32, root: u32, head: u32, count: u32) -> bool
+    requires { ⌜ (length (now m) ≡ cells) × (n ≤ max-vertices) × (head < n) × (count ≤ max-cuts) × (2 * count ≤ length (now cuts)) ⌝ }
+    ensures { λ r. ⌜ r ≡ covered-into (unmarked n root (now (m .entry))) (cuts-in count (now (cuts .entry))) head ⌝ }
+{
+    let kept = cuts_with(cuts, head, count);
+    let words = kept.words;
+    arcs_covered(m, &words, n, root, head, kept.count)
+}
+
 // Whether none at all is.
 pub fn all_covered(m: &[u32; CELLS], cuts: &[u32], n: u32, root: u32, count: u32) -> bool
     requires { ⌜ (length (now m) ≡ cells) × (n ≤ max-vertices) × (count ≤ max-cuts) × (2 * count ≤ length (now cuts)) ⌝ }
     ensures { λ r. ⌜ r ≡ none-overcharged (unmarked n root (now (m .entry))) (cuts-in count (now (cuts .entry))) ⌝ }
 {
-    let mut tail = n;
-    while 0 < tail {
-        tail -= 1;
-        if !tail_covered(m, cuts, n, root, tail, count) {
+    let mut head = n;
+    while 0 < head {
+        head -= 1;
+        if !head_covered(m, cuts, n, root, head, count) {
             return false;
         }
     }

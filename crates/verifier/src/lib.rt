@@ -1,5 +1,5 @@
-// A plan made elsewhere, judged: its tree, its total, and the cuts that are to prove that no tree is cheaper. Nothing is
-// planned: cuts that do not overcharge prove the price by themselves, whoever found them.
+// A plan made elsewhere, judged: its tree, its total, and the cuts that are to prove that no tree is cheaper. Nothing
+// is planned: cuts that do not overcharge prove the price by themselves, whoever found them.
 mod cuts; // cuts.rt: the cuts, and what they charge
 mod tree; // tree.rt: the tree and its total
 
@@ -56,8 +56,8 @@ fn first_fault(
     0
 }
 
-// 0 where the plan is accepted, or why not. A count of pairs is held against half the words, since twice the count could
-// pass 32 bits.
+// 0 where the plan is accepted, or why not. A count of pairs is held against half the words, since twice the count
+// could pass 32 bits.
 pub fn judge_certificate<'a>(
     weights: &'a [u32; CELLS], // the instance: its weights and marks
     marks: &'a [u8; CELLS],

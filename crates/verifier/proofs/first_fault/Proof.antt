@@ -10,7 +10,7 @@ use Rattle.base.proofs.BoolLaws.{and-left}
 use Rattle.instance.specs.Limits.{max-cuts}
 use Rattle.instance.specs.Instance.{Instance}
 use Rattle.instance.specs.Arborescence.{is-arborescence, total}
-use Rattle.instance.specs.Cuts.{Cut, cuts-in, values, sets-ok}
+use Rattle.instance.specs.Cuts.{Cut, cuts-in, sets-ok}
 use Rattle.instance.specs.Matrix.{unmarked}
 use Rattle.certificate.specs.Certificate.{none-overcharged}
 use Rattle.verifier.proofs.CutsLaws.{cuts-judged}

@@ -10,8 +10,8 @@ mul-is-entering c = search needs
 mul-is-entering-2 : tie.Need-mul-is-entering-2
 mul-is-entering-2 c = search needs
 
-shared-slice-read-is-entering : tie.Need-shared-slice-read-is-entering
-shared-slice-read-is-entering c = search needs
+element-copy-out-is-entering : tie.Need-element-copy-out-is-entering
+element-copy-out-is-entering c = search needs
 
 is-entering-requires : tie.Need-is-entering-requires
 is-entering-requires c κs = search needs
@@ -25,8 +25,8 @@ add-result c = search needs
 mul-result-2 : tie.Need-mul-result-2
 mul-result-2 c = search needs
 
-shared-slice-read-result : tie.Need-shared-slice-read-result
-shared-slice-read-result c = search needs
+element-copy-out-result : tie.Need-element-copy-out-result
+element-copy-out-result c = search needs
 
 returns : tie.Need-returns
 returns c = let e = sym (c .before .before .is-entering .ensures) ∙ c .before .if1 .taken in rw e
@@ -40,11 +40,11 @@ charge-spec =
     (tie.spec
     mul-is-entering
     mul-is-entering-2
-    shared-slice-read-is-entering
+    element-copy-out-is-entering
     is-entering-requires
     mul-result
     add-result
     mul-result-2
-    shared-slice-read-result
+    element-copy-out-result
     returns
     returns-2)

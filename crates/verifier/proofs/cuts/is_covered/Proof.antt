@@ -17,11 +17,11 @@ loop-holds : tie.Need-loop-holds Inv-loop μ-loop
 loop-holds c = charging-all _ _ _ _ _
 
 charge-requires : tie.Need-charge-requires Inv-loop μ-loop
-charge-requires c κs = let p = c .before .before .before .pre in let k = c .before .loop .k in (p .0, p .1, omega arith, omega arith)
+charge-requires c κs = let p = c .before .before .pre in (p .0, p .1, omega arith)
 
 returns : tie.Need-returns Inv-loop μ-loop
 returns c =
-    let a = c .before .before .before .before .before .args in
+    let a = c .before .before .before .before .args in
     let l = c .before .before .before .loop in
     sym
     (charging-past (a .tail) (a .head) (a .cuts .now) (a .count) (a .weight) (l .k) (l .room) (c .before .before .loop-test .taken) (l .inv)
@@ -35,7 +35,7 @@ loop-less c = omega arith
 
 loop-again : tie.Need-loop-again Inv-loop μ-loop
 loop-again c =
-    let a = c .before .before .before .before .before .args in
+    let a = c .before .before .before .before .args in
     let l = c .before .before .before .loop in
     let e = c .before .charge .ensures in
     rw e
@@ -44,7 +44,7 @@ loop-again c =
 
 returns-2 : tie.Need-returns-2 Inv-loop μ-loop
 returns-2 c =
-    let a = c .before .before .before .args in
+    let a = c .before .before .args in
     let l = c .before .loop in
     sym (charging-none (a .tail) (a .head) (a .cuts .now) (a .count) (a .weight) (l .k) (l .room) (c .loop-test .left) (l .inv))
 

@@ -1,6 +1,5 @@
 -- `weight_into` is the weight of the arc into a vertex; the parent of a vertex other than the root is a vertex. Assumes
 -- nothing.
-use mathlib.Core.Path.{_≡_, sym, _∙_}
 use Prim.Native.Nat.{_<_}
 use native.Mathlib.Omega.{arith}
 use lib.ListN.{getD}
