@@ -41,6 +41,11 @@ unfolding all-below
 all-intro zero P h = refl
 all-intro (suc k) P h = and-both (P k) (all-below k P) (h k (omega arith)) (all-intro k P (λ i l. h i (omega arith)))
 
+pub all-same : (k : ℕ) (P Q : ℕ → Bool) → ((i : ℕ) → i < k → P i ≡ Q i) → all-below k P ≡ all-below k Q
+unfolding all-below
+all-same zero P Q e = refl
+all-same (suc k) P Q e = rw (e k (omega arith), all-same k P Q (λ i l. e i (omega arith)))
+
 -- ANY
 pub any-intro : (k : ℕ) (P : ℕ → Bool) (i : ℕ) → i < k → P i ≡ true → any-below k P ≡ true
 unfolding any-below

@@ -1,6 +1,6 @@
 -- When a plan made elsewhere is accepted, read in both directions; that it is then a cheapest arborescence, whoever
--- made it; and that the answer goes by the remaining arcs and their weights alone: not by the budget, nor by what the
--- lists hold elsewhere. Assumes nothing.
+-- made it; and that the answer goes by the remaining arcs and their weights alone: not by the budget, nor by cells
+-- that have no remaining arc. Assumes nothing.
 --
 -- The idea of the proof that an accepted plan is cheapest is weak duality: every arborescence has an arc into each set,
 -- so the values of all cuts are paid by it, and no arc is charged above its weight. Nothing is said of how the tree or
@@ -9,17 +9,18 @@ use mathlib.Core.Path.{_≡_, refl, sym, ap, _∙_, subst}
 use mathlib.Core.Bool.{Bool, true, false, _&&_, _||_, not, cond}
 use mathlib.Core.List.{List}
 use mathlib.Core.Logic.{_↔_}
-use Prim.Native.Nat.{ℕ, _*_, _≤_, _<_}
+use Prim.Native.Nat.{ℕ, _*_, _/_, _%_, _^_, _≤_, _<_}
+use native.Mathlib.Omega.{arith}
 use lib.Dec.{ltb, leb, eqb}
 use lib.ListN.{length, take}
-use borrow.Author.Tests.{ltb-false, lt-ltb, le-ltb, leb-true, le-leb, eqb-true, eq-eqb, not-false}
+use borrow.Author.Tests.{ltb-true, ltb-false, lt-ltb, le-ltb, leb-true, le-leb, eqb-true, eq-eqb, not-true, not-false}
 use Rattle.base.specs.Lists.{any-of}
-use Rattle.base.proofs.BoolLaws.{same-test, and-left, and-right, and-both, or-right, or-false-left, or-false-right, passed}
+use Rattle.base.proofs.BoolLaws.{is-false, not-both, same-test, and-left, and-right, and-both, or-right, or-false-left, or-false-right, passed}
 use Rattle.instance.specs.Limits.{max-cuts}
 use Rattle.instance.specs.Refusals.{buffer-short, not-arborescence, wrong-total, bad-cut, overcharged, wrong-values}
 use Rattle.instance.specs.Instance.{Instance, with-budget, weight}
 use Rattle.instance.specs.Arborescence.{is-arborescence, total}
-use Rattle.instance.specs.Cuts.{Cut, cuts-in, charged, values, sets-ok}
+use Rattle.instance.specs.Cuts.{Cut, cuts-in, charged, values, inside, set-ok, sets-ok}
 use Rattle.instance.proofs.ArcLaws.{each-at, each-intro}
 use Rattle.instance.proofs.CutLaws.{cuts-length}
 use Rattle.theory.specs.Readings.{Least-total, No-arborescence}
@@ -170,6 +171,19 @@ module _ (s : Instance) (ps : List ℕ) (v k : ℕ) (ws : List ℕ) where
   -- without a tree no plan is one
   pub no-tree-refused : No-arborescence s → s .n ≤ length ps → 2 * k ≤ length ws → certificate-refusal s ps v k ws ≡ not-arborescence
   no-tree-refused none l m = long-judged l m ∙ tree-fails s tree v cs (none tree)
+
+-- ONE VERTEX: no set is that of a cut, so with a tree and its total any cut is refused
+pub one-vertex : (s : Instance) (c : ℕ) → s .n ≡ 1 → s .root < s .n → set-ok s c ≡ false
+unfolding set-ok inside
+one-vertex s c n r =
+    is-false ((ltb 0 c && ltb c (2 ^ s .n)) && not (eqb (c / 2 ^ s .root % 2) 1))
+    (λ e.
+    let sizes = and-left (ltb 0 c && ltb c (2 ^ s .n)) (not (eqb (c / 2 ^ s .root % 2) 1)) e in
+    let some = ltb-true 0 c (and-left (ltb 0 c) (ltb c (2 ^ s .n)) sizes) in
+    let below : c < 2 = subst (λ (k : ℕ). c < 2 ^ k) n (ltb-true c (2 ^ s .n) (and-right (ltb 0 c) (ltb c (2 ^ s .n)) sizes)) in
+    let one : c ≡ 1 = omega arith in
+    let root : s .root ≡ 0 = omega arith in
+    not-both (eqb (c / 2 ^ s .root % 2) 1) (rw (one, root)) (not-true (eqb (c / 2 ^ s .root % 2) 1) (and-right (ltb 0 c && ltb c (2 ^ s .n)) (not (eqb (c / 2 ^ s .root % 2) 1)) e)))
 
 -- ITS NUMBERS
 by-tests : (a b c d e f : Bool) →

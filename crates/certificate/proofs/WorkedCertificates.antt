@@ -39,11 +39,11 @@ pairs (suc k) c v = c ∷ v ∷ pairs k c v
 abbrev to-q : (budget : ℕ) → (parents : List ℕ) → (costs count : ℕ) → (words : List ℕ) → (is : ℕ) → Sent
 to-q b ps v k ws a = record { for = instance-q b []; parents = ps; costs = v; count = k; words = ws; is = a }
 
-abbrev marked : (marks : List At) → (parents : List ℕ) → (costs : ℕ) → (is : ℕ) → Sent
-marked ms ps v a = record { for = instance-q 16 ms; parents = ps; costs = v; count = 5; words = cuts; is = a }
+abbrev marked : (budget : ℕ) → (marks : List At) → (parents : List ℕ) → (costs : ℕ) → (is : ℕ) → Sent
+marked b ms ps v a = record { for = instance-q b ms; parents = ps; costs = v; count = 5; words = cuts; is = a }
 
-abbrev to-one : (parents : List ℕ) → (costs count : ℕ) → (words : List ℕ) → (is : ℕ) → Sent
-to-one ps v k ws a = record { for = instance-from 1 0 0 [] []; parents = ps; costs = v; count = k; words = ws; is = a }
+abbrev to-one : (budget : ℕ) → (parents : List ℕ) → (costs count : ℕ) → (words : List ℕ) → (is : ℕ) → Sent
+to-one b ps v k ws a = record { for = instance-from 1 0 b [] []; parents = ps; costs = v; count = k; words = ws; is = a }
 
 -- for every budget b, since "the budget is not judged"
 unfoldable pub plans : (b : ℕ) → List Sent
@@ -85,21 +85,21 @@ plans b =
     ∷ to-q b tree 15 0 [] wrong-values
     ∷ to-q b (255 ∷ 2 ∷ 0 ∷ 1 ∷ []) 16 5 cuts wrong-values
     -- marks: 0→1 banned; 2→1 pinned, and so 0→1 does not remain; two pins that leave no tree
-    ∷ marked (arc 0 1 banned ∷ []) tree 15 not-arborescence
-    ∷ marked (arc 2 1 pinned ∷ []) tree 15 not-arborescence
-    ∷ marked (arc 2 1 pinned ∷ arc 1 2 pinned ∷ []) (255 ∷ 2 ∷ 1 ∷ 1 ∷ []) 7 not-arborescence
-    ∷ marked (arc 2 1 pinned ∷ arc 1 2 pinned ∷ []) (255 ∷ 255 ∷ 255 ∷ 255 ∷ []) 0 not-arborescence
-    -- a ban takes a charge away: with 3→1 banned nothing forbids it to be charged 8
-    ∷ marked (arc 3 1 banned ∷ []) tree 15 0
+    ∷ marked b (arc 0 1 banned ∷ []) tree 15 not-arborescence
+    ∷ marked b (arc 2 1 pinned ∷ []) tree 15 not-arborescence
+    ∷ marked b (arc 2 1 pinned ∷ arc 1 2 pinned ∷ []) (255 ∷ 2 ∷ 1 ∷ 1 ∷ []) 7 not-arborescence
+    ∷ marked b (arc 2 1 pinned ∷ arc 1 2 pinned ∷ []) (255 ∷ 255 ∷ 255 ∷ 255 ∷ []) 0 not-arborescence
+    -- a ban takes a charge away: with 3→1 banned nothing forbids it to be charged 10
+    ∷ marked b (arc 3 1 banned ∷ []) tree 15 0
     ∷ record { for = instance-q b (arc 3 1 banned ∷ []); parents = tree; costs = 15; count = 4; words = 2 ∷ 2 ∷ 4 ∷ 1 ∷ 8 ∷ 4 ∷ 6 ∷ 8 ∷ []; is = 0 }
     ∷ to-q b tree 15 4 (2 ∷ 2 ∷ 4 ∷ 1 ∷ 8 ∷ 4 ∷ 6 ∷ 8 ∷ []) overcharged
     -- one position: no cut, or any is a bad one
-    ∷ to-one (255 ∷ []) 0 0 [] 0
-    ∷ to-one (0 ∷ []) 0 0 [] not-arborescence
-    ∷ to-one (255 ∷ []) 1 0 [] wrong-total
-    ∷ to-one (255 ∷ []) 0 1 (0 ∷ 0 ∷ []) bad-cut
-    ∷ to-one (255 ∷ []) 0 1 (1 ∷ 0 ∷ []) bad-cut
-    ∷ to-one (255 ∷ []) 0 1 (2 ∷ 0 ∷ []) bad-cut
+    ∷ to-one b (255 ∷ []) 0 0 [] 0
+    ∷ to-one b (0 ∷ []) 0 0 [] not-arborescence
+    ∷ to-one b (255 ∷ []) 1 0 [] wrong-total
+    ∷ to-one b (255 ∷ []) 0 1 (0 ∷ 0 ∷ []) bad-cut
+    ∷ to-one b (255 ∷ []) 0 1 (1 ∷ 0 ∷ []) bad-cut
+    ∷ to-one b (255 ∷ []) 0 1 (2 ∷ 0 ∷ []) bad-cut
     -- P9
     ∷ record { for = two b []; parents = 255 ∷ 0 ∷ []; costs = 5; count = 1; words = 2 ∷ 5 ∷ []; is = 0 }
     ∷ []

@@ -11,10 +11,11 @@ use Rattle.instance.specs.Instance.{Instance, weight}
 use Rattle.instance.specs.Arborescence.{each-remaining, is-arborescence, total}
 use Rattle.instance.specs.Cuts.{Cut, cuts-in, charged, values, sets-ok}
 
--- "no remaining link charged above its price"
+-- an arc is charged with at most its weight
 abbrev pub covered : Instance → List Cut → (tail head : ℕ) → Bool
 covered s cs t h = leb (charged cs t h) (weight s t h)
 
+-- "no remaining link charged above its price"
 abbrev pub none-overcharged : Instance → List Cut → Bool
 none-overcharged s cs = each-remaining s (covered s cs)
 

@@ -9,7 +9,7 @@ use Prim.Native.Nat.{ℕ, _*_, _-_, _≤_}
 use native.Mathlib.Omega.{arith}
 use lib.ListN.{length, take, drop, replicate, length-take, take-append-drop}
 use Rattle.instance.specs.Limits.{max-vertices, max-cuts, cut-words}
-use Rattle.instance.specs.Refusals.{invalid-board}
+use Rattle.instance.specs.Refusals.{invalid-board, not-arborescence}
 use Rattle.instance.specs.Instance.{Instance}
 use Rattle.instance.specs.Arborescence.{is-arborescence, total}
 use Rattle.instance.specs.Cuts.{cuts-in, pair-words, words-of, values, Feasible}
@@ -18,11 +18,12 @@ use Rattle.instance.specs.declared.Outcome.the-variants.{Plan, Over, NoTree}
 use Rattle.instance.specs.States.{outcome}
 use Rattle.instance.proofs.ArborescenceLaws.{parents-size}
 use Rattle.theory.proofs.MarkLaws.{pinned-used, banned-unused}
+use Rattle.theory.proofs.OutcomeLaws.{outcome-reads}
 use Rattle.theory.proofs.SameOutcomes.{arcs-same}
 use Rattle.card_format.specs.Card.{card-refusal, instance-in}
 use Rattle.certificate.specs.Certificate.{certificate-refusal}
 use Rattle.certificate.specs.Readings.{Accepted}
-use Rattle.certificate.proofs.CertificateLaws.{same-refusal, accepted-reads, accepted-least}
+use Rattle.certificate.proofs.CertificateLaws.{same-refusal, accepted-reads, accepted-least, no-tree-refused}
 use Rattle.commands.specs.Commands.{Command}
 use Rattle.commands.specs.Valid.{valid}
 use Rattle.commands.specs.Log.{new-log, log-after}
@@ -71,6 +72,10 @@ module _ {b : Board} {ps ps′ : List ℕ} {v k : ℕ} {ws ws′ : List ℕ} {r 
         marks-kept = record { pins = pinned-used s (take (b .n) ps) (a .arborescence); bans = banned-unused s (take (b .n) ps) (a .arborescence) };
         least = accepted-least s ps v k ws a .least;
       }
+
+  -- a board without a feed tree: every plan that is long enough is 21
+  pub none-accepted : valid (model-of b) ≡ true → outcome (instance-of b) ≡ NoTree → b .n ≤ length ps → 2 * k ≤ length ws → r ≡ not-arborescence
+  none-accepted g o l m = checked c .result ∙ rw g (no-tree-refused (instance-of b) ps v k ws (outcome-reads (instance-of b) .fails .0 o) l m)
 
 -- WHAT OUR OWN PLANNER GIVES
 -- a look with an outcome was no refusal

@@ -29,7 +29,7 @@ fn bit(vertex: u32) -> u32 {
 }
 
 // For each head the tails of the arcs into it that cost nothing.
-fn free_tails(costs: &[u32; CELLS]) -> [u32; HEADS] {
+fn zero_tails(costs: &[u32; CELLS]) -> [u32; HEADS] {
     let mut tails = [0; HEADS];
     for k in 0..CELLS as u32 {
         if costs[k as usize] == 0 {
@@ -102,7 +102,7 @@ fn least_into(costs: &[u32; CELLS], set: u32) -> u32 {
 }
 
 // A set charged: each arc into it costs so much less, and the pair is written down.
-fn charged(work: Work, set: u32, amount: u32) -> Work {
+fn lowered(work: Work, set: u32, amount: u32) -> Work {
     let before = work.certificate;
     let mut w = work;
     let round = plus(before.count, 1);
@@ -125,13 +125,13 @@ fn charged(work: Work, set: u32, amount: u32) -> Work {
 // One charge, where the root does not reach every vertex yet and some arc enters the set.
 fn with_charge(work: Work, n: u32, root: u32) -> Work {
     let costs = work.costs;
-    let tails = free_tails(&costs);
+    let tails = zero_tails(&costs);
     let set = smallest(&tails, n, root);
     let amount = least_into(&costs, set);
     if set == 0 || amount == ABSENT {
         return work;
     }
-    charged(work, set, amount)
+    lowered(work, set, amount)
 }
 
 // Whether an arc costs nothing, and leads from the reached vertices to another.

@@ -84,8 +84,8 @@ fn reply_of(b: Board, k: u32) -> Reply {
     }
 }
 
-// On a damaged board 15, which comes before 14, and nothing touched; on a sound one not 15, and 14 where a buffer is
-// too short.
+// On a damaged board 15, which comes before 14, and nothing touched; on a sound one not 15, 14 where a buffer or a list
+// is too short, and 21 for the list that is no tree.
 fn is_right(r: Reply, k: u32, is_damaged: bool) -> bool {
     if is_damaged {
         return replies::is_reply(r, INVALID_BOARD);

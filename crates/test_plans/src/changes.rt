@@ -109,12 +109,12 @@ fn other_total(o: Certificate, which: u32) -> Change {
     changed(c, WRONG_TOTAL)
 }
 
-// 62 pairs, the last ones of amount 0.
-fn too_many(o: Certificate, set: u32) -> Certificate {
+// As many pairs as that, those that are added with one set and one amount.
+fn filled(o: Certificate, set: u32, amount: u32, count: u32) -> Certificate {
     let mut c = o;
-    for k in 0..PAIRS + 1 {
-        if c.count <= PAIRS {
-            c = certificate::with_pair(c, set, 0);
+    for k in 0..count {
+        if c.count < count {
+            c = certificate::with_pair(c, set, amount);
         }
     }
     c
@@ -126,7 +126,10 @@ fn bad_cut(o: Certificate, n: u32, root: u32, which: u32, g: Random) -> Change {
         return changed(certificate::with_pair(o, which, 0), BAD_CUT);
     }
     if which == 0 {
-        return changed(too_many(o, bit(some_vertex(n, root, g))), BAD_CUT);
+        return changed(
+            filled(o, bit(some_vertex(n, root, g)), 0, PAIRS + 1),
+            BAD_CUT,
+        );
     }
     if o.count == 0 {
         return unchanged(o);
@@ -146,7 +149,8 @@ fn bad_cut(o: Certificate, n: u32, root: u32, which: u32, g: Random) -> Change {
     unchanged(o)
 }
 
-// Amounts that charge too much: 24. One more on a cut, the largest, two that add to nothing in 32 bits.
+// Amounts that charge too much: 24. One more on a cut, the largest, 61 pairs with the largest, two amounts that add to
+// nothing in 32 bits.
 fn too_dear(o: Certificate, which: u32, g: Random) -> Change {
     if o.count == 0 {
         return unchanged(o);
@@ -164,6 +168,10 @@ fn too_dear(o: Certificate, which: u32, g: Random) -> Change {
     }
     if which == 1 {
         return changed(certificate::with_word(o, value, 4294967295), OVERCHARGED);
+    }
+    if which == 2 {
+        let least = certificate::with_word(o, value, 4294967295);
+        return changed(filled(least, set, 4294967295, PAIRS), OVERCHARGED);
     }
     if PAIRS < access::plus(o.count, 2) {
         return unchanged(o);
@@ -253,7 +261,7 @@ fn other_tree(table: &[u32; CELLS], o: Certificate, n: u32, root: u32, g: Random
 }
 
 // The changes in the order of their numbers.
-pub const KINDS: u32 = 25;
+pub const KINDS: u32 = 26;
 
 pub fn nth_change(
     table: &[u32; CELLS], // the weights of the remaining arcs
@@ -275,14 +283,14 @@ pub fn nth_change(
     if kind < 16 {
         return bad_cut(o, n, root, kind - 12, g);
     }
-    if kind < 19 {
+    if kind < 20 {
         return too_dear(o, kind - 16, g);
     }
-    if kind < 21 {
-        return too_cheap(o, kind - 19, g);
+    if kind < 22 {
+        return too_cheap(o, kind - 20, g);
     }
-    if kind < 24 {
-        return harmless(o, n, root, kind - 21, g);
+    if kind < 25 {
+        return harmless(o, n, root, kind - 22, g);
     }
     other_tree(table, o, n, root, g)
 }

@@ -2,4 +2,4 @@
 pub mod RestLaws
 pub mod TreeLaws
 pub mod CutsLaws
-pub mod KeptLaws
+pub mod SelectedLaws

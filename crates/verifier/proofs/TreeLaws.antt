@@ -13,12 +13,13 @@ use borrow.Author.Tests.{eq-eqb, ne-eqb}
 use Rattle.base.specs.Bounded.{all-below, sum-below}
 use Rattle.base.proofs.SumLaws.{sum-more}
 use Rattle.base.proofs.ListLaws.{default}
-use Rattle.instance.specs.Limits.{max-vertices, no-arc, no-parent, cells}
+use Rattle.instance.specs.Limits.{max-vertices, no-parent, cells}
 use Rattle.instance.specs.Instance.{cell, weight, is-arc}
 use Rattle.instance.specs.Arborescence.{remaining, parent, reaches, parent-ok, is-arborescence, total}
 use Rattle.instance.specs.Matrix.{unmarked}
 use Rattle.instance.proofs.ArcLaws.{unmarked-remaining, remaining-ends}
 use Rattle.instance.proofs.ArborescenceLaws.{joined}
+use Rattle.verifier.proofs.CutsLaws.{matrix-weight}
 use Rattle.verifier.proofs.RestLaws.{equal-rest, unequal-rest, eqb-turned}
 
 -- THE WAY TO THE ROOT
@@ -90,8 +91,9 @@ module _ (n : ℕ) (ps : List ℕ) (long : n ≤ length ps) where
         rw (sent-parent v l) (remaining-ends (unmarked n root m) (parent (take n ps) v) v (joined (unmarked n root m) (take n ps) a v l (ne-eqb v root e) .arc) .tail-below)
 
     pub arc-weight : getD m (cell (getD ps v 0) v) 0 ≡ cond (eqb v root) 0 (weight (unmarked n root m) (parent (take n ps) v) v)
-    unfolding weight unmarked
-    arc-weight = let b = tail-below in rw (ne-eqb v root e, ← sent-parent v l) (default m (cell (getD ps v 0) v) 0 no-arc (omega arith))
+    arc-weight =
+        let b = tail-below in
+        rw (ne-eqb v root e, ← sent-parent v l) (matrix-weight n root m (getD ps v 0) v size (omega arith))
 
 -- THE TOTAL: the arcs into the vertices below v are still to be paid from what is left
 abbrev pub cost : (n root : ℕ) → (matrix parents : List ℕ) → (v : ℕ) → ℕ

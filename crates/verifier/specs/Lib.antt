@@ -1,2 +1,2 @@
 -- What the contracts cite besides the definitions of `certificate`. Assumes nothing.
-pub mod Kept
+pub mod Selected

@@ -12,7 +12,7 @@ ghost use Rattle.instance.specs.Arborescence.{if-remaining};
 ghost use Rattle.instance.specs.Cuts.{cuts-in, inside, enters, charged, values, set-ok, sets-ok};
 ghost use Rattle.instance.specs.Matrix.{unmarked};
 ghost use Rattle.certificate.specs.Certificate.{covered, none-overcharged};
-ghost use Rattle.verifier.specs.Kept.{Keeps, covered-into};
+ghost use Rattle.verifier.specs.Selected.{Selects, covered-into};
 use checks::arc::is_arc;
 use instance::limits::CELLS;
 use instance::limits::CUT_WORDS;
@@ -70,32 +70,32 @@ fn is_entering(set: u32, tail: u32, head: u32) -> bool
 }
 
 // Some of the cuts, as pairs from the front on.
-struct Kept {
+struct Selected {
     words: [u32; CUT_WORDS],
     count: u32,
 }
 
 // The cuts that have a vertex: an arc into it enters no others. Most cuts have few vertices, so each arc is then held
 // against few cuts.
-fn cuts_with(cuts: &[u32], vertex: u32, count: u32) -> Kept
+fn cuts_with(cuts: &[u32], vertex: u32, count: u32) -> Selected
     requires { ⌜ (vertex < max-vertices) × (count ≤ max-cuts) × (2 * count ≤ length (now cuts)) ⌝ }
-    ensures { λ r. ⌜ Keeps (now (cuts .entry)) vertex count (r .words) (r .count) ⌝ }
+    ensures { λ r. ⌜ Selects (now (cuts .entry)) vertex count (r .words) (r .count) ⌝ }
 {
     let mut words = [0u32; CUT_WORDS];
-    let mut kept: usize = 0;
+    let mut selected: usize = 0;
     let mut k: usize = 0;
     while k < (count as usize) {
         let set = cuts[2 * k];
         if is_inside(set, vertex) {
-            words[2 * kept] = set;
-            words[2 * kept + 1] = cuts[2 * k + 1];
-            kept += 1;
+            words[2 * selected] = set;
+            words[2 * selected + 1] = cuts[2 * k + 1];
+            selected += 1;
         }
         k += 1;
     }
-    Kept {
+    Selected {
         words,
-        count: kept as u32,
+        count: selected as u32,
     }
 }
 
@@ -128,7 +128,7 @@ fn is_covered(cuts: &[u32; CUT_WORDS], tail: u32, head: u32, weight: u32, count:
     true
 }
 
-// The same, where the cell has a remaining arc.
+// Whether the arc of a cell is charged with at most its weight, if the cell has one.
 fn arc_covered(
     m: &[u32; CELLS],
     cuts: &[u32; CUT_WORDS],
@@ -148,7 +148,7 @@ fn arc_covered(
     is_covered(cuts, tail, head, m[i], count)
 }
 
-// Whether no remaining arc into one head is charged above its weight, by cuts that have the head.
+// Whether no remaining arc into one head is charged above its weight by these cuts.
 fn arcs_covered(
     m: &[u32; CELLS],
     cuts: &[u32; CUT_WORDS],
@@ -170,17 +170,17 @@ fn arcs_covered(
     true
 }
 
-// The same by all cuts.
+// Whether no remaining arc into one head is charged above its weight by all cuts: those that have the head decide.
 fn head_covered(m: &[u32; CELLS], cuts: &[u32], n: u32, root: u32, head: u32, count: u32) -> bool
     requires { ⌜ (length (now m) ≡ cells) × (n ≤ max-vertices) × (head < n) × (count ≤ max-cuts) × (2 * count ≤ length (now cuts)) ⌝ }
     ensures { λ r. ⌜ r ≡ covered-into (unmarked n root (now (m .entry))) (cuts-in count (now (cuts .entry))) head ⌝ }
 {
-    let kept = cuts_with(cuts, head, count);
-    let words = kept.words;
-    arcs_covered(m, &words, n, root, head, kept.count)
+    let selected = cuts_with(cuts, head, count);
+    let words = selected.words;
+    arcs_covered(m, &words, n, root, head, selected.count)
 }
 
-// Whether none at all is.
+// Whether no remaining arc is charged above its weight.
 pub fn all_covered(m: &[u32; CELLS], cuts: &[u32], n: u32, root: u32, count: u32) -> bool
     requires { ⌜ (length (now m) ≡ cells) × (n ≤ max-vertices) × (count ≤ max-cuts) × (2 * count ≤ length (now cuts)) ⌝ }
     ensures { λ r. ⌜ r ≡ none-overcharged (unmarked n root (now (m .entry))) (cuts-in count (now (cuts .entry))) ⌝ }

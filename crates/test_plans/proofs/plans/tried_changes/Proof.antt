@@ -8,7 +8,7 @@ abbrev Inv-loop : tie.InvT-loop
 Inv-loop table p o t₀ g₀ kind₀ t g kind = Unit
 
 abbrev μ-loop : tie.MeasureT-loop
-μ-loop table p o t₀ g₀ kind₀ t g kind = 25 - kind
+μ-loop table p o t₀ g₀ kind₀ t g kind = 26 - kind
 
 pub tried-changes-spec : {M : Type 1} → statement M
 tried-changes-spec =

@@ -9,7 +9,7 @@ use Rattle.instance.specs.Arborescence.{each-remaining}
 use Rattle.instance.specs.Cuts.{cuts-in}
 use Rattle.instance.specs.Matrix.{unmarked}
 use Rattle.certificate.specs.Certificate.{none-overcharged}
-use Rattle.verifier.specs.Kept.{covered-into}
+use Rattle.verifier.specs.Selected.{covered-into}
 use Rattle.verifier.proofs.cuts.all_covered.Statement.{statement}
 use Rattle.verifier.proofs.cuts.all_covered.Tie as tie
 

@@ -9,7 +9,7 @@ use Rattle.instance.specs.Arborescence.{if-remaining}
 use Rattle.instance.specs.Cuts.{cuts-in}
 use Rattle.instance.specs.Matrix.{unmarked}
 use Rattle.certificate.specs.Certificate.{covered}
-use Rattle.verifier.specs.Kept.{covered-into}
+use Rattle.verifier.specs.Selected.{covered-into}
 use Rattle.verifier.proofs.cuts.arcs_covered.Statement.{statement}
 use Rattle.verifier.proofs.cuts.arcs_covered.Tie as tie
 

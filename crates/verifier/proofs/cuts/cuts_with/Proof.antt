@@ -3,18 +3,18 @@ use mathlib.Core.Path.{refl, sym, _∙_}
 use mathlib.Core.Logic.{⊎-elim}
 use Prim.Native.Nat.{_-_}
 use native.Mathlib.Omega.{arith}
-use Rattle.verifier.proofs.KeptLaws.{Keeping, keeping-none, keeping-skip, keeping-more, keeping-all}
+use Rattle.verifier.proofs.SelectedLaws.{Selecting, selecting-none, selecting-skip, selecting-more, selecting-all}
 use Rattle.verifier.proofs.cuts.cuts_with.Statement.{statement}
 use Rattle.verifier.proofs.cuts.cuts_with.Tie as tie
 
 abbrev Inv-loop : tie.InvT-loop
-Inv-loop cuts vertex count words₀ kept₀ k₀ words kept k = Keeping cuts vertex count words kept k
+Inv-loop cuts vertex count words₀ selected₀ k₀ words selected k = Selecting cuts vertex count words selected k
 
 abbrev μ-loop : tie.MeasureT-loop
-μ-loop cuts vertex count words₀ kept₀ k₀ words kept k = count - k
+μ-loop cuts vertex count words₀ selected₀ k₀ words selected k = count - k
 
 loop-holds : tie.Need-loop-holds Inv-loop μ-loop
-loop-holds c = keeping-none _ _ _ _ refl
+loop-holds c = selecting-none _ _ _ _ refl
 
 mul-set : tie.Need-mul-set Inv-loop μ-loop
 mul-set c = omega arith
@@ -61,8 +61,8 @@ mul-words-6 c = let f = c .before .before .before .before .before .loop .inv .fe
 array-write-words-2 : tie.Need-array-write-words-2 Inv-loop μ-loop
 array-write-words-2 c = let f = c .before .before .before .before .before .loop .inv .fewer in omega arith
 
-add-kept : tie.Need-add-kept Inv-loop μ-loop
-add-kept c = let f = c .before .before .before .before .before .loop .inv .fewer in omega arith
+add-selected : tie.Need-add-selected Inv-loop μ-loop
+add-selected c = let f = c .before .before .before .before .before .loop .inv .fewer in omega arith
 
 add-k : tie.Need-add-k Inv-loop μ-loop
 add-k c = omega arith
@@ -77,17 +77,17 @@ loop-again c =
     let p = c .before .before .before .before .before .before .pre in
     let below = c .before .before .before .loop-test .taken in
     let inner = sym (c .before .is-inside .ensures) in
-    ⊎-elim (λ w. rw (w .2, w .3) (keeping-more (a .cuts .now) (a .vertex) (a .count) (l .words) (l .kept) (l .k) below (p .1) (l .inv)))
-    (λ w. rw (w .1, w .2) (keeping-skip (a .cuts .now) (a .vertex) (a .count) (l .words) (l .kept) (l .k) below (p .1) (l .inv) (inner ∙ w .0 .left))) (c .if1 .came)
+    ⊎-elim (λ w. rw (w .2, w .3) (selecting-more (a .cuts .now) (a .vertex) (a .count) (l .words) (l .selected) (l .k) below (p .1) (l .inv)))
+    (λ w. rw (w .1, w .2) (selecting-skip (a .cuts .now) (a .vertex) (a .count) (l .words) (l .selected) (l .k) below (p .1) (l .inv) (inner ∙ w .0 .left))) (c .if1 .came)
 
 cast-t27 : tie.Need-cast-t27 Inv-loop μ-loop
-cast-t27 c = let f = c .before .loop .inv .fewer in let g = c .before .loop .inv .least in omega arith
+cast-t27 c = let f = c .before .loop .inv .fewer in let g = c .before .loop .inv .within in omega arith
 
 returns : tie.Need-returns Inv-loop μ-loop
 returns c =
     let a = c .before .before .before .args in
     let l = c .before .loop in
-    keeping-all (a .cuts .now) (a .vertex) (a .count) (l .words) (l .kept) (l .k) (c .loop-test .left) (l .inv)
+    selecting-all (a .cuts .now) (a .vertex) (a .count) (l .words) (l .selected) (l .k) (c .loop-test .left) (l .inv)
 
 pub cuts-with-spec : {M : Type 1} → statement M
 cuts-with-spec =
@@ -111,7 +111,7 @@ cuts-with-spec =
     add-words-2
     mul-words-6
     array-write-words-2
-    add-kept
+    add-selected
     add-k
     loop-less
     loop-again

@@ -10,9 +10,9 @@ use Rattle.instance.specs.Cuts.{Cut, cuts-in, charged}
 use Rattle.certificate.specs.Certificate.{covered}
 
 -- no more cuts than there were, and they charge every arc into the vertex with as much as all do
-pub record Keeps (words : List ℕ) (vertex count : ℕ) (words′ : List ℕ) (kept : ℕ) : Type 0 where
-  pub fewer : kept ≤ count
-  pub same : (t : ℕ) → charged (cuts-in kept words′) t vertex ≡ charged (cuts-in count words) t vertex
+pub record Selects (words : List ℕ) (vertex count : ℕ) (words′ : List ℕ) (selected : ℕ) : Type 0 where
+  pub fewer : selected ≤ count
+  pub same : (t : ℕ) → charged (cuts-in selected words′) t vertex ≡ charged (cuts-in count words) t vertex
 
 -- no remaining arc into the head is charged above its weight
 abbrev pub covered-into : Instance → List Cut → (head : ℕ) → Bool

@@ -1,8 +1,8 @@
--- `reference::dual::free_tails` is safe and ends.
+-- `reference::dual::zero_tails` is safe and ends.
 use Prim.Native.Nat.{_-_}
 use borrow.Author.Needs.{needs}
-use Rattle.reference.proofs.dual.free_tails.Statement.{statement}
-use Rattle.reference.proofs.dual.free_tails.Tie as tie
+use Rattle.reference.proofs.dual.zero_tails.Statement.{statement}
+use Rattle.reference.proofs.dual.zero_tails.Tie as tie
 
 abbrev Inv-loop : tie.InvT-loop
 Inv-loop costs tails₀ k₀ tails k = Unit
@@ -10,8 +10,8 @@ Inv-loop costs tails₀ k₀ tails k = Unit
 abbrev μ-loop : tie.MeasureT-loop
 μ-loop costs tails₀ k₀ tails k = 1024 - k
 
-pub free-tails-spec : {M : Type 1} → statement M
-free-tails-spec =
+pub zero-tails-spec : {M : Type 1} → statement M
+zero-tails-spec =
     tie.close
     (tie.spec
     Inv-loop
