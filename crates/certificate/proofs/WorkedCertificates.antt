@@ -59,14 +59,14 @@ plans b =
     ∷ to-q b tree 15 6 (cuts ++ (8 ∷ [])) buffer-short
     ∷ to-q b (0 ∷ 0 ∷ 0 ∷ 0 ∷ []) 99 4000000000 cuts buffer-short
     ∷ to-q b tree 15 2147483648 [] buffer-short
-    -- 21: something else than 255 at the root, 255 elsewhere, a cycle, no link (3→2), no position; the total is wrong
-    -- too
+    -- 21: something else than 255 at the root, 255 elsewhere, a cycle, no link (3→2), no position; in the last two
+    -- the total is wrong too
     ∷ to-q b (0 ∷ 0 ∷ 1 ∷ 1 ∷ []) 15 5 cuts not-arborescence
     ∷ to-q b (255 ∷ 0 ∷ 1 ∷ 255 ∷ []) 11 5 cuts not-arborescence
     ∷ to-q b (255 ∷ 2 ∷ 1 ∷ 1 ∷ []) 7 5 cuts not-arborescence
     ∷ to-q b (255 ∷ 0 ∷ 3 ∷ 1 ∷ []) 99 5 cuts not-arborescence
     ∷ to-q b (255 ∷ 0 ∷ 4 ∷ 1 ∷ []) 99 5 cuts not-arborescence
-    -- 22, with a bad cut too
+    -- 22; the second with a bad cut too
     ∷ to-q b tree 16 5 cuts wrong-total
     ∷ to-q b tree 14 1 (0 ∷ 14 ∷ []) wrong-total
     -- 23: the empty set, the root, a position that is not there; 62 cuts; all cuts are judged before any link

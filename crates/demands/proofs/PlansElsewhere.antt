@@ -1,6 +1,6 @@
 -- PLANS MADE ELSEWHERE (02, A6), of the calls: a plan that is accepted is a cheapest tree that keeps pins and bans,
--- whoever made it; whatever a look gives as plan or over is accepted; after any run a check goes by the effective
--- marks; and boards that are called equal answer alike. Assumes nothing.
+-- whoever made it; on a board without a tree every plan is 21; whatever a look gives as plan or over is accepted; after
+-- any run a check goes by the effective marks; and boards that are called equal answer alike. Assumes nothing.
 use mathlib.Core.Path.{_≡_, refl, sym, ap, _∙_, subst}
 use mathlib.Core.Bool.{Bool, true, false, cond, true≢false}
 use mathlib.Core.List.{List, _++_, append-assoc}

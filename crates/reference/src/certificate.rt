@@ -78,7 +78,7 @@ fn is_tree(table: &[u32; CELLS], parents: &[u8], n: u32, root: u32) -> bool {
 }
 
 // "every cut a non-empty set of positions without the root", and not "more than 61".
-fn are_cuts(words: &[u32], n: u32, root: u32, count: u32) -> bool {
+fn sets_right(words: &[u32], n: u32, root: u32, count: u32) -> bool {
     if PAIRS < count {
         return false;
     }
@@ -99,7 +99,7 @@ fn cuts_answer(
     count: u32, // how many pairs
     total: u32, // what they have to add to
 ) -> u32 {
-    if !are_cuts(words, n, root, count) {
+    if !sets_right(words, n, root, count) {
         return BAD_CUT;
     }
     if !shown::none_overcharged(table, words, count) {

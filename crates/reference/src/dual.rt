@@ -24,17 +24,13 @@ struct Work {
     certificate: Certificate,
 }
 
-fn bit(vertex: u32) -> u32 {
-    1 << (vertex % MAX_VERTICES)
-}
-
 // For each head the tails of the arcs into it that cost nothing.
 fn zero_tails(costs: &[u32; CELLS]) -> [u32; HEADS] {
     let mut tails = [0; HEADS];
     for k in 0..CELLS as u32 {
         if costs[k as usize] == 0 {
             let head = (k % STRIDE) as usize;
-            tails[head] = tails[head] | bit(k / STRIDE);
+            tails[head] = tails[head] | shown::only(k / STRIDE);
         }
     }
     tails
@@ -53,7 +49,7 @@ fn widened(tails: &[u32; HEADS], set: u32) -> u32 {
 
 // The vertices that reach a vertex at no cost, itself among them: no arc that costs nothing enters them.
 fn reaching(tails: &[u32; HEADS], vertex: u32) -> u32 {
-    let mut set = bit(vertex);
+    let mut set = shown::only(vertex);
     for step in 0..MAX_VERTICES {
         let wider = widened(tails, set);
         if wider == set {
@@ -176,12 +172,12 @@ fn grown(work: Work, n: u32, root: u32) -> Certificate {
     let since = work.since;
     let pairs = work.certificate;
     let mut o = bare(pairs, n);
-    let mut reached = bit(root);
+    let mut reached = shown::only(root);
     for step in 1..MAX_VERTICES {
         let k = first_arc(&costs, &since, reached);
         if k < CELLS as u32 {
             o = certificate::with_parent(o, k % STRIDE, narrow(k / STRIDE));
-            reached = reached | bit(k % STRIDE);
+            reached = reached | shown::only(k % STRIDE);
         }
     }
     o

@@ -98,6 +98,11 @@ pub fn holds(set: u32, vertex: u32) -> bool {
     set >> (vertex % 32) & 1 == 1
 }
 
+// The set of one vertex.
+pub fn only(vertex: u32) -> u32 {
+    1 << (vertex % 32)
+}
+
 // "A cut is a non-empty set of positions without the root": and only of the n positions that there are.
 pub fn is_cut_set(n: u32, root: u32, set: u32) -> bool {
     if set == 0 {

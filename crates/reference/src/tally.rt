@@ -3,7 +3,7 @@
 use crate::access::plus;
 
 // More than any program counts.
-pub const COUNTS: usize = 32;
+pub const COUNTS: usize = 64;
 
 // The first three counts; a program's own follow.
 pub const FAULTS: u32 = 0;

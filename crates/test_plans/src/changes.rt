@@ -48,10 +48,6 @@ fn some_vertex(n: u32, root: u32, g: Random) -> u32 {
     access::plus(access::plus(root, 1), random::below(g, n - 1)) % n
 }
 
-fn bit(vertex: u32) -> u32 {
-    1 << (vertex % MAX_VERTICES)
-}
-
 // Too little sent, for the plan or for a count that was changed: 14.
 fn too_short(o: Certificate, n: u32, which: u32) -> Change {
     let mut c = o;
@@ -81,6 +77,9 @@ fn no_tree(o: Certificate, n: u32, root: u32, which: u32, g: Random) -> Change {
     }
     let parents = o.parents;
     let parent = access::byte(&parents, v);
+    if which == 4 && parent == root {
+        return unchanged(o);
+    }
     match which {
         1 => changed(certificate::with_parent(o, v, NO_PARENT as u8), NOT_A_TREE),
         2 => changed(
@@ -127,7 +126,7 @@ fn bad_cut(o: Certificate, n: u32, root: u32, which: u32, g: Random) -> Change {
     }
     if which == 0 {
         return changed(
-            filled(o, bit(some_vertex(n, root, g)), 0, PAIRS + 1),
+            filled(o, shown::only(some_vertex(n, root, g)), 0, PAIRS + 1),
             BAD_CUT,
         );
     }
@@ -141,10 +140,13 @@ fn bad_cut(o: Certificate, n: u32, root: u32, which: u32, g: Random) -> Change {
         return changed(certificate::with_word(o, at, 0), BAD_CUT);
     }
     if which == 2 {
-        return changed(certificate::with_word(o, at, set | bit(root)), BAD_CUT);
+        return changed(
+            certificate::with_word(o, at, set | shown::only(root)),
+            BAD_CUT,
+        );
     }
     if n < MAX_VERTICES {
-        return changed(certificate::with_word(o, at, set | bit(n)), BAD_CUT);
+        return changed(certificate::with_word(o, at, set | shown::only(n)), BAD_CUT);
     }
     unchanged(o)
 }
@@ -227,7 +229,7 @@ fn harmless(o: Certificate, n: u32, root: u32, which: u32, g: Random) -> Change 
             return unchanged(o);
         }
         return changed(
-            certificate::with_pair(o, bit(some_vertex(n, root, g)), 0),
+            certificate::with_pair(o, shown::only(some_vertex(n, root, g)), 0),
             0,
         );
     }

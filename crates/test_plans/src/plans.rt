@@ -37,11 +37,18 @@ const INSTANCES: u32 = 3;
 
 const MADE: u32 = 4;
 
-const OWN: u32 = 5;
+const OWN_PLANS: u32 = 5;
 
-const ANSWERS: u32 = 6;
+const BANNED_LINKS: u32 = 6;
 
-const LISTED: u32 = 14;
+const LOWERED_PRICES: u32 = 7;
+
+const LISTED: u32 = 8;
+
+const ANSWERS: u32 = 9;
+
+// Eight counts of answers, and then one for each kind of change.
+const CHANGES: u32 = 17;
 
 fn place_of(answer: u32) -> u32 {
     match answer {
@@ -85,21 +92,42 @@ fn tried(tally: Tally, table: &[u32; CELLS], p: Problem, o: Certificate, answer:
         access::plus(ANSWERS, place_of(answer)),
         are_right(r, answer),
     );
-    let other = if answer == 0 { WRONG_AMOUNTS } else { 0 };
     let mut wrong = r;
-    wrong.planner = other;
+    wrong.reference = other_than(answer);
     let u = tally::planted(t, !are_right(wrong, answer));
-    wrong = r;
-    wrong.reference = other;
-    tally::planted(u, !are_right(wrong, answer))
+    with_wrong_answer(u, r, answer)
 }
 
-fn tried_change(tally: Tally, table: &[u32; CELLS], p: Problem, c: Change) -> Tally {
+fn other_than(answer: u32) -> u32 {
+    if answer == 0 { WRONG_AMOUNTS } else { 0 }
+}
+
+// Another answer in the planner's place, which has to be reported.
+fn with_wrong_answer(tally: Tally, r: Replies, answer: u32) -> Tally {
+    let mut wrong = r;
+    wrong.planner = other_than(answer);
+    tally::planted(tally, !are_right(wrong, answer))
+}
+
+// A plan whose answer the reference knows.
+fn tried_by_reference(tally: Tally, table: &[u32; CELLS], p: Problem, o: Certificate) -> Tally {
+    let r = both_replies(table, p, o);
+    let t = tally::checked(
+        tally,
+        access::plus(ANSWERS, place_of(r.reference)),
+        are_right(r, r.reference),
+    );
+    with_wrong_answer(t, r, r.reference)
+}
+
+// A plan with one change, counted by its kind.
+fn tried_change(tally: Tally, table: &[u32; CELLS], p: Problem, c: Change, kind: u32) -> Tally {
     let o = c.certificate;
     if !c.applies {
         return tally;
     }
-    tried(tally, table, p, o, c.answer)
+    let t = tally::with(tally, access::plus(CHANGES, kind), 1);
+    tried(t, table, p, o, c.answer)
 }
 
 // Every change by itself; and after each another one, whose answer the reference knows.
@@ -114,7 +142,7 @@ fn tried_changes(
     let mut g = seed;
     for kind in 0..changes::KINDS {
         let c = changes::nth_change(table, o, p.n, p.root, kind, g);
-        t = tried_change(t, table, p, c);
+        t = tried_change(t, table, p, c, kind);
         g = random::next(random::next(g));
         let first = c.certificate;
         let d = changes::nth_change(
@@ -126,13 +154,7 @@ fn tried_changes(
             g,
         );
         let both = d.certificate;
-        t = tried(
-            t,
-            table,
-            p,
-            both,
-            certificate::answer(table, both, p.n, p.root),
-        );
+        t = tried_by_reference(t, table, p, both);
     }
     t
 }
@@ -145,7 +167,13 @@ fn tried_banned(tally: Tally, p: Problem, o: Certificate, vertex: u32) -> Tally 
     let parents = o.parents;
     let q = worked::with_mark(p, access::byte(&parents, vertex), vertex, BANNED);
     let table = problem::costs(q);
-    tried(tally, &table, q, o, NOT_A_TREE)
+    tried(
+        tally::with(tally, BANNED_LINKS, 1),
+        &table,
+        q,
+        o,
+        NOT_A_TREE,
+    )
 }
 
 // The board with the price of a link outside the tree one below what the cuts charge it: 24.
@@ -169,7 +197,13 @@ fn tried_lowered(
     let lower = std::num::wrapping_sub_u32((charge % 4294967296) as u32, 1);
     let q = worked::with_weight(p, tail, head, lower);
     let costs = problem::costs(q);
-    tried(tally, &costs, q, o, OVERCHARGED)
+    tried(
+        tally::with(tally, LOWERED_PRICES, 1),
+        &costs,
+        q,
+        o,
+        OVERCHARGED,
+    )
 }
 
 // What a look gave, as a plan that is sent.
@@ -184,16 +218,26 @@ fn own_plan(s: Shown) -> Certificate {
     o
 }
 
-// "All that our own planner gives as plan or over must be accepted."; what it shows where there is no tree is none.
-fn tried_own(tally: Tally, table: &[u32; CELLS], p: Problem, budget: u32) -> Tally {
+// The kind of a look at an instance of that cheapest total.
+fn kind_at(total: u32, budget: u32) -> u32 {
+    if total == ABSENT {
+        return outcome::NONE;
+    }
+    if budget < total {
+        return outcome::OVER;
+    }
+    outcome::PLAN
+}
+
+// "All that our own planner gives as plan or over must be accepted."; what it shows where there is no tree is none. The
+// total is that of the reference's planner.
+fn tried_own(tally: Tally, table: &[u32; CELLS], p: Problem, total: u32, budget: u32) -> Tally {
     let q = worked::with_budget(p, budget);
     let s = calls::look(boards::of_problem(q));
-    let answer = if s.kind == outcome::NONE {
-        NOT_A_TREE
-    } else {
-        0
-    };
-    tried(tally::with(tally, OWN, 1), table, q, own_plan(s), answer)
+    let kind = kind_at(total, budget);
+    let t = tally::checked(tally, OWN_PLANS, s.kind == kind);
+    let answer = if kind == outcome::NONE { NOT_A_TREE } else { 0 };
+    tried(t, table, q, own_plan(s), answer)
 }
 
 // The plan of the reference's planner, with the budgets at both ends: "the budget is not judged".
@@ -209,11 +253,11 @@ fn tried_made(tally: Tally, table: &[u32; CELLS], p: Problem, o: Certificate, g:
 
 // Every plan for an instance: our own, and the one that the reference's planner made.
 fn tried_all(tally: Tally, table: &[u32; CELLS], p: Problem, o: Certificate, g: Random) -> Tally {
-    let t = tried_own(tally::with(tally, INSTANCES, 1), table, p, 0);
+    let t = tried_own(tally::with(tally, INSTANCES, 1), table, p, o.total, 0);
     if o.total == ABSENT {
         return tried(t, table, p, o, NOT_A_TREE);
     }
-    let u = tried_own(t, table, p, o.total);
+    let u = tried_own(t, table, p, o.total, o.total);
     tried_made(u, table, p, o, g)
 }
 
@@ -224,7 +268,8 @@ fn tried_small(tally: Tally, k: u32) -> Tally {
     let list = trees::list(&table, p.n, p.root);
     let o = dual::plan(&table, p.n, p.root);
     let t = tally::checked(tally, LISTED, o.total == list.cheapest);
-    tried_all(t, &table, p, o, random::seeded(k))
+    let u = tally::planted(t, access::plus(o.total, 1) != list.cheapest);
+    tried_all(u, &table, p, o, random::seeded(k))
 }
 
 fn run_small(count: u32) -> Tally {
@@ -250,16 +295,18 @@ fn run_large(count: u32) -> Tally {
     t
 }
 
-pub fn small() {
+// What there was, the answers, the changes in their order.
+fn report(tally: Tally) {
     tally::report(
-        run_small(2000),
-        b"small instances\nplans made elsewhere\nown plans\nanswer 0:\nanswer 14:\nanswer 21:\nanswer 22:\nanswer 23:\nanswer 24:\nanswer 25:\nother answers\ntotals held to the listing\n",
+        tally,
+        b"instances\nplans made elsewhere\nown plans\nboards with a link banned\nboards with a price lowered\ntotals held to the listing\nanswer 0:\nanswer 14:\nanswer 21:\nanswer 22:\nanswer 23:\nanswer 24:\nanswer 25:\nother answers\nlists a byte short\npairs a word short\ncounts of 2147483648:\ncounts of 4000000000:\na feeder at the root\nno feeder\nits own feeder\nno position\na ring\ntotal one more\ntotal one less\nanother total\n62 cuts:\nthe empty set\nthe root in a set\nno position in a set\namount one more\nthe largest amount\n61 of the largest amount:\namounts that wrap\namount one less\na cut left out\na cut of amount 0:\nno more than needed\na cut moved\none link for another\n",
     );
 }
 
+pub fn small() {
+    report(run_small(2000));
+}
+
 pub fn large() {
-    tally::report(
-        run_large(80),
-        b"instances of 32\nplans made elsewhere\nown plans\nanswer 0:\nanswer 14:\nanswer 21:\nanswer 22:\nanswer 23:\nanswer 24:\nanswer 25:\nother answers\n",
-    );
+    report(run_large(80));
 }

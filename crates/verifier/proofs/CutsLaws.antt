@@ -87,22 +87,22 @@ module _ (t h : ℕ) where
   more c cs = refl
 
   module _ (ws : List ℕ) (count w : ℕ) where
-    abbrev pub Charging : (k rest : ℕ) → Type 0
-    Charging k rest = (k ≤ count) × (leb (charged (cuts-in count ws) t h) w ≡ leb (charged (cuts-from (count - k) k ws) t h) rest)
+    abbrev pub Covering : (k rest : ℕ) → Type 0
+    Covering k rest = (k ≤ count) × (leb (charged (cuts-in count ws) t h) w ≡ leb (charged (cuts-from (count - k) k ws) t h) rest)
 
-    pub charging-all : Charging 0 w
-    charging-all = counting-all sum share leb more within-rest past-rest ws count w
+    pub covering-all : Covering 0 w
+    covering-all = counting-all sum share leb more within-rest past-rest ws count w
 
-    module _ (k rest : ℕ) (l : k < count) (p : Charging k rest) where
-      pub charging-less : share (cut-at ws k) ≤ rest → Charging (k + 1) (rest - share (cut-at ws k))
-      charging-less = counting-less sum share leb more within-rest past-rest ws count w k rest l p
+    module _ (k rest : ℕ) (l : k < count) (p : Covering k rest) where
+      pub covering-less : share (cut-at ws k) ≤ rest → Covering (k + 1) (rest - share (cut-at ws k))
+      covering-less = counting-less sum share leb more within-rest past-rest ws count w k rest l p
 
-      pub charging-past : rest < share (cut-at ws k) → leb (charged (cuts-in count ws) t h) w ≡ false
-      charging-past = counting-past sum share leb more within-rest past-rest ws count w k rest l p
+      pub covering-past : rest < share (cut-at ws k) → leb (charged (cuts-in count ws) t h) w ≡ false
+      covering-past = counting-past sum share leb more within-rest past-rest ws count w k rest l p
 
-    pub charging-none : (k rest : ℕ) → count ≤ k → Charging k rest → leb (charged (cuts-in count ws) t h) w ≡ true
+    pub covering-none : (k rest : ℕ) → count ≤ k → Covering k rest → leb (charged (cuts-in count ws) t h) w ≡ true
     unfolding charged
-    charging-none k rest g p = counting-none sum share leb more within-rest past-rest ws count w k rest g p ∙ le-leb 0 rest (omega arith)
+    covering-none k rest g p = counting-none sum share leb more within-rest past-rest ws count w k rest g p ∙ le-leb 0 rest (omega arith)
 
 -- WHAT THEY ADD TO, held against the total
 values-more : (c : Cut) (cs : List Cut) → values (c ∷ cs) ≡ c .value + values cs

@@ -47,6 +47,7 @@ fn is_parent_ok(m: &[u32; CELLS], parents: &[u8], n: u32, root: u32, vertex: u32
     reaches_root(parents, n, root, vertex)
 }
 
+// Whether every vertex has a parent that an arborescence can have there.
 pub fn is_arborescence(m: &[u32; CELLS], parents: &[u8], n: u32, root: u32) -> bool
     requires { ⌜ (length (now m) ≡ cells) × (n ≤ max-vertices) × (root < n) × (n ≤ length (now parents)) ⌝ }
     ensures { λ r. ⌜ r ≡ arborescence (unmarked n root (now (m .entry))) (take n (now (parents .entry))) ⌝ }

@@ -1,8 +1,8 @@
--- `reference::certificate::are_cuts` is safe and ends.
+-- `reference::certificate::sets_right` is safe and ends.
 use Prim.Native.Nat.{_-_}
 use borrow.Author.Needs.{needs}
-use Rattle.reference.proofs.certificate.are_cuts.Statement.{statement}
-use Rattle.reference.proofs.certificate.are_cuts.Tie as tie
+use Rattle.reference.proofs.certificate.sets_right.Statement.{statement}
+use Rattle.reference.proofs.certificate.sets_right.Tie as tie
 
 abbrev Inv-loop : tie.InvT-loop
 Inv-loop words n root count k₀ k = Unit
@@ -10,8 +10,8 @@ Inv-loop words n root count k₀ k = Unit
 abbrev μ-loop : tie.MeasureT-loop
 μ-loop words n root count k₀ k = count - k
 
-pub are-cuts-spec : {M : Type 1} → statement M
-are-cuts-spec =
+pub sets-right-spec : {M : Type 1} → statement M
+sets-right-spec =
     tie.close
     (tie.spec
     Inv-loop
