@@ -12,3 +12,4 @@ pub mod StoreLaws
 pub mod OverwriteLaws
 pub mod CondLaws
 pub mod GridLaws
+pub mod DigitLaws

@@ -18,15 +18,9 @@ use Rattle.commands.proofs.AnsweredLaws.{answered-applied, answered-valid, acce
 use Rattle.board.specs.declared.Board.{Board}
 use Rattle.board.specs.declared.Answered.{Answered}
 use Rattle.board.specs.declared.Replaced as declared-replaced
-use Rattle.board.specs.declared.Replaced.the-variants.{OldMark, OldBudget}
 use Rattle.board.specs.ModelOf.{replaced-of, model-of, instance-of, history-of, result-of}
 use Rattle.board.specs.Calls.{record-of, records-after, Answers, Records}
 use Rattle.board.proofs.ModelOfLaws.{length-history}
-
--- a record that the program makes
-pub record-of-replaced : (o : declared-replaced.Replaced) → record-of (replaced-of o) ≡ record { replaced = o }
-record-of-replaced (OldMark t h m) = refl
-record-of-replaced (OldBudget v) = refl
 
 -- THE RECORD PLACES that are left: one more record sets the place at the count, any other history sets none
 pub records-added :
@@ -50,17 +44,18 @@ answers-refused k d b e =
       unchanged = λ _. refl;
     })
 
-module _ (o : Replaced) (b g : Board) (k : Records b o g) where
+-- the record is the one that stands for what it means: a program could leave anything at a head that is not in the set
+module _ (o : declared-replaced.Replaced) (b g : Board) (k : Records b o g) (made : record-of (replaced-of o) ≡ record { replaced = o }) where
   pub answers-accepted :
-      (s : Instance) (d : Result) (r : Board) → d ≡ accepted o s (model-of b) → instance-of r ≡ s → r .records ≡ g .records → r .count ≡ g .count →
+      (s : Instance) (d : Result) (r : Board) → d ≡ accepted (replaced-of o) s (model-of b) → instance-of r ≡ s → r .records ≡ g .records → r .count ≡ g .count →
       Answers d b (record { answer = 0; board = r })
   unfolding accepted
   answers-accepted s d r e i rs c =
-      let h : history-of (r .count) (r .records) ≡ o ∷ history-of (b .count) (b .records) = rw (rs, c) (k .history) in
+      let h : history-of (r .count) (r .records) ≡ replaced-of o ∷ history-of (b .count) (b .records) = rw (rs, c) (k .history) in
       rw e
       (record {
         result = λ j. record { answer = 0; board = record { instance = i j; history = h j } };
-        records = rs ∙ k .records ∙ sym (records-added b o);
+        records = rs ∙ k .records ∙ ap (set (b .records) (b .count)) (sym made) ∙ sym (records-added b (replaced-of o));
         unchanged = λ z. absurd (z refl);
       })
 

@@ -7,7 +7,7 @@ use Prim.Native.Nat.{ℕ}
 use Rattle.instance.specs.declared.Vertex.{Vertex}
 use Rattle.instance.specs.declared.Mark.the-variants.{Free, Pinned, Banned}
 use Rattle.commands.specs.Valid.{valid}
-use Rattle.commands.specs.Commands.{Command, set-mark, set-budget, undo, Result, applied, answered}
+use Rattle.commands.specs.Commands.{Command, set-mark, set-marks, set-budget, undo, Result, applied, answered}
 use Rattle.commands.specs.Log.{Log, note}
 use Rattle.commands.proofs.AnsweredLaws.{answered-applied}
 use Rattle.commands.proofs.LogLaws.{Tied, step-tied}
@@ -20,6 +20,9 @@ use Rattle.board.proofs.CallLaws.{call-valid}
 use Rattle.board.proofs.calls.pin.Reads as pin-reads
 use Rattle.board.proofs.calls.ban.Reads as ban-reads
 use Rattle.board.proofs.calls.clear.Reads as clear-reads
+use Rattle.board.proofs.calls.pin_group.Reads as pin-group-reads
+use Rattle.board.proofs.calls.ban_group.Reads as ban-group-reads
+use Rattle.board.proofs.calls.clear_group.Reads as clear-group-reads
 use Rattle.board.proofs.calls.set_budget.Reads as set-budget-reads
 use Rattle.board.proofs.calls.take_back.Reads as take-back-reads
 use Rattle.board.proofs.calls.execute.Reads as execute-reads
@@ -29,6 +32,12 @@ pub data Called : Command → Board → Answered → Type 0 where
   by-pin : {b : Board} {t h : Vertex} {r : Answered} → pin-reads.Learnt tt (b, (t, (h, tt))) r (b, (t, (h, tt))) → Called (set-mark Pinned (t .0) (h .0)) b r
   by-ban : {b : Board} {t h : Vertex} {r : Answered} → ban-reads.Learnt tt (b, (t, (h, tt))) r (b, (t, (h, tt))) → Called (set-mark Banned (t .0) (h .0)) b r
   by-clear : {b : Board} {t h : Vertex} {r : Answered} → clear-reads.Learnt tt (b, (t, (h, tt))) r (b, (t, (h, tt))) → Called (set-mark Free (t .0) (h .0)) b r
+  by-pin-group :
+      {b : Board} {t : Vertex} {c : ℕ} {r : Answered} → pin-group-reads.Learnt tt (b, (t, (c, tt))) r (b, (t, (c, tt))) → Called (set-marks Pinned (t .0) c) b r
+  by-ban-group :
+      {b : Board} {t : Vertex} {c : ℕ} {r : Answered} → ban-group-reads.Learnt tt (b, (t, (c, tt))) r (b, (t, (c, tt))) → Called (set-marks Banned (t .0) c) b r
+  by-clear-group :
+      {b : Board} {t : Vertex} {c : ℕ} {r : Answered} → clear-group-reads.Learnt tt (b, (t, (c, tt))) r (b, (t, (c, tt))) → Called (set-marks Free (t .0) c) b r
   by-set-budget : {b : Board} {v : ℕ} {r : Answered} → set-budget-reads.Learnt tt (b, (v, tt)) r (b, (v, tt)) → Called (set-budget v) b r
   by-take-back : {b : Board} {r : Answered} → take-back-reads.Learnt tt (b, tt) r (b, tt) → Called undo b r
   by-execute :
@@ -38,6 +47,9 @@ pub called-answers : {c : Command} {b : Board} {r : Answered} → Called c b r �
 called-answers (by-pin l) = l
 called-answers (by-ban l) = l
 called-answers (by-clear l) = l
+called-answers (by-pin-group l) = l
+called-answers (by-ban-group l) = l
+called-answers (by-clear-group l) = l
 called-answers (by-set-budget l) = l
 called-answers (by-take-back l) = l
 called-answers (by-execute c l) = l

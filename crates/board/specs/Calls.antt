@@ -4,18 +4,22 @@ use mathlib.Core.Path.{_≡_}
 use mathlib.Core.Bool.{cond}
 use mathlib.Core.List.{List, [], _∷_}
 use lib.Dec.{eqb}
-use lib.ListN.{length, set}
-use Rattle.commands.specs.Model.{Replaced, old-mark, old-budget, restored}
+use lib.ListN.{length, getD, set}
+use Rattle.base.specs.Digits.{from-digits}
+use Rattle.instance.specs.Limits.{max-vertices, free}
+use Rattle.commands.specs.Model.{Replaced, old-mark, old-marks, old-budget, restored}
 use Rattle.commands.specs.Commands.{Result}
 use Rattle.board.specs.declared.Board.{Board}
 use Rattle.board.specs.declared.Answered.{Answered}
 use Rattle.board.specs.declared.UndoRecord.{UndoRecord}
-use Rattle.board.specs.declared.Replaced.the-variants.{OldMark, OldBudget}
-use Rattle.board.specs.ModelOf.{instance-of, history-of, result-of}
+use Rattle.board.specs.declared.Replaced as declared-replaced
+use Rattle.board.specs.declared.Replaced.the-variants.{OldMark, OldBudget, OldMarks}
+use Rattle.board.specs.ModelOf.{instance-of, replaced-of, history-of, result-of}
 
 -- the record of what was replaced, as the program stores it
 abbrev pub record-of : Replaced → UndoRecord
 record-of (old-mark t h m) = record { replaced = OldMark t h m }
+record-of (old-marks t c ms) = record { replaced = OldMarks t c (from-digits 4 max-vertices (λ h. getD ms h free)) }
 record-of (old-budget v) = record { replaced = OldBudget v }
 
 -- The record places that are left beside a history: "Each accepted press is recorded", which sets the place at the
@@ -32,10 +36,10 @@ pub record Answers (d : Result) (b : Board) (r : Answered) : Type 0 where
   pub unchanged : (r .answer ≡ 0 → ⊥) → r .board ≡ b
 
 -- one record more, and nothing else
-pub record Records (b : Board) (o : Replaced) (r : Board) : Type 0 where
+pub record Records (b : Board) (o : declared-replaced.Replaced) (r : Board) : Type 0 where
   pub instance : instance-of r ≡ instance-of b
-  pub records : r .records ≡ set (b .records) (b .count) (record-of o)
-  pub history : history-of (r .count) (r .records) ≡ o ∷ history-of (b .count) (b .records)
+  pub records : r .records ≡ set (b .records) (b .count) (record { replaced = o })
+  pub history : history-of (r .count) (r .records) ≡ replaced-of o ∷ history-of (b .count) (b .records)
 
 -- what putting back leaves: the record itself is still counted
 pub record Restores (b : Board) (o : Replaced) (r : Board) : Type 0 where

@@ -1,6 +1,6 @@
-// The board: an instance with the history of what was replaced on it, handed in and back by value. Commands set a mark
-// or the budget and record what they replaced, undo restores it; a board that is invalid is refused before anything
-// else is judged. Everything is held against the model of the crate `commands`, by the definitions of
+// The board: an instance with the history of what was replaced on it, handed in and back by value. Commands set one
+// mark, several or the budget and record what they replaced, undo restores it; a board that is invalid is refused
+// before anything else is judged. Everything is held against the model of the crate `commands`, by the definitions of
 // specs/ModelOf.antt and specs/Calls.antt.
 pub mod valid; // valid.rt: whether a board is valid
 pub mod calls; // calls.rt: the commands and undo
@@ -11,11 +11,13 @@ use instance::Vertex;
 use instance::limits::CELLS;
 use instance::limits::MAX_RECORDS;
 
-// What a command replaced: tail, head and mark of an arc, or the budget. Small, since a board holds 200 of them: tail
-// and head are below 32 where it is written. What a record means has one name in the specs, `replaced-of`.
+// What a command replaced: tail, head and mark of an arc; or the budget; or tail, heads and marks of several arcs, the
+// heads as a set and their marks two bits a head, head h at bits 2h and 2h + 1. Small, since a board holds 200 of them:
+// tail and head are below 32 where it is written. What a record means has one name in the specs, `replaced-of`.
 pub enum Replaced {
     OldMark(u8, u8, u8),
     OldBudget(u32),
+    OldMarks(u8, u32, u64),
 }
 
 pub struct UndoRecord {
@@ -43,6 +45,7 @@ pub struct Answered {
 // A command as a value, for lists of commands.
 pub enum Command {
     SetMark(Mark, Vertex, Vertex),
+    SetMarks(Mark, Vertex, u32),
     SetBudget(u32),
     TakeBack,
 }

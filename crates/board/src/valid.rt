@@ -1,5 +1,6 @@
 // Whether a board is valid: every field in its range, no mark where there is no arc, at most 200 records, and each of
-// them naming an arc and restoring a mark or a budget in range (document 01, refusal 15).
+// them restoring a budget in range, or marks in range on one arc or more and on nothing else (document 01, refusal 15;
+// 02, A5).
 ghost use mathlib.Core.Path.{_≡_};
 ghost use Prim.Native.Nat.{_≤_};
 ghost use lib.ListN.{length};
@@ -13,6 +14,7 @@ use crate::Replaced;
 use checks::arc::is_arc;
 use checks::valid::cells_valid;
 use checks::valid::header_valid;
+use heads::arcs::are_heads_ok;
 use instance::limits::BANNED;
 use instance::limits::CELLS;
 use instance::limits::MAX_BUDGET;
@@ -31,6 +33,9 @@ fn record_ok(weights: &[u32; CELLS], n: u32, root: u32, replaced: Replaced) -> b
             }
         }
         Replaced::OldBudget(budget) => budget <= MAX_BUDGET,
+        Replaced::OldMarks(tail, heads, old) => {
+            are_heads_ok(weights, n, root, tail as u32, heads, old)
+        }
     }
 }
 

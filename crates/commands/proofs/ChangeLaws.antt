@@ -6,7 +6,7 @@ use mathlib.Core.List.{List, [], _∷_}
 use Prim.Native.Nat.{ℕ, _/_, _%_, _≤_, _<_}
 use native.Mathlib.Omega.{arith}
 use lib.Dec.{leb, eqb}
-use lib.ListN.{length-set}
+use lib.ListN.{getD, length-set}
 use lib.Seq.{getD-set-other}
 use borrow.Author.Tests.{eq-eqb}
 use Rattle.base.specs.Lists.{all-of}
@@ -15,13 +15,16 @@ use Rattle.instance.specs.Limits.{max-vertices, free, banned}
 use Rattle.instance.specs.Refusals.{invalid-board}
 use Rattle.instance.specs.Marks.{mark-number}
 use Rattle.instance.specs.Instance.{Instance, with-budget, cell, is-arc}
+use Rattle.instance.specs.Cuts.{inside}
 use Rattle.instance.specs.declared.Mark.{Mark}
 use Rattle.instance.proofs.ArcLaws.{arc-ends}
-use Rattle.commands.specs.Model.{Replaced, old-mark, old-budget, Model, with-mark, restored}
+use Rattle.commands.specs.Heads.{names-arc, is-named, with-marks}
+use Rattle.commands.specs.Model.{Replaced, old-mark, old-marks, old-budget, Model, with-mark, restored}
 use Rattle.commands.specs.Valid.{record-ok, valid}
-use Rattle.commands.specs.Commands.{Command, set-mark, set-budget, undo, refused, accepted, marked, budgeted, undone, applied, answered}
+use Rattle.commands.specs.Commands.{Command, set-mark, set-marks, set-budget, undo, refused, accepted, marked, several-marked, budgeted, undone, applied, answered}
 use Rattle.commands.specs.Changes.{is-cell, restores-cell, restores-budget, names-cell, names-budget, Differs-only, Changes-only-named}
-use Rattle.commands.proofs.CommandLaws.{mark-cases, budget-cases}
+use Rattle.commands.proofs.HeadsLaws.{put-length, put-elsewhere}
+use Rattle.commands.proofs.CommandLaws.{mark-cases, marks-cases, budget-cases}
 use Rattle.commands.proofs.ValidLaws.{Valid, valid-parts}
 
 same-differs : (q : ℕ → Bool) (w : Bool) (s : Instance) → Differs-only q w s s
@@ -47,6 +50,18 @@ mark-differs s m t h l =
       budget = λ _. refl;
     }
 
+marks-differs : (s : Instance) (t : ℕ) (q : ℕ → Bool) (g : ℕ → ℕ) → Differs-only (is-named t q) false s (with-marks t q g s)
+unfolding with-marks
+marks-differs s t q g =
+    record {
+      n = refl;
+      root = refl;
+      weights = refl;
+      marks-length = put-length t q g (s .marks);
+      marks = λ i e. put-elsewhere t q g (s .marks) i e;
+      budget = λ _. refl;
+    }
+
 budget-differs : (s : Instance) (v : ℕ) → Differs-only (λ i. false) true s (with-budget v s)
 budget-differs s v =
     record { n = refl; root = refl; weights = refl; marks-length = refl; marks = λ i _. refl; budget = λ e. absurd (true≢false e) }
@@ -65,6 +80,13 @@ module _ (b : Model) (small : b .instance .n ≤ max-vertices) where
       mark-cases (λ d. Differs-only (is-cell t h) false (b .instance) (d .board .instance)) b (λ k. refused-differs (is-cell t h) false b _) m t h
       (λ a _. mark-differs (b .instance) (mark-number m) t h (head-below (b .instance) t h small a))
 
+  several-marked-differs : (m : Mark) (t c : ℕ) → Differs-only (is-named t (names-arc (b .instance) t c)) false (b .instance) (several-marked m t c b .board .instance)
+  unfolding accepted
+  several-marked-differs m t c =
+      let q = names-arc (b .instance) t c in
+      marks-cases (λ d. Differs-only (is-named t q) false (b .instance) (d .board .instance)) b (λ k. refused-differs (is-named t q) false b _) m t c
+      (λ _ _. marks-differs (b .instance) t q (λ h. mark-number m))
+
   budgeted-differs : (v : ℕ) → Differs-only (λ i. false) true (b .instance) (budgeted v b .board .instance)
   unfolding accepted
   budgeted-differs v =
@@ -73,18 +95,20 @@ module _ (b : Model) (small : b .instance .n ≤ max-vertices) where
 
   undone-differs :
       (rs : List Replaced) → all-of (record-ok (b .instance)) rs ≡ true →
-      Differs-only (names-cell undo rs) (names-budget undo rs) (b .instance) (undone rs b .board .instance)
+      Differs-only (names-cell undo (b .instance) rs) (names-budget undo rs) (b .instance) (undone rs b .board .instance)
   unfolding undone refused restored names-cell names-budget restores-cell restores-budget all-of record-ok
   undone-differs [] e = same-differs (λ i. false) false (b .instance)
   undone-differs (old-mark t h m ∷ rs) e =
       let s = b .instance in
       let a = and-left (is-arc s t h) (leb m banned) (and-left (record-ok s (old-mark t h m)) (all-of (record-ok s) rs) e) in
       mark-differs s m t h (head-below s t h small a)
+  undone-differs (old-marks t c ms ∷ rs) e = marks-differs (b .instance) t (inside c) (λ h. getD ms h free)
   undone-differs (old-budget v ∷ rs) e = budget-differs (b .instance) v
 
 applied-changes : (c : Command) (b : Model) → Valid b → Changes-only-named c b (applied c b .board)
 unfolding applied names-cell names-budget
 applied-changes (set-mark m t h) b v = marked-differs b (v .n-high) m t h
+applied-changes (set-marks m t c) b v = several-marked-differs b (v .n-high) m t c
 applied-changes (set-budget w) b v = budgeted-differs b (v .n-high) w
 applied-changes undo b v = undone-differs b (v .n-high) (b .history) (v .records-ok)
 
@@ -95,4 +119,4 @@ answered-changes c b = at (valid b) refl
   where
     at : (v : Bool) → valid b ≡ v → Changes-only-named c b (cond v (applied c b) (refused invalid-board b) .board)
     at true e = applied-changes c b (valid-parts b e)
-    at false e = refused-differs (names-cell c (b .history)) (names-budget c (b .history)) b invalid-board
+    at false e = refused-differs (names-cell c (b .instance) (b .history)) (names-budget c (b .history)) b invalid-board

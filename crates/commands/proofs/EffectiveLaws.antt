@@ -11,18 +11,21 @@ use lib.ListN.{length, getD, set, length-set}
 use lib.Seq.{getD-set-same, getD-set-other}
 use borrow.Author.Tests.{eq-eqb, eqb-true, not-false}
 use Rattle.base.specs.Lists.{tabulate, all-of}
-use Rattle.base.proofs.BoolLaws.{and-not, not-both}
+use Rattle.base.proofs.BoolLaws.{and-right, and-not, not-both}
 use Rattle.base.proofs.AllOfLaws.{all-of-first, all-of-rest, all-of-more}
 use Rattle.base.proofs.ListLaws.{length-tabulate, getD-tabulate, tabulate-is}
 use Rattle.instance.specs.Limits.{max-vertices, max-budget, free, max-records, cells}
 use Rattle.instance.specs.Refusals.{bad-budget, history-full}
 use Rattle.instance.specs.Marks.{mark-number}
-use Rattle.instance.specs.Instance.{Instance, with-budget, cell, mark-at, mark, is-arc}
+use Rattle.instance.specs.Instance.{Instance, with-budget, cell, mark-at, weight, mark, is-arc}
+use Rattle.instance.specs.Cuts.{inside}
 use Rattle.instance.specs.declared.Mark.{Mark}
+use Rattle.commands.specs.Heads.{heads-below, names-arc, names-any, is-named, put-marks, with-marks}
 use Rattle.commands.specs.Model.{with-mark}
-use Rattle.commands.specs.Commands.{Command, set-mark, set-budget, undo}
-use Rattle.commands.specs.Log.{Entry, entry-mark, entry-budget, Log, Noted, new-log, with-entries, unnoted, noted, note-arcs, note-mark, note-budget, note-undo, note, log-length, log-after}
+use Rattle.commands.specs.Commands.{Command, set-mark, set-marks, set-budget, undo}
+use Rattle.commands.specs.Log.{Entry, entry-mark, entry-marks, entry-budget, Log, Noted, new-log, with-entries, unnoted, noted, note-arcs, note-mark, note-marks, note-budget, note-undo, note, log-length, log-after}
 use Rattle.commands.specs.Effective.{effective-mark, effective-budget, effective}
+use Rattle.commands.proofs.HeadsLaws.{put-length, put-at}
 
 -- what is effective with these entries on a card
 abbrev pub over : List Entry → Instance → Instance
@@ -66,6 +69,20 @@ over-mark s es m t h lt lh =
     (λ i b. mark-over s es (mark-number m) t h lt lh i b (ℕ-discrete i (cell t h))) in
     λ j. record { n = s .n; root = s .root; budget = effective-budget es s; weights = s .weights; marks = e j }
 
+-- several arcs of one tail
+pub over-marks :
+    (s : Instance) (es : List Entry) (m : Mark) (t c : ℕ) → with-marks t (names-arc (over es s) t c) (λ h. mark-number m) (over es s) ≡ over (entry-marks m t c ∷ es) s
+unfolding effective effective-budget effective-mark with-marks names-arc is-arc weight is-named
+over-marks s es m t c =
+    let g : (i : ℕ) → ℕ = λ i. effective-mark es s (i / 32) (i % 32) in
+    let q = names-arc (over es s) t c in
+    let l = put-marks t q (λ h. mark-number m) (tabulate cells g) in
+    let long = length-tabulate cells g in
+    let e : l ≡ tabulate cells (λ i. cond (eqb (i / 32) t && names-arc s t c (i % 32)) (mark-number m) (g i)) =
+    tabulate-is cells l _ free (put-length t q (λ h. mark-number m) (tabulate cells g) ∙ long)
+    (λ i b. put-at t q (λ h. mark-number m) (tabulate cells g) i (omega (arith, long)) ∙ rw (getD-tabulate cells g i free b)) in
+    λ j. record { n = s .n; root = s .root; budget = effective-budget es s; weights = s .weights; marks = e j }
+
 pub over-budget : (s : Instance) (es : List Entry) (v : ℕ) → with-budget v (over es s) ≡ over (entry-budget v ∷ es) s
 unfolding effective effective-budget effective-mark
 over-budget s es v = refl
@@ -74,9 +91,11 @@ pub budget-back : (s : Instance) (es : List Entry) (v : ℕ) → with-budget (ov
 unfolding effective effective-budget effective-mark
 budget-back s es v = refl
 
--- A CELL THAT IS NO ARC: every entry of a log that began empty names an arc of its card
+-- A CELL THAT IS NO ARC: every entry of a log that began empty names arcs of its card; for a set of heads that needs no
+-- test, as `effective-mark` asks the card itself
 abbrev pub on-arc : Instance → Entry → Bool
 on-arc s (entry-mark m t h) = is-arc s t h
+on-arc s (entry-marks m t c) = true
 on-arc s (entry-budget v) = true
 
 -- a log of a card, all of whose entries name arcs
@@ -116,10 +135,13 @@ module _ (s : Instance) where
   undo-on-arcs (e ∷ es) k q n = record { card = n .card; entries = all-of-rest (on-arc s) e es (rw q at (n .entries)) }
 
   pub note-on-arcs : (c : Command) (k : Log) → On-arcs s k → On-arcs s (note c k .log)
-  unfolding note note-mark note-budget
+  unfolding note note-mark note-marks note-budget
   note-on-arcs (set-mark m t h) k n =
       arcs-on-arcs (not (ltb t (k .card .n) && ltb h (k .card .n))) (not (is-arc (k .card) t h)) (leb max-records (log-length k)) (entry-mark m t h) k n
       (λ y. rw (n .card) at (not-false (is-arc (k .card) t h) y))
+  note-on-arcs (set-marks m t c) k n =
+      arcs-on-arcs (not (ltb t (k .card .n) && heads-below (k .card .n) c)) (not (names-any (k .card) t c)) (leb max-records (log-length k)) (entry-marks m t c) k n
+      (λ _. refl)
   note-on-arcs (set-budget v) k n =
       budget-on-arcs (ltb max-budget v) (leb max-records (log-length k)) _ k n (noted-on-arcs (entry-budget v) k refl n)
   note-on-arcs undo k n = undo-on-arcs (k .entries) k refl n
@@ -130,13 +152,18 @@ module _ (s : Instance) where
   log-on-arcs (c ∷ cs) k n = log-on-arcs cs (note c k .log) (note-on-arcs c k n)
 
   mark-elsewhere : (es : List Entry) (t h : ℕ) → all-of (on-arc s) es ≡ true → is-arc s t h ≡ false → effective-mark es s t h ≡ mark s t h
-  unfolding effective-mark
+  unfolding effective-mark names-arc
   mark-elsewhere [] t h a e = refl
   mark-elsewhere (entry-mark m u v ∷ es) t h a e =
       let other : eqb t u && eqb h v ≡ false =
       and-not (eqb t u) (eqb h v)
       (λ p q. not-both (is-arc s t h) (rw (eqb-true t u p, eqb-true h v q) (all-of-first (on-arc s) (entry-mark m u v) es a)) e) in
       rw other (mark-elsewhere es t h (all-of-rest (on-arc s) (entry-mark m u v) es a) e)
+  mark-elsewhere (entry-marks m u c ∷ es) t h a e =
+      let other : eqb t u && names-arc s u c h ≡ false =
+      and-not (eqb t u) (names-arc s u c h)
+      (λ p q. not-both (is-arc s t h) (rw (eqb-true t u p) (and-right (inside c h) (is-arc s u h) q)) e) in
+      rw other (mark-elsewhere es t h (all-of-rest (on-arc s) (entry-marks m u c) es a) e)
   mark-elsewhere (entry-budget v ∷ es) t h a e = mark-elsewhere es t h (all-of-rest (on-arc s) (entry-budget v) es a) e
 
   -- by the index of the cell

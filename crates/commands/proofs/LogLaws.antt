@@ -21,15 +21,17 @@ use Rattle.instance.specs.Marks.{mark-number}
 use Rattle.instance.specs.Instance.{Instance, with-budget, weight, mark, is-arc}
 use Rattle.instance.specs.Valid.{valid-instance}
 use Rattle.instance.specs.declared.Mark.{Mark}
+use Rattle.commands.specs.Heads.{heads-below, names-arc, names-any}
 use Rattle.commands.specs.Model.{Replaced, old-mark, old-budget, Model, opened, with-mark, restored}
 use Rattle.commands.specs.Valid.{valid}
-use Rattle.commands.specs.Commands.{Command, set-mark, set-budget, undo, Result, refused, accepted, decided, arc-refusal, mark-refusal, marked, budget-refusal, budgeted, undone, applied, answered, command-numbers, answers, board-after}
-use Rattle.commands.specs.Log.{Entry, entry-mark, entry-budget, Log, Noted, new-log, with-entries, log-length, unnoted, noted, note-arcs, note-mark, note-budget, note-undo, note, log-answers, log-after}
+use Rattle.commands.specs.Commands.{Command, set-mark, set-marks, set-budget, undo, Result, refused, accepted, decided, arc-refusal, mark-refusal, marked, marks-refusal, several-marked, budget-refusal, budgeted, undone, applied, answered, command-numbers, answers, board-after}
+use Rattle.commands.specs.Log.{Entry, entry-mark, entry-marks, entry-budget, Log, Noted, new-log, with-entries, log-length, unnoted, noted, note-arcs, note-mark, note-marks, note-budget, note-undo, note, log-answers, log-after}
 use Rattle.commands.specs.Effective.{effective}
-use Rattle.commands.proofs.CommandLaws.{mark-back}
+use Rattle.commands.proofs.HeadsLaws.{marks-back}
+use Rattle.commands.proofs.CommandLaws.{mark-back, marks-result}
 use Rattle.commands.proofs.ValidLaws.{valid-parts, opened-valid}
 use Rattle.commands.proofs.AnsweredLaws.{answered-applied, applied-valid}
-use Rattle.commands.proofs.EffectiveLaws.{over, over-none, over-mark, over-budget, budget-back}
+use Rattle.commands.proofs.EffectiveLaws.{over, over-none, over-mark, over-marks, over-budget, budget-back}
 
 -- TIED
 -- each record takes its entry back
@@ -97,6 +99,21 @@ mark-accepted m t h k rs d lt lh =
       tied = record { same-instance = e; undoes = (rw (← e) (mark-back (effective k) (mark-number m) t h), d .undoes); small = d .small };
     }
 
+marks-accepted :
+    (m : Mark) (t c : ℕ) (k : Log) (rs : List Replaced) → Tied (on k rs) k → Step (marks-result m t c (on k rs)) (noted (entry-marks m t c ∷ k .entries) k)
+unfolding accepted noted with-entries restored
+marks-accepted m t c k rs d =
+    let e = over-marks (k .card) (k .entries) m t c in
+    record {
+      same-answer = refl;
+      tied =
+          record {
+            same-instance = e;
+            undoes = (rw (← e) (marks-back (effective k) t (names-arc (effective k) t c) (λ h. mark-number m)), d .undoes);
+            small = d .small;
+          };
+    }
+
 budget-accepted :
     (v : ℕ) (k : Log) (rs : List Replaced) → Tied (on k rs) k →
     Step (accepted (old-budget (effective k .budget)) (with-budget v (effective k)) (on k rs)) (noted (entry-budget v ∷ k .entries) k)
@@ -124,6 +141,15 @@ mark-step m t h k rs d =
     let i = not-false (L && R) e in
     mark-accepted m t h k rs d (omega (arith, ltb-true t (s .n) (and-left L R i), d .small)) (omega (arith, ltb-true h (s .n) (and-right L R i), d .small))))
 
+marks-step : (m : Mark) (t c : ℕ) (k : Log) (rs : List Replaced) → Tied (on k rs) k → Step (several-marked m t c (on k rs)) (note-marks m t c k)
+unfolding several-marked marks-refusal note-marks log-length names-any names-arc is-arc weight effective
+marks-step m t c k rs d =
+    let s = k .card in
+    rw (tied-length (on k rs) k d)
+    (arc-tests (not (ltb t (s .n) && heads-below (s .n) c)) (not (names-any s t c)) (leb max-records (length (k .entries))) (on k rs) k
+    (marks-result m t c (on k rs)) (entry-marks m t c) d
+    (λ _. marks-accepted m t c k rs d))
+
 budget-step : (v : ℕ) (k : Log) (rs : List Replaced) → Tied (on k rs) k → Step (budgeted v (on k rs)) (note-budget v k)
 unfolding budgeted budget-refusal note-budget log-length
 budget-step v k rs d =
@@ -145,6 +171,7 @@ undo-step s (e ∷ es) (r ∷ rs) d =
 on-step : (c : Command) (k : Log) (rs : List Replaced) → Tied (on k rs) k → Step (applied c (on k rs)) (note c k)
 unfolding applied note
 on-step (set-mark m t h) k rs d = mark-step m t h k rs d
+on-step (set-marks m t c) k rs d = marks-step m t c k rs d
 on-step (set-budget v) k rs d = budget-step v k rs d
 on-step undo k rs d = undo-step (k .card) (k .entries) rs d
 
@@ -175,12 +202,12 @@ pub lists-follow :
 lists-follow s cs l e = tied-lists cs (opened s) (new-log s) (opened-tied s l e)
 
 -- ANY VALID INSTANCE, with the test of validity before each command
-answers-agree : (cs : List Command) (b : Model) → valid b ≡ true → answers answered cs b ≡ answers applied cs b
+pub answers-agree : (cs : List Command) (b : Model) → valid b ≡ true → answers answered cs b ≡ answers applied cs b
 unfolding answers
 answers-agree [] b v = refl
 answers-agree (c ∷ cs) b v = rw (answered-applied c b v) (λ j. applied c b .answer ∷ answers-agree cs (applied c b .board) (applied-valid c b v) j)
 
-boards-agree : (cs : List Command) (b : Model) → valid b ≡ true → board-after answered cs b ≡ board-after applied cs b
+pub boards-agree : (cs : List Command) (b : Model) → valid b ≡ true → board-after answered cs b ≡ board-after applied cs b
 unfolding board-after
 boards-agree [] b v = refl
 boards-agree (c ∷ cs) b v = rw (answered-applied c b v) (boards-agree cs (applied c b .board) (applied-valid c b v))
@@ -216,8 +243,10 @@ note-undo-listed [] k = refl
 note-undo-listed (e ∷ es) k = refl
 
 pub note-listed : (c : Command) (k : Log) → any-of (eqb (note c k .answer)) (command-numbers c) ≡ true
-unfolding note note-mark note-budget
+unfolding note note-mark note-marks note-budget command-numbers
 note-listed (set-mark m t h) k =
     note-arcs-listed (not (ltb t (k .card .n) && ltb h (k .card .n))) (not (is-arc (k .card) t h)) (leb max-records (log-length k)) m t h (entry-mark m t h) k
+note-listed (set-marks m t c) k =
+    note-arcs-listed (not (ltb t (k .card .n) && heads-below (k .card .n) c)) (not (names-any (k .card) t c)) (leb max-records (log-length k)) m t c (entry-marks m t c) k
 note-listed (set-budget v) k = note-budget-listed (ltb max-budget v) (leb max-records (log-length k)) v k
 note-listed undo k = note-undo-listed (k .entries) k

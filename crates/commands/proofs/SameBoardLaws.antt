@@ -5,22 +5,26 @@ use mathlib.Core.Bool.{Bool, true, false, _&&_, cond}
 use mathlib.Core.List.{List, [], _∷_}
 use Prim.Native.Nat.{ℕ, zero, suc}
 use lib.Dec.{leb}
-use lib.ListN.{length, length-set}
-use Rattle.base.specs.Lists.{all-of}
+use lib.ListN.{length, getD, length-set}
+use Rattle.base.specs.Bounded.{all-below, any-below}
+use Rattle.base.specs.Lists.{tabulate, all-of}
 use Rattle.base.proofs.AllOfLaws.{all-of-eq}
 use Rattle.base.proofs.StoreLaws.{store-alike}
-use Rattle.instance.specs.Limits.{free, banned, max-records}
+use Rattle.instance.specs.Limits.{max-vertices, free, banned, max-records}
 use Rattle.instance.specs.Refusals.{history-empty, invalid-board}
 use Rattle.instance.specs.Marks.{mark-number}
-use Rattle.instance.specs.Instance.{Instance, with-budget, cell, weight, mark}
+use Rattle.instance.specs.Instance.{Instance, with-budget, cell, weight, mark, is-arc}
+use Rattle.instance.specs.Cuts.{inside}
 use Rattle.instance.specs.Valid.{valid-instance}
 use Rattle.instance.specs.Same.{Same-instance}
 use Rattle.instance.specs.declared.Mark.{Mark}
 use Rattle.instance.proofs.SameLaws.{same-is-arc, same-arc-mark, same-valid-instance}
-use Rattle.commands.specs.Model.{Replaced, old-mark, old-budget, Model, with-mark, restored}
-use Rattle.commands.specs.Valid.{record-ok, valid}
-use Rattle.commands.specs.Commands.{Command, set-mark, set-budget, undo, Result, refused, accepted, decided, mark-refusal, marked, budget-refusal, budgeted, undone, applied, answered, answers, board-after}
+use Rattle.commands.specs.Heads.{names-arc, names-any, heads-of, marks-of, with-marks}
+use Rattle.commands.specs.Model.{Replaced, old-mark, old-marks, old-budget, Model, with-mark, restored}
+use Rattle.commands.specs.Valid.{head-ok, record-ok, valid}
+use Rattle.commands.specs.Commands.{Command, set-mark, set-marks, set-budget, undo, Result, refused, accepted, decided, mark-refusal, marked, marks-refusal, several-marked, budget-refusal, budgeted, undone, applied, answered, answers, board-after}
 use Rattle.commands.specs.SameBoard.{Same-board, Same-result}
+use Rattle.commands.proofs.HeadsLaws.{put-length, put-alike}
 use Rattle.commands.proofs.CommandLaws.{unrefused}
 
 -- WHAT COMMANDS DO TO AN INSTANCE
@@ -36,14 +40,45 @@ module _ (a b : Instance) (e : Same-instance a b) where
         same-marks = λ u v c. store-alike free m (a .marks) (b .marks) (cell t h) (cell u v) n (e .same-marks u v c);
       }
 
+  with-marks-same :
+      length (a .marks) ≡ length (b .marks) → (t : ℕ) (q : ℕ → Bool) (g : ℕ → ℕ) → Same-instance (with-marks t q g a) (with-marks t q g b)
+  unfolding with-marks weight mark
+  with-marks-same n t q g =
+      record {
+        same-n = e .same-n;
+        same-root = e .same-root;
+        same-budget = e .same-budget;
+        same-weights = e .same-weights;
+        same-marks = λ u v c. put-alike t q g (a .marks) (b .marks) (cell u v) n (e .same-marks u v c);
+      }
+
+  same-names : (t c : ℕ) → names-arc a t c ≡ names-arc b t c
+  unfolding names-arc
+  same-names t c = λ j h. inside c h && same-is-arc a b e t h j
+
+  -- the marks of the arcs that are named
+  same-marks-of : (t c : ℕ) → marks-of a t (names-arc b t c) ≡ marks-of b t (names-arc b t c)
+  unfolding marks-of names-arc
+  same-marks-of t c = λ j. tabulate max-vertices (λ h. kept h j)
+    where
+      at : (x y : Bool) (h : ℕ) → (y ≡ true → mark a t h ≡ mark b t h) → cond (x && y) (mark a t h) free ≡ cond (x && y) (mark b t h) free
+      at true true h m = m refl
+      at true false h m = refl
+      at false y h m = refl
+
+      kept : (h : ℕ) → cond (inside c h && is-arc b t h) (mark a t h) free ≡ cond (inside c h && is-arc b t h) (mark b t h) free
+      kept h = at (inside c h) (is-arc b t h) h (same-arc-mark a b e t h)
+
   with-budget-same : (v : ℕ) → Same-instance (with-budget v a) (with-budget v b)
   unfolding weight mark
   with-budget-same v =
       record { same-n = e .same-n; same-root = e .same-root; same-budget = refl; same-weights = e .same-weights; same-marks = e .same-marks }
 
   record-ok-same : (r : Replaced) → record-ok a r ≡ record-ok b r
-  unfolding record-ok
+  unfolding record-ok head-ok
   record-ok-same (old-mark t h m) = ap (λ (c : Bool). c && leb m banned) (same-is-arc a b e t h)
+  record-ok-same (old-marks t c ms) =
+      λ j. any-below max-vertices (inside c) && all-below max-vertices (λ h. cond (inside c h) (same-is-arc a b e t h j && leb (getD ms h free) banned) true)
   record-ok-same (old-budget v) = refl
 
 -- THE SAME TESTS REFUSE BOTH, OR NEITHER
@@ -99,6 +134,10 @@ module _ (a b : Model) (s : Same-board a b) where
   unfolding with-mark
   mark-sizes m t h = length-set (sa .marks) (cell t h) m ∙ s .same-sizes ∙ sym (length-set (sb .marks) (cell t h) m)
 
+  marks-sizes : (t : ℕ) (q : ℕ → Bool) (g : ℕ → ℕ) → length (with-marks t q g sa .marks) ≡ length (with-marks t q g sb .marks)
+  unfolding with-marks
+  marks-sizes t q g = put-length t q g (sa .marks) ∙ s .same-sizes ∙ sym (put-length t q g (sb .marks))
+
   budget-sizes : (v : ℕ) → length (with-budget v sa .marks) ≡ length (with-budget v sb .marks)
   budget-sizes v = s .same-sizes
 
@@ -114,6 +153,21 @@ module _ (a b : Model) (s : Same-board a b) where
       accepted-same a b s (old-mark t h (mark sa t h)) (old-mark t h (mark sb t h)) (with-mark (mark-number m) t h sa) (with-mark (mark-number m) t h sb)
       (ap (old-mark t h) (same-arc-mark sa sb same t h (unrefused sb (length (b .history)) t h e .arc)))
       (with-mark-same sa sb same (s .same-sizes) (mark-number m) t h) (mark-sizes (mark-number m) t h))
+
+  marks-refusal-same : (t c : ℕ) → marks-refusal sa (length (a .history)) t c ≡ marks-refusal sb (length (b .history)) t c
+  unfolding marks-refusal names-any
+  marks-refusal-same t c = rw (same-names sa sb same t c, same .same-n, s .same-history)
+
+  several-marked-same : (m : Mark) (t c : ℕ) → Same-result (several-marked m t c a) (several-marked m t c b)
+  unfolding several-marked
+  several-marked-same m t c =
+      let q = names-arc sb t c in
+      decided-same a b s (marks-refusal sa (length (a .history)) t c) (marks-refusal sb (length (b .history)) t c) _ _ (marks-refusal-same t c)
+      (λ _.
+      rw (same-names sa sb same t c)
+      (accepted-same a b s (old-marks t (heads-of q) (marks-of sa t q)) (old-marks t (heads-of q) (marks-of sb t q))
+      (with-marks t q (λ h. mark-number m) sa) (with-marks t q (λ h. mark-number m) sb) (ap (old-marks t (heads-of q)) (same-marks-of sa sb same t c))
+      (with-marks-same sa sb same (s .same-sizes) t q (λ h. mark-number m)) (marks-sizes t q (λ h. mark-number m))))
 
   budgeted-same : (v : ℕ) → Same-result (budgeted v a) (budgeted v b)
   unfolding budgeted
@@ -132,6 +186,13 @@ module _ (a b : Model) (s : Same-board a b) where
         same-answer = refl;
         same-board = record { same-instances = with-mark-same sa sb same (s .same-sizes) m t h; same-sizes = mark-sizes m t h; same-history = refl };
       }
+  undone-same (old-marks t c ms ∷ rs) =
+      let g : ℕ → ℕ = λ h. getD ms h free in
+      record {
+        same-answer = refl;
+        same-board =
+            record { same-instances = with-marks-same sa sb same (s .same-sizes) t (inside c) g; same-sizes = marks-sizes t (inside c) g; same-history = refl };
+      }
   undone-same (old-budget v ∷ rs) =
       record {
         same-answer = refl;
@@ -141,6 +202,7 @@ module _ (a b : Model) (s : Same-board a b) where
   pub same-applied : (c : Command) → Same-result (applied c a) (applied c b)
   unfolding applied
   same-applied (set-mark m t h) = marked-same m t h
+  same-applied (set-marks m t c) = several-marked-same m t c
   same-applied (set-budget v) = budgeted-same v
   same-applied undo = subst (λ (rs : List Replaced). Same-result (undone (a .history) a) (undone rs b)) (s .same-history) (undone-same (a .history))
 

@@ -1,25 +1,27 @@
 -- What a valid board is, part by part and test by test; which fields of an instance the tests of records and cells look
 -- at. Assumes nothing.
-use mathlib.Core.Path.{_≡_, refl}
+use mathlib.Core.Path.{_≡_, refl, _∙_}
 use mathlib.Core.Bool.{Bool, true, false, _&&_}
 use mathlib.Core.List.{List}
 use Prim.Native.Nat.{ℕ, _≤_, _<_}
 use native.Mathlib.Omega.{arith}
 use lib.Dec.{ltb, leb}
-use lib.ListN.{length}
+use lib.ListN.{length, getD}
 use borrow.Author.Tests.{lt-ltb, lt-leb, le-leb, leb-true}
-use Rattle.base.specs.Bounded.{all-below}
+use Rattle.base.specs.Bounded.{all-below, any-below}
 use Rattle.base.specs.Lists.{all-of}
-use Rattle.base.proofs.BoolLaws.{and-left, and-right}
+use Rattle.base.proofs.BoolLaws.{and-left, and-right, and-both, cond-where, cond-true}
+use Rattle.base.proofs.BoundedLaws.{all-at, all-intro, any-found, any-intro}
 use Rattle.base.proofs.AllOfLaws.{all-of-eq}
-use Rattle.instance.specs.Limits.{max-vertices, max-budget, banned, max-records, cells}
+use Rattle.instance.specs.Limits.{max-vertices, max-budget, free, banned, max-records, cells}
 use Rattle.instance.specs.Instance.{Instance, with-budget, cell, weight, is-arc}
+use Rattle.instance.specs.Cuts.{inside}
 use Rattle.instance.specs.Matrix.{unmarked}
 use Rattle.instance.specs.Valid.{cell-valid, header-valid, valid-instance}
 use Rattle.instance.proofs.ArcLaws.{arc-ends}
 use Rattle.instance.proofs.ValidLaws.{valid-some, valid-small, valid-root, valid-budget, valid-cells}
-use Rattle.commands.specs.Model.{Replaced, old-mark, old-budget, Model, opened}
-use Rattle.commands.specs.Valid.{record-ok, valid}
+use Rattle.commands.specs.Model.{Replaced, old-mark, old-marks, old-budget, Model, opened}
+use Rattle.commands.specs.Valid.{head-ok, record-ok, valid}
 
 -- what a valid board is, part by part
 pub record Valid (b : Model) : Type 0 where
@@ -73,8 +75,9 @@ opened-valid s e = rw e
 -- WHAT THE TESTS LOOK AT
 -- arcs and records are judged by vertices, root and weights alone
 pub record-ok-of : (s : Instance) (r : Replaced) → record-ok (unmarked (s .n) (s .root) (s .weights)) r ≡ record-ok s r
-unfolding record-ok is-arc weight unmarked
+unfolding record-ok head-ok is-arc weight unmarked
 record-ok-of s (old-mark t h m) = refl
+record-ok-of s (old-marks t c ms) = refl
 record-ok-of s (old-budget v) = refl
 
 pub records-ok-of : (s : Instance) (rs : List Replaced) → all-of (record-ok (unmarked (s .n) (s .root) (s .weights))) rs ≡ all-of (record-ok s) rs
@@ -89,6 +92,41 @@ cells-valid-of s v = refl
 pub record-cell : (s : Instance) (t h m : ℕ) → s .n ≤ max-vertices → record-ok s (old-mark t h m) ≡ true → cell t h < cells
 unfolding record-ok
 record-cell s t h m l e = let k = arc-ends s t h (and-left (is-arc s t h) (leb m banned) e) in omega arith
+
+-- a record of several arcs: it names one at least, each that it names is an arc, and what it restores is in range
+module _ (s : Instance) (t c : ℕ) (ms : List ℕ) where
+  abbrev pub ok-at : ℕ → Bool
+  ok-at h = head-ok s t c (getD ms h free) h
+
+  pub record Names-arcs : Type 0 where
+    pub some : (h : ℕ) × (h < max-vertices) × (inside c h ≡ true)
+    pub arcs : (h : ℕ) → h < max-vertices → inside c h ≡ true → is-arc s t h ≡ true
+    pub low : (h : ℕ) → h < max-vertices → inside c h ≡ true → getD ms h free ≤ banned
+
+  pub record-arcs : record-ok s (old-marks t c ms) ≡ true → Names-arcs
+  unfolding record-ok head-ok
+  record-arcs e =
+      let all = and-right (any-below max-vertices (inside c)) (all-below max-vertices ok-at) e in
+      let here : (h : ℕ) → h < max-vertices → inside c h ≡ true → is-arc s t h && leb (getD ms h free) banned ≡ true =
+      λ h l i. rw i at (all-at max-vertices ok-at h l all) in
+      record {
+        some = any-found max-vertices (inside c) (and-left (any-below max-vertices (inside c)) (all-below max-vertices ok-at) e);
+        arcs = λ h l i. and-left (is-arc s t h) (leb (getD ms h free) banned) (here h l i);
+        low = λ h l i. leb-true (getD ms h free) banned (and-right (is-arc s t h) (leb (getD ms h free) banned) (here h l i));
+      }
+
+  pub arcs-record : Names-arcs → record-ok s (old-marks t c ms) ≡ true
+  unfolding record-ok head-ok
+  arcs-record a =
+      and-both (any-below max-vertices (inside c)) (all-below max-vertices ok-at)
+      (any-intro max-vertices (inside c) (a .some .0) (a .some .1) (a .some .2))
+      (all-intro max-vertices ok-at
+      (λ h l. cond-where (inside c h) (is-arc s t h && leb (getD ms h free) banned) true true
+      (λ i. and-both (is-arc s t h) (leb (getD ms h free) banned) (a .arcs h l i) (le-leb (getD ms h free) banned (a .low h l i))) ∙ cond-true (inside c h)))
+
+  -- the tail of such a record is a vertex
+  pub record-tail : Names-arcs → t < s .n
+  record-tail a = arc-ends s t (a .some .0) (a .arcs (a .some .0) (a .some .1) (a .some .2)) .tail-below
 
 -- THE TESTS ONE AFTER THE OTHER: header, cells, count, records
 pub header-n-high : (n r v : ℕ) → header-valid n r v ≡ true → n ≤ max-vertices

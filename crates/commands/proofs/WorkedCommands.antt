@@ -5,17 +5,20 @@ use mathlib.Core.Path.{_≡_, refl}
 use mathlib.Core.List.{List, [], _∷_, _++_, map}
 use Prim.Native.Nat.{ℕ, _*_, _/_, _%_}
 use lib.ListN.{replicate}
-use Rattle.base.specs.Bounded.{all-below}
+use Rattle.base.specs.Bounded.{all-below, any-below, sum-below}
 use Rattle.base.specs.Lists.{tabulate-from, tabulate, all-of}
+use Rattle.base.specs.Digits.{from-digits}
 use Rattle.instance.specs.Limits.{banned}
 use Rattle.instance.specs.Instance.{Instance, weight, mark, can-be-arc, is-arc}
+use Rattle.instance.specs.Cuts.{inside}
 use Rattle.instance.specs.declared.Mark.the-variants.{Free, Pinned, Banned}
 use Rattle.instance.specs.Valid.{cell-ok, cell-valid, header-valid, valid-instance}
 use Rattle.instance.proofs.WorkedCases.{arc, filled, instance-from, instance-q}
-use Rattle.commands.specs.Model.{Replaced, old-mark, old-budget, Model, opened, with-mark, restored}
-use Rattle.commands.specs.Valid.{record-ok, valid}
-use Rattle.commands.specs.Commands.{Command, set-mark, set-budget, undo, refused, accepted, decided, arc-refusal, mark-refusal, marked, budget-refusal, budgeted, undone, applied, answered, answers, board-after}
-use Rattle.commands.specs.Log.{new-log, with-entries, log-length, unnoted, noted, note-arcs, note-mark, note-budget, note-undo, note, log-answers, log-after}
+use Rattle.commands.specs.Heads.{heads-below, names-arc, names-any, heads-of, marks-of, is-named, put-marks, with-marks}
+use Rattle.commands.specs.Model.{Replaced, old-mark, old-marks, old-budget, Model, opened, with-mark, restored}
+use Rattle.commands.specs.Valid.{head-ok, record-ok, valid}
+use Rattle.commands.specs.Commands.{Command, set-mark, set-marks, set-budget, undo, refused, accepted, decided, arc-refusal, mark-refusal, marked, marks-refusal, several-marked, budget-refusal, budgeted, undone, applied, answered, answers, board-after}
+use Rattle.commands.specs.Log.{new-log, with-entries, log-length, unnoted, noted, note-arcs, note-mark, note-marks, note-budget, note-undo, note, log-answers, log-after}
 use Rattle.commands.specs.Effective.{effective-mark, effective-budget, effective}
 
 abbrev pin : (tail head : ℕ) → Command
@@ -26,6 +29,15 @@ ban t h = set-mark Banned t h
 
 abbrev clear : (tail head : ℕ) → Command
 clear t h = set-mark Free t h
+
+abbrev pin-group : (tail heads : ℕ) → Command
+pin-group t c = set-marks Pinned t c
+
+abbrev ban-group : (tail heads : ℕ) → Command
+ban-group t c = set-marks Banned t c
+
+abbrev clear-group : (tail heads : ℕ) → Command
+clear-group t c = set-marks Free t c
 
 -- VALID BOARDS
 -- a board, and what a pin of 99→99 answers: 9, or 15 first
@@ -68,12 +80,24 @@ models =
     ∷ bad (with-history (old-mark 0 2 3 ∷ []))
     ∷ bad (with-history (old-budget 32505795 ∷ []))
     ∷ bad (with-history (old-budget 5 ∷ old-mark 0 2 3 ∷ []))
+    -- several arcs (02, A5): {2} and {0} are arcs of 0 and 2; at a head that is not in the set nothing is looked at
+    ∷ good (with-history (old-marks 0 4 (3 ∷ 3 ∷ banned ∷ 3 ∷ []) ∷ old-marks 2 1 (1 ∷ []) ∷ []))
+    -- "a group record naming a non-link": no arc, the root, the tail itself, heads and a tail that are not below n
+    ∷ bad (with-history (old-marks 1 4 [] ∷ []))
+    ∷ bad (with-history (old-marks 0 6 [] ∷ []))
+    ∷ bad (with-history (old-marks 0 5 [] ∷ []))
+    ∷ bad (with-history (old-marks 0 12 [] ∷ []))
+    ∷ bad (with-history (old-marks 0 2147483652 [] ∷ []))
+    ∷ bad (with-history (old-marks 3 4 [] ∷ []))
+    -- ".. or nothing", or restoring a mark out of range
+    ∷ bad (with-history (old-marks 0 0 [] ∷ []))
+    ∷ bad (with-history (old-marks 0 4 (0 ∷ 0 ∷ 3 ∷ []) ∷ []))
     ∷ []
 
 -- THE CLAIM ABOUT BOARDS: "On a board, 15 comes first"
 pub judged : map (λ j. answered (pin 99 99) (j .of) .answer) models ≡ map (λ j. j .answer) models
 unfolding
-    models instance-from filled all-below all-of weight can-be-arc is-arc cell-ok cell-valid header-valid valid-instance record-ok valid refused decided
+    models instance-from filled all-below any-below all-of weight can-be-arc is-arc cell-ok cell-valid header-valid valid-instance inside head-ok record-ok valid refused decided
     arc-refusal mark-refusal marked applied answered
 judged = refl
 
@@ -138,12 +162,51 @@ runs =
             budget = 3;
           };
     }
+    -- 02, A5: the links of 1 are those to 2 and 3; the root, the tail itself and 3→2 are skipped; mixed marks come back
+    -- as they were, the card's too
+    ∷ record {
+      from = instance-q 16 (arc 1 2 banned ∷ arc 3 1 1 ∷ []);
+      commands = pin 1 3 ∷ clear-group 1 15 ∷ pin-group 0 14 ∷ ban-group 3 6 ∷ undo ∷ undo ∷ undo ∷ ban-group 2 2 ∷ [];
+      leaves =
+          record {
+            answers = replicate 8 0;
+            marks = 0 ∷ 0 ∷ 0 ∷ 0 ∷ 0 ∷ 0 ∷ 2 ∷ 1 ∷ 0 ∷ 2 ∷ 0 ∷ 0 ∷ 0 ∷ 1 ∷ 0 ∷ 0 ∷ [];
+            budget = 16;
+          };
+    }
+    ∷ record {
+      from = instance-q 16 (arc 1 2 banned ∷ arc 3 1 1 ∷ []);
+      commands = pin 1 3 ∷ clear-group 1 15 ∷ pin-group 0 14 ∷ ban-group 3 6 ∷ [];
+      leaves =
+          record {
+            answers = replicate 4 0;
+            marks = 0 ∷ 1 ∷ 1 ∷ 1 ∷ 0 ∷ 0 ∷ 0 ∷ 0 ∷ 0 ∷ 0 ∷ 0 ∷ 0 ∷ 0 ∷ 2 ∷ 0 ∷ 0 ∷ [];
+            budget = 16;
+          };
+    }
+    -- "9 for a feeder or a set bit not below the count, 10 if no member is a link": the tail, the bit of n, alone and
+    -- beside links, bit 31; then nothing, the root, the tail itself, no link; 9 before 10, 10 before 12, one group is
+    -- one of the 200
+    ∷ record {
+      from = instance-q 16 [];
+      commands =
+          ban-group 4 2 ∷ pin-group 1 16 ∷ ban-group 1 28 ∷ clear-group 1 2147483660 ∷ clear-group 4 0 ∷ pin-group 1 0 ∷ ban-group 1 1 ∷ clear-group 1 2
+          ∷ ban-group 3 4 ∷ pin-group 1 12
+          ∷ (replicate 198 (set-budget 3) ++ (ban-group 2 10 ∷ clear-group 1 12 ∷ pin-group 3 4 ∷ pin-group 1 16 ∷ undo ∷ undo ∷ clear-group 2 10 ∷ []));
+      leaves =
+          record {
+            answers = 9 ∷ 9 ∷ 9 ∷ 9 ∷ 9 ∷ 10 ∷ 10 ∷ 10 ∷ 10 ∷ 0 ∷ (replicate 198 0 ++ (0 ∷ 12 ∷ 10 ∷ 9 ∷ 0 ∷ 0 ∷ 0 ∷ []));
+            marks = 0 ∷ 0 ∷ 0 ∷ 0 ∷ 0 ∷ 0 ∷ 1 ∷ 1 ∷ 0 ∷ 0 ∷ 0 ∷ 0 ∷ 0 ∷ 0 ∷ 0 ∷ 0 ∷ [];
+            budget = 3;
+          };
+    }
     ∷ []
 
 -- THE CLAIM ABOUT COMMANDS
 pub run : map (λ r. on-board (r .from) (r .commands) ∷ in-log (r .from) (r .commands) ∷ []) runs ≡ map (λ r. r .leaves ∷ r .leaves ∷ []) runs
 unfolding
     runs on-board in-log all-marks instance-q instance-from filled tabulate-from tabulate weight mark can-be-arc is-arc opened with-mark
-    restored refused accepted decided arc-refusal mark-refusal marked budget-refusal budgeted undone applied answers board-after new-log with-entries
-    log-length unnoted noted note-arcs note-mark note-budget note-undo note effective-mark effective-budget effective log-answers log-after
+    restored refused accepted decided arc-refusal mark-refusal marked any-below sum-below from-digits inside heads-below names-arc names-any heads-of marks-of
+    is-named put-marks with-marks marks-refusal several-marked budget-refusal budgeted undone applied answers board-after new-log with-entries
+    log-length unnoted noted note-arcs note-mark note-marks note-budget note-undo note effective-mark effective-budget effective log-answers log-after
 run = refl

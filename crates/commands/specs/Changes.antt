@@ -7,11 +7,14 @@ use Prim.Native.Nat.{ℕ, _/_, _%_}
 use lib.Dec.{eqb}
 use lib.ListN.{length}
 use Rattle.instance.specs.Instance.{Instance, mark-at}
-use Rattle.commands.specs.Model.{Replaced, old-mark, old-budget, Model}
-use Rattle.commands.specs.Commands.{Command, set-mark, set-budget, undo}
+use Rattle.instance.specs.Cuts.{inside}
+use Rattle.commands.specs.Heads.{names-arc, is-named}
+use Rattle.commands.specs.Model.{Replaced, old-mark, old-marks, old-budget, Model}
+use Rattle.commands.specs.Commands.{Command, set-mark, set-marks, set-budget, undo}
 
 unfoldable pub is-undo : Command → Bool
 is-undo (set-mark m t h) = false
+is-undo (set-marks m t c) = false
 is-undo (set-budget v) = false
 is-undo undo = true
 
@@ -20,24 +23,29 @@ is-undo undo = true
 unfoldable pub is-cell : (t h i : ℕ) → Bool
 is-cell t h i = eqb (i / 32) t && eqb (i % 32) h
 
--- the cell i is the one whose mark a record restores
+-- the cell i is one whose mark a record restores
 unfoldable pub restores-cell : Replaced → (i : ℕ) → Bool
 restores-cell (old-mark t h m) i = is-cell t h i
+restores-cell (old-marks t c ms) i = is-named t (inside c) i
 restores-cell (old-budget v) i = false
 
 unfoldable pub restores-budget : Replaced → Bool
 restores-budget (old-mark t h m) = false
+restores-budget (old-marks t c ms) = false
 restores-budget (old-budget v) = true
 
--- the cell i is named by a command, or by the record that it takes back
-unfoldable pub names-cell : Command → (history : List Replaced) → (i : ℕ) → Bool
-names-cell (set-mark m t h) rs i = is-cell t h i
-names-cell (set-budget v) rs i = false
-names-cell undo [] i = false
-names-cell undo (r ∷ rs) i = restores-cell r i
+-- the cell i is named by a command, or by the record that it takes back; of a set of heads only the arcs are named:
+-- "Members that are no link are skipped" (02, A5)
+unfoldable pub names-cell : Command → Instance → (history : List Replaced) → (i : ℕ) → Bool
+names-cell (set-mark m t h) s rs i = is-cell t h i
+names-cell (set-marks m t c) s rs i = is-named t (names-arc s t c) i
+names-cell (set-budget v) s rs i = false
+names-cell undo s [] i = false
+names-cell undo s (r ∷ rs) i = restores-cell r i
 
 unfoldable pub names-budget : Command → (history : List Replaced) → Bool
 names-budget (set-mark m t h) rs = false
+names-budget (set-marks m t c) rs = false
 names-budget (set-budget v) rs = true
 names-budget undo [] = false
 names-budget undo (r ∷ rs) = restores-budget r
@@ -52,4 +60,5 @@ pub record Differs-only (named : ℕ → Bool) (budget-named : Bool) (s t : Inst
   pub budget : budget-named ≡ false → t .budget ≡ s .budget
 
 abbrev pub Changes-only-named : Command → (before after : Model) → Type 0
-Changes-only-named c b a = Differs-only (names-cell c (b .history)) (names-budget c (b .history)) (b .instance) (a .instance)
+Changes-only-named c b a =
+    Differs-only (names-cell c (b .instance) (b .history)) (names-budget c (b .history)) (b .instance) (a .instance)

@@ -9,13 +9,15 @@ use Rattle.instance.specs.Refusals.{no-vertex, no-such-arc, bad-budget, history
 use Rattle.instance.specs.Marks.{mark-number}
 use Rattle.instance.specs.Instance.{Instance, with-budget, mark, is-arc}
 use Rattle.instance.specs.declared.Mark.{Mark}
-use Rattle.commands.specs.Model.{Replaced, old-mark, old-budget, Model, with-mark, restored}
+use Rattle.commands.specs.Heads.{heads-below, names-arc, names-any, heads-of, marks-of, with-marks}
+use Rattle.commands.specs.Model.{Replaced, old-mark, old-marks, old-budget, Model, with-mark, restored}
 use Rattle.commands.specs.Valid.{valid}
 
 -- Commands (document 01: presses and take-backs). "Pin, ban and clear set one link's mark .. A budget press sets the
--- budget."
+-- budget." 02, A5: "Add a group press: one feeder, a set of fed positions as a 32-bit number, and pin, ban or clear".
 pub data Command : Type 0 where
   set-mark : (mark : Mark) → (tail head : ℕ) → Command
+  set-marks : (mark : Mark) → (tail heads : ℕ) → Command
   set-budget : (budget : ℕ) → Command
   undo : Command
 
@@ -51,6 +53,18 @@ marked m t h b =
     let s = b .instance in
     decided (mark-refusal s (length (b .history)) t h) (accepted (old-mark t h (mark s t h)) (with-mark (mark-number m) t h s) b) b
 
+-- 02, A5: "9 for a feeder or a set bit not below the count, 10 if no member is a link, 12"
+unfoldable pub marks-refusal : Instance → (count tail heads : ℕ) → ℕ
+marks-refusal s k t c = arc-refusal (not (ltb t (s .n) && heads-below (s .n) c)) (not (names-any s t c)) (leb max-records k)
+
+-- "recorded as one press": one record, of the arcs that are named
+unfoldable pub several-marked : (mark : Mark) → (tail heads : ℕ) → Model → Result
+several-marked m t c b =
+    let s = b .instance in
+    let q = names-arc s t c in
+    decided (marks-refusal s (length (b .history)) t c)
+    (accepted (old-marks t (heads-of q) (marks-of s t q)) (with-marks t q (λ h. mark-number m) s) b) b
+
 -- "11, 12 for budgets"; 02, A9: "11 .. use the new limits"
 unfoldable pub budget-refusal : (count budget : ℕ) → ℕ
 budget-refusal k v = cond (ltb max-budget v) bad-budget (cond (leb max-records k) history-full 0)
@@ -68,6 +82,7 @@ undone (r ∷ rs) b = record { answer = 0; board = record { instance = restored 
 -- a command on a valid board
 unfoldable pub applied : Command → Model → Result
 applied (set-mark m t h) b = marked m t h b
+applied (set-marks m t c) b = several-marked m t c b
 applied (set-budget v) b = budgeted v b
 applied undo b = undone (b .history) b
 
@@ -75,9 +90,11 @@ applied undo b = undone (b .history) b
 unfoldable pub answered : Command → Model → Result
 answered c b = cond (valid b) (applied c b) (refused invalid-board b)
 
--- what a command may answer: "15 comes first; then 9, 10, 12 for marks, 11, 12 for budgets, 13 for a take-back"
+-- what a command may answer: "15 comes first; then 9, 10, 12 for marks, 11, 12 for budgets, 13 for a take-back"; 02,
+-- A5: "in order 15, 9 .., 10 .., 12"
 unfoldable pub command-numbers : Command → List ℕ
 command-numbers (set-mark m t h) = 0 ∷ no-vertex ∷ no-such-arc ∷ history-full ∷ invalid-board ∷ []
+command-numbers (set-marks m t c) = 0 ∷ no-vertex ∷ no-such-arc ∷ history-full ∷ invalid-board ∷ []
 command-numbers (set-budget v) = 0 ∷ bad-budget ∷ history-full ∷ invalid-board ∷ []
 command-numbers undo = 0 ∷ history-empty ∷ invalid-board ∷ []
 

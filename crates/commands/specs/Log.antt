@@ -9,11 +9,15 @@ use Rattle.instance.specs.Limits.{max-budget, max-records}
 use Rattle.instance.specs.Refusals.{no-vertex, no-such-arc, bad-budget, history-full, history-empty}
 use Rattle.instance.specs.Instance.{Instance, is-arc}
 use Rattle.instance.specs.declared.Mark.{Mark}
-use Rattle.commands.specs.Commands.{Command, set-mark, set-budget, undo}
+use Rattle.commands.specs.Heads.{heads-below, names-any}
+use Rattle.commands.specs.Commands.{Command, set-mark, set-marks, set-budget, undo}
 
--- An entry (document 01: a standing press): "a link with the mark it sets, or a budget".
+-- An entry (document 01: a standing press): "a link with the mark it sets, or a budget"; and since 02, A5, a set of
+-- heads of one tail with the mark that it sets: "The press claim, the 200 limit and prepared lists take a group as one
+-- press."
 pub data Entry : Type 0 where
   entry-mark : (mark : Mark) → (tail head : ℕ) → Entry
+  entry-marks : (mark : Mark) → (tail heads : ℕ) → Entry
   entry-budget : (budget : ℕ) → Entry
 
 -- "It holds the card and a list of standing presses": here the latest stands first
@@ -57,6 +61,11 @@ unfoldable pub note-mark : (mark : Mark) → (tail head : ℕ) → Log → Noted
 note-mark m t h k =
     note-arcs (not (ltb t (k .card .n) && ltb h (k .card .n))) (not (is-arc (k .card) t h)) (leb max-records (log-length k)) (entry-mark m t h) k
 
+-- 02, A5: "9 for a feeder or a set bit not below the count, 10 if no member is a link, 12"; judged by the card
+unfoldable pub note-marks : (mark : Mark) → (tail heads : ℕ) → Log → Noted
+note-marks m t c k =
+    note-arcs (not (ltb t (k .card .n) && heads-below (k .card .n) c)) (not (names-any (k .card) t c)) (leb max-records (log-length k)) (entry-marks m t c) k
+
 -- "refused with 11 if above 31,000,000, else with 12 if 200 stand"; 02, A9: "11 .. use the new limits"
 unfoldable pub note-budget : (budget : ℕ) → Log → Noted
 note-budget v k =
@@ -71,6 +80,7 @@ note-undo (e ∷ es) k = noted es k
 
 unfoldable pub note : Command → Log → Noted
 note (set-mark m t h) k = note-mark m t h k
+note (set-marks m t c) k = note-marks m t c k
 note (set-budget v) k = note-budget v k
 note undo k = note-undo (k .entries) k
 

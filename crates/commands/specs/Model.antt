@@ -2,12 +2,17 @@
 -- definitions.
 use mathlib.Core.List.{List, []}
 use Prim.Native.Nat.{ℕ}
-use lib.ListN.{set}
+use lib.ListN.{getD, set}
+use Rattle.instance.specs.Limits.{free}
 use Rattle.instance.specs.Instance.{Instance, with-budget, cell}
+use Rattle.instance.specs.Cuts.{inside}
+use Rattle.commands.specs.Heads.{with-marks}
 
--- An undo record (document 01: a record): what a command replaced.
+-- An undo record (document 01: a record): what a command replaced. Of several arcs of one tail it has the heads as a
+-- set and their marks by head: "The record must now hold each replaced mark, so its rule changes everywhere" (02, A5).
 pub data Replaced : Type 0 where
   old-mark : (tail head mark : ℕ) → Replaced
+  old-marks : (tail heads : ℕ) → (marks : List ℕ) → Replaced
   old-budget : (budget : ℕ) → Replaced
 
 -- the history has the latest record first
@@ -23,7 +28,8 @@ unfoldable pub with-mark : (mark tail head : ℕ) → Instance → Instance
 with-mark m t h s =
     record { n = s .n; root = s .root; budget = s .budget; weights = s .weights; marks = set (s .marks) (cell t h) m }
 
--- "restores exactly the mark or budget it replaced"
+-- "restores exactly the mark or budget it replaced"; of several arcs "each replaced mark" (02, A5)
 unfoldable pub restored : Replaced → Instance → Instance
 restored (old-mark t h m) s = with-mark m t h s
+restored (old-marks t c ms) s = with-marks t (inside c) (λ h. getD ms h free) s
 restored (old-budget b) s = with-budget b s

@@ -30,7 +30,8 @@ use Rattle.board.specs.declared.Board.{Board}
 use Rattle.board.specs.declared.Answered.{Answered}
 use Rattle.board.proofs.CallLaws.{call-answer, call-valid}
 use Rattle.board.proofs.RunLaws.{Called, called-answers}
-use Rattle.commands.proofs.AnsweredLaws.{accepted-valid, answered-listed}
+use Rattle.commands.proofs.AnsweredLaws.{accepted-valid}
+use Rattle.commands.proofs.NumberLaws.{answered-listed}
 use Rattle.text.specs.Buffer.{Filled}
 use Rattle.report_text.specs.Whole.{refused-text, max-text}
 use Rattle.report.specs.declared.Reported.{Reported}

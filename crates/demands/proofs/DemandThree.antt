@@ -25,7 +25,8 @@ use Rattle.planner.proofs.Learnt.{Opened-by, opened-by, Looked, looked, Wrote, 
 use Rattle.planner.proofs.OpeningLaws.{opened-starts}
 
 -- a run: "each later one the board as the call before left it, refused or not; looks and writes may come between", and
--- checks of plans made elsewhere (02, A6), which leave the board too
+-- checks of plans made elsewhere (02, A6), which leave the board too. Its commands are single ones and groups: "The
+-- press claim .. take[s] a group as one press" (02, A5)
 pub data Run : List Command → Board → (answers : List ℕ) → (last : Board) → Type 0 where
   no-call : {b : Board} → Run [] b [] b
   then-command :

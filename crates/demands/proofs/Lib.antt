@@ -4,4 +4,5 @@ pub mod DemandTwo
 pub mod DemandThree
 pub mod RoundTrips
 pub mod SixRetired
+pub mod SeveralMarks
 pub mod PlansElsewhere

@@ -8,7 +8,7 @@ use Prim.Native.Nat.{ℕ}
 use lib.Dec.{eqb}
 use borrow.Author.Tests.{ne-eqb}
 use Rattle.base.specs.Lists.{any-of}
-use Rattle.commands.specs.Commands.{Command, set-mark, set-budget, undo, command-numbers}
+use Rattle.commands.specs.Commands.{Command, set-mark, set-marks, set-budget, undo, command-numbers}
 use Rattle.commands.specs.Log.{Log, unnoted, note}
 use Rattle.commands.proofs.LogLaws.{note-listed}
 use Rattle.planner.specs.Replaying.{Call, command, look, write, log-call, call-answers}
@@ -19,6 +19,7 @@ use Rattle.demands.proofs.DemandOne.{Given, by-opening, by-command, by-
 commands-lack-six : (c : Command) → among 6 (command-numbers c) ≡ false
 unfolding any-of command-numbers
 commands-lack-six (set-mark m t h) = refl
+commands-lack-six (set-marks m t c) = refl
 commands-lack-six (set-budget v) = refl
 commands-lack-six undo = refl
 

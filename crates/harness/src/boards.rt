@@ -1,44 +1,18 @@
 // Boards and the reference's instances.
+use crate::records;
 use board::Board;
-use board::Replaced;
 use board::UndoRecord;
-use reference::access;
 use reference::log::RECORDS;
 use reference::problem;
 use reference::problem::CELLS;
 use reference::problem::Problem;
 use reference::problem::STRIDE;
 
-// The records of an arc's mark, and of a budget.
-pub fn mark_record(tail: u32, head: u32, mark: u8) -> UndoRecord {
-    UndoRecord {
-        replaced: Replaced::OldMark(access::narrow(tail), access::narrow(head), mark),
-    }
-}
-
-pub fn budget_record(budget: u32) -> UndoRecord {
-    UndoRecord {
-        replaced: Replaced::OldBudget(budget),
-    }
-}
-
-// A number for each record, another for another.
-fn record_number(r: UndoRecord) -> u64 {
-    let x = r.replaced;
-    match x {
-        Replaced::OldMark(tail, head, mark) => 4294967296
-            + (tail as u64) * 65536
-            + (head as u64) * 256
-            + (mark as u64),
-        Replaced::OldBudget(budget) => budget as u64,
-    }
-}
-
 // A board with an instance and no record. The record places past the count hold rubbish, which nobody may look at.
 pub fn of_problem(p: Problem) -> Board {
     let weights = p.weights;
     let marks = p.marks;
-    let rubbish = mark_record(200, 201, 77);
+    let rubbish = records::mark_record(200, 201, 77);
     Board {
         n: p.n,
         root: p.root,
@@ -98,26 +72,49 @@ pub fn equal_problems(p: Problem, q: Problem, every_cell: bool) -> bool {
     equal_headers(p, q)
 }
 
-fn equal_records(a: [UndoRecord; RECORDS], b: [UndoRecord; RECORDS]) -> bool {
+// Whether the first so many records are equal, in every bit or in what they restore.
+fn equal_records(
+    a: [UndoRecord; RECORDS],
+    b: [UndoRecord; RECORDS],
+    count: usize,
+    every_bit: bool,
+) -> bool {
     for k in 0..RECORDS {
-        let x = a[k];
-        let y = b[k];
-        if record_number(x) != record_number(y) {
-            return false;
+        if k < count {
+            let x = a[k];
+            let y = b[k];
+            if !records::equal(x, y, every_bit) {
+                return false;
+            }
         }
     }
     true
 }
 
-// Whether a board is as it was, in every cell and every record place: what a refusal leaves.
+// Whether a board is as it was, in every cell and every bit of every record place: what a refusal leaves.
 pub fn identical(a: Board, b: Board) -> bool {
     if a.count != b.count {
         return false;
     }
     let x = a.records;
     let y = b.records;
-    if !equal_records(x, y) {
+    if !equal_records(x, y, RECORDS, true) {
         return false;
     }
     equal_problems(problem_of(a), problem_of(b), true)
+}
+
+// Whether two boards are equal as document 01 says it: cells that can never be a link and "record places past the
+// count" are not compared, nor what a group's record holds at heads that it does not name.
+pub fn equal(a: Board, b: Board) -> bool {
+    let count = a.count;
+    if count != b.count {
+        return false;
+    }
+    let x = a.records;
+    let y = b.records;
+    if !equal_records(x, y, count, false) {
+        return false;
+    }
+    equal_problems(problem_of(a), problem_of(b), false)
 }

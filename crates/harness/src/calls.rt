@@ -156,13 +156,17 @@ pub fn check(b: Board, o: Certificate) -> u32 {
 pub fn made(b: Board, c: Call) -> Answered {
     let kind = c.kind;
     let first = c.first;
+    let heads = c.second;
     let tail = Vertex(first);
-    let head = Vertex(c.second);
+    let head = Vertex(heads);
     match kind {
         call::PIN => planner::pin(b, tail, head),
         call::BAN => planner::ban(b, tail, head),
         call::CLEAR => planner::clear(b, tail, head),
         call::BUDGET => planner::set_budget(b, first),
+        call::PIN_GROUP => planner::pin_group(b, tail, heads),
+        call::BAN_GROUP => planner::ban_group(b, tail, heads),
+        call::CLEAR_GROUP => planner::clear_group(b, tail, heads),
         _ => planner::take_back(b),
     }
 }

@@ -3,6 +3,7 @@
 pub mod boards; // boards.rt: boards and the reference's instances
 pub mod buffers; // buffers.rt: what stands in a buffer before a call
 pub mod calls; // calls.rt: the planner's calls
+pub mod records; // records.rt: records of a board's history
 pub mod replays; // replays.rt: a list of calls handed over whole
 pub mod replies; // replies.rt: a call's answer, and whether it touched anything
 pub mod session; // session.rt: a board beside the log

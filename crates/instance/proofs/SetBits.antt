@@ -1,33 +1,31 @@
--- Bits of a set that is put together from the lowest vertex on. Assumes nothing.
-use mathlib.Core.Path.{_≡_, sym, ap, _∙_}
-use mathlib.Core.Bool.{true, false}
-use Prim.Native.Nat.{ℕ, zero, suc, _+_, _*_, _-_, _/_, _%_, _^_, _<_}
+-- The vertices of a set as the bits of a number: one vertex more, a set put together from a test, and the bits that a
+-- number has. Assumes nothing.
+use mathlib.Core.Path.{_≡_, refl, sym, ap, _∙_}
+use mathlib.Core.Bool.{Bool, true, false, cond}
+use mathlib.Core.Logic.{⊎-elim}
+use Prim.Native.Nat.{ℕ, zero, suc, _+_, _/_, _%_, _^_, _≤_, _<_}
 use native.Mathlib.Omega.{arith}
-use native.Mathlib.Nat.{pow-suc, add-mul-div-left, add-mul-mod-self-left, div-eq-of-lt, mul-one, mul-comm, zero-div}
-use lib.Dec.{eqb}
-use lib.Pow.{pow-pos, pow-add}
-use Rattle.base.proofs.BoolLaws.{not-both}
+use native.Mathlib.Nat.{pow-suc, div-eq-of-lt, div-eq-of-lt-le, div-lt-iff-lt-mul, le-div-iff-mul-le, one-mul, zero-div, zero-lt-suc}
+use lib.Dec.{ltb, eqb}
+use lib.Pow.{pow-pos, pow-mono, shr-shr}
+use borrow.Author.Tests.{lt-ltb, ltb-true, ltb-false, eq-eqb, eqb-true}
+use Rattle.base.specs.Bounded.{any-below}
+use Rattle.base.specs.Digits.{from-digits, digit}
+use Rattle.base.proofs.BoolLaws.{test, same-test, not-both, or-left, or-right}
+use Rattle.base.proofs.BoundedLaws.{any-found, any-false}
+use Rattle.base.proofs.DigitLaws.{digit-low, digit-top, digit-of}
 use Rattle.instance.specs.Cuts.{inside}
 
-split-pow : (p q : ℕ) → q < p → 2 ^ p ≡ 2 ^ q * (2 * 2 ^ (p - (q + 1)))
-split-pow p q l =
-    let e : p ≡ q + suc (p - (q + 1)) = omega arith in
-    ap (λ (x : ℕ). 2 ^ x) e ∙ pow-add 2 q (suc (p - (q + 1))) ∙ ap (λ (x : ℕ). 2 ^ q * x) (pow-suc 2 (p - (q + 1)) ∙ mul-comm (2 ^ (p - (q + 1))) 2)
-
+-- ONE VERTEX MORE, the highest
 -- a lower vertex is inside as before
 pub inside-low : (s p q : ℕ) → q < p → inside (s + 2 ^ p) q ≡ inside s q
-unfolding inside
-inside-low s p q l =
-    ap (λ (x : ℕ). eqb x 1)
-    (ap (λ (x : ℕ). (s + x) / 2 ^ q % 2) (split-pow p q l) ∙ ap (λ (x : ℕ). x % 2) (add-mul-div-left s (2 * 2 ^ (p - (q + 1))) (pow-pos q))
-    ∙ add-mul-mod-self-left (s / 2 ^ q) 2 (2 ^ (p - (q + 1))))
+unfolding inside digit
+inside-low s p q l = ap (λ (x : ℕ). eqb x 1) (ap (λ (x : ℕ). (s + x) / 2 ^ q % 2) (sym (one-mul (2 ^ p))) ∙ digit-low 2 (zero-lt-suc 1) s 1 p q l)
 
 -- the one added is inside
 pub inside-top : (s p : ℕ) → s < 2 ^ p → inside (s + 2 ^ p) p ≡ true
-unfolding inside
-inside-top s p l =
-    let e : (s + 2 ^ p) / 2 ^ p ≡ 1 = ap (λ (x : ℕ). (s + x) / 2 ^ p) (sym (mul-one (2 ^ p))) ∙ add-mul-div-left s 1 (pow-pos p) ∙ ap (λ (x : ℕ). x + 1) (div-eq-of-lt l) in
-    rw e
+unfolding inside digit
+inside-top s p l = ap (λ (x : ℕ). eqb x 1) (ap (λ (x : ℕ). (s + x) / 2 ^ p % 2) (sym (one-mul (2 ^ p))) ∙ digit-top 2 (zero-lt-suc 1) s 1 p l (omega arith))
 
 pub inside-none : (s p : ℕ) → s < 2 ^ p → inside s p ≡ false
 unfolding inside
@@ -37,3 +35,62 @@ pub inside-some : (s p : ℕ) → inside s p ≡ true → 0 < s
 unfolding inside
 inside-some zero p e = absurd (not-both (eqb (0 / 2 ^ p % 2) 1) e (rw (zero-div (2 ^ p))))
 inside-some (suc s) p e = omega arith
+
+-- A SET PUT TOGETHER FROM A TEST has the vertices that pass
+pub bit-small : (b : Bool) → cond b 1 0 < 2
+bit-small true = omega arith
+bit-small false = omega arith
+
+bit-read : (b : Bool) → eqb (cond b 1 0) 1 ≡ b
+bit-read true = refl
+bit-read false = refl
+
+pub inside-digits : (k : ℕ) (q : ℕ → Bool) (v : ℕ) → v < k → inside (from-digits 2 k (λ h. cond (q h) 1 0)) v ≡ q v
+unfolding inside digit
+inside-digits k q v l =
+    ap (λ (x : ℕ). eqb x 1) (digit-of 2 k (λ h. cond (q h) 1 0) (zero-lt-suc 1) (λ h _. bit-small (q h)) v l) ∙ bit-read (q v)
+
+-- THE BITS THAT A NUMBER HAS
+-- 0 has none, and every other number has one
+pub none-inside : (k : ℕ) → any-below k (inside 0) ≡ false
+none-inside k = any-false k (inside 0) (λ v _. inside-none 0 v (pow-pos v))
+
+pub some-inside : (k c : ℕ) → c < 2 ^ k → 0 < c → any-below k (inside c) ≡ true
+unfolding any-below inside
+some-inside zero c l p = absurd (omega arith)
+some-inside (suc k) c l p =
+    ⊎-elim (λ (e : ltb c (2 ^ k) ≡ true). or-right (inside c k) (any-below k (inside c)) (some-inside k c (ltb-true c (2 ^ k) e) p))
+    (λ (e : ltb c (2 ^ k) ≡ false).
+    let high : 2 ^ k ≤ c = ltb-false c (2 ^ k) e in
+    let d : c / 2 ^ k ≡ 1 = div-eq-of-lt-le {k = 1} (2 ^ k) {m = c} (omega arith) (omega (arith, pow-suc 2 k)) in
+    or-left (inside c k) (any-below k (inside c)) (rw d)) (test (ltb c (2 ^ k)))
+
+-- A set is one of the vertices below n exactly if it is below 2 ^ n: a number of 2 ^ n or more has a bit from n on, one
+-- of its quotient by 2 ^ n.
+pub inside-below : (n c v : ℕ) → c < 2 ^ n → inside c v ≡ true → v < n
+inside-below n c v l e =
+    ⊎-elim (λ (t : ltb v n ≡ true). ltb-true v n t)
+    (λ (t : ltb v n ≡ false).
+    let high : n ≤ v = ltb-false v n t in
+    absurd (not-both (inside c v) e (inside-none c v (omega (arith, pow-mono {i = n} {j = v} high))))) (test (ltb v n))
+
+lt-power : (v : ℕ) → v < 2 ^ v
+lt-power zero = omega arith
+lt-power (suc v) = omega (arith, lt-power v, pow-suc 2 v)
+
+pub below-inside : (n c : ℕ) → ((v : ℕ) → inside c v ≡ true → v < n) → c < 2 ^ n
+unfolding inside
+below-inside n c h =
+    ⊎-elim (λ (t : ltb c (2 ^ n) ≡ true). ltb-true c (2 ^ n) t)
+    (λ (t : ltb c (2 ^ n) ≡ false).
+    let high : 2 ^ n ≤ c = ltb-false c (2 ^ n) t in
+    let v = c / 2 ^ n in
+    let j = any-found v (inside v) (some-inside v v (lt-power v) (le-div-iff-mul-le {k = 2 ^ n} {x = 1} {y = c} (pow-pos n) .1 (omega arith))) in
+    absurd (omega (arith, h (n + j .0) (rw (← shr-shr c n (j .0)) (j .2))))) (test (ltb c (2 ^ n)))
+
+-- as a program asks: nothing is left when the bits below n are shifted out
+pub shifted-below : (n c : ℕ) → eqb (c / 2 ^ n) 0 ≡ ltb c (2 ^ n)
+shifted-below n c =
+    same-test (eqb (c / 2 ^ n) 0) (ltb c (2 ^ n))
+    (λ e. lt-ltb c (2 ^ n) (omega (arith, div-lt-iff-lt-mul {k = 2 ^ n} {x = c} {y = 1} (pow-pos n) .0 (omega (arith, eqb-true (c / 2 ^ n) 0 e)))))
+    (λ e. eq-eqb (c / 2 ^ n) 0 (div-eq-of-lt (ltb-true c (2 ^ n) e)))

@@ -39,11 +39,11 @@ bad-filling = 8
 
 -- "board as before" after these
 
--- "press names a position not below n"
+-- "press names a position not below n"; 02, A5: "9 for a feeder or a set bit not below the count"
 abbrev pub no-vertex : ℕ
 no-vertex = 9
 
--- "press names no link"
+-- "press names no link"; 02, A5: "10 if no member is a link"
 abbrev pub no-such-arc : ℕ
 no-such-arc = 10
 
@@ -64,7 +64,8 @@ abbrev pub buffer-short : ℕ
 buffer-short = 14
 
 -- "board handed in has a field outside the ranges above, a mark other than 0 on no link, more than 200 recorded, or a
--- record naming no link or restoring a value out of range"; 02, A9: "15 .. use the new limits"
+-- record naming no link or restoring a value out of range"; 02, A9: "15 .. use the new limits"; A5: "a group record
+-- naming a non-link, or nothing, is damage (15)"
 abbrev pub invalid-board : ℕ
 invalid-board = 15
 

@@ -25,10 +25,10 @@ pub const BAD_MARK: u32 = 7;
 // 8: a filling bit is 1.
 pub const BAD_FILLING: u32 = 8;
 
-// 9: press names a position not below n.
+// 9: press names a position not below n, a group a feeder or a set bit.
 pub const NO_VERTEX: u32 = 9;
 
-// 10: press names no link.
+// 10: press names no link, a group not one.
 pub const NO_SUCH_ARC: u32 = 10;
 
 // 11: budget press above MAX_BUDGET.
@@ -44,7 +44,7 @@ pub const HISTORY_EMPTY: u32 = 13;
 pub const BUFFER_SHORT: u32 = 14;
 
 // 15: board handed in has a field outside the ranges above, a mark other than 0 on no link, more than 200 recorded, or
-// a record naming no link or restoring a value out of range.
+// a record naming no link or restoring a value out of range; a group record naming a non-link, or nothing.
 pub const INVALID_BOARD: u32 = 15;
 
 // 21: a plan made elsewhere is not a feed tree.

@@ -4,13 +4,13 @@ use mathlib.Core.Path.{_≡_}
 use mathlib.Core.Bool.{Bool, true, false, _||_, cond}
 use mathlib.Core.List.{List, [], _∷_}
 use Prim.Native.Nat.{ℕ, zero, suc}
-use lib.Dec.{ltb}
+use lib.Dec.{ltb, eqb}
 use lib.ListN.{length}
 use Rattle.base.specs.Lists.{in-front}
 use Rattle.instance.specs.Refusals.{buffer-short, invalid-board}
 use Rattle.instance.specs.declared.Mark.the-variants.{Free, Pinned, Banned}
 use Rattle.card_format.specs.Card.{card-refusal, instance-in}
-use Rattle.commands.specs.Commands.{Command, set-mark, set-budget, undo, answered}
+use Rattle.commands.specs.Commands.{Command, set-mark, set-marks, set-budget, undo, answered}
 use Rattle.commands.specs.Valid.{valid}
 use Rattle.commands.specs.Log.{Log, new-log, Noted, unnoted, note}
 use Rattle.commands.specs.Effective.{effective}
@@ -28,7 +28,8 @@ pub data Call : Type 0 where
   look : Call
   write : Call
 
--- kinds: 0 pin, 1 ban, 2 clear, 3 budget, 4 take-back, 5 a look, any other number a write
+-- kinds: 0 pin, 1 ban, 2 clear, 3 budget, 4 take-back, 5 a look, 7 to 9 pin, ban and clear of a set of heads (02, A5),
+-- any other number a write
 unfoldable pub call : (kind first second : ℕ) → Call
 call zero a b = command (set-mark Pinned a b)
 call (suc zero) a b = command (set-mark Banned a b)
@@ -36,7 +37,15 @@ call (suc (suc zero)) a b = command (set-mark Free a b)
 call (suc (suc (suc zero))) a b = command (set-budget a)
 call (suc (suc (suc (suc zero)))) a b = command undo
 call (suc (suc (suc (suc (suc zero))))) a b = look
-call (suc (suc (suc (suc (suc (suc k)))))) a b = write
+call (suc (suc (suc (suc (suc (suc zero)))))) a b = write
+call (suc (suc (suc (suc (suc (suc (suc zero))))))) a b = command (set-marks Pinned a b)
+call (suc (suc (suc (suc (suc (suc (suc (suc zero)))))))) a b = command (set-marks Banned a b)
+call (suc (suc (suc (suc (suc (suc (suc (suc (suc zero))))))))) a b = command (set-marks Free a b)
+call (suc (suc (suc (suc (suc (suc (suc (suc (suc (suc k)))))))))) a b = write
+
+-- the numbers for which `call` gives a write (`call-write`, `not-write`)
+unfoldable pub write-kind : (kind : ℕ) → Bool
+write-kind k = eqb k 6 || ltb 9 k
 
 unfoldable pub calls : (kinds firsts seconds : List ℕ) → List Call
 calls [] as′ bs = []

@@ -1,6 +1,6 @@
-// The public calls, gathered here: open_card, pin, ban, clear, set_budget, take_back, look, write_card, check_plan and
-// replay. None requires anything of its caller: whatever is handed in gets an answer, and after a refusal the board and
-// all buffers are as they were.
+// The public calls, gathered here: open_card, pin, ban, clear, pin_group, ban_group, clear_group, set_budget,
+// take_back, look, write_card, check_plan and replay. None requires anything of its caller: whatever is handed in gets
+// an answer, and after a refusal the board and all buffers are as they were.
 mod checking; // checking.rt: a plan made elsewhere, checked for a board
 mod copies; // copies.rt: copies into the caller's buffers
 mod displaying; // displaying.rt: what planning found, copied there
@@ -12,8 +12,11 @@ mod writing; // writing.rt: a board written as a card
 pub use board::Answered;
 pub use board::Board;
 pub use board::calls::ban;
+pub use board::calls::ban_group;
 pub use board::calls::clear;
+pub use board::calls::clear_group;
 pub use board::calls::pin;
+pub use board::calls::pin_group;
 pub use board::calls::set_budget;
 pub use board::calls::take_back;
 pub use card::write::Written;

@@ -1,12 +1,12 @@
 // A whole list of calls on a freshly opened card, and a look at the end: demand 3 of document 01 as one function.
 ghost use mathlib.Core.Path.{_≡_};
-ghost use mathlib.Core.Bool.{cond};
-ghost use Prim.Native.Nat.{_<_};
+ghost use mathlib.Core.Bool.{false, cond};
+ghost use mathlib.Core.Logic.{_≢_};
 ghost use Rattle.instance.specs.Refusals.{invalid-board};
 ghost use Rattle.commands.specs.Valid.{valid};
 ghost use Rattle.board.specs.ModelOf.{model-of, command-of};
 ghost use Rattle.planner.specs.Looking.{buffers, answer-of};
-ghost use Rattle.planner.specs.Replaying.{call, Makes, lists-short, Replays};
+ghost use Rattle.planner.specs.Replaying.{write-kind, call, Makes, lists-short, Replays};
 ghost use Rattle.planner.specs.Replaying as calls;
 use crate::View;
 use crate::looking::is_too_short;
@@ -22,7 +22,7 @@ use instance::Mark;
 use instance::Vertex;
 use instance::refusals::BUFFER_SHORT;
 
-// The kinds of a call: a take-back is 4, and any number above a look's is a write.
+// The kinds of a call; every number above the last of them writes too.
 const PIN: u8 = 0;
 
 const BAN: u8 = 1;
@@ -31,7 +31,17 @@ const CLEAR: u8 = 2;
 
 const BUDGET: u8 = 3;
 
+const TAKE_BACK: u8 = 4;
+
 const LOOK: u8 = 5;
+
+const WRITE: u8 = 6;
+
+const PIN_GROUP: u8 = 7;
+
+const BAN_GROUP: u8 = 8;
+
+const CLEAR_GROUP: u8 = 9;
 
 fn view_answer(v: View) -> u32
     ensures { λ r. ⌜ r ≡ answer-of v ⌝ }
@@ -42,9 +52,19 @@ fn view_answer(v: View) -> u32
     }
 }
 
-// The command of a kind below that of a look.
+// Whether a kind is that of a write.
+fn is_write(kind: u8) -> bool
+    ensures { λ r. ⌜ r ≡ write-kind kind ⌝ }
+{
+    if kind == WRITE {
+        return true;
+    }
+    CLEAR_GROUP < kind
+}
+
+// The command of a kind that is neither a look's nor a write's.
 fn command_at(kind: u8, first: u32, second: u32) -> Command
-    requires { ⌜ kind < 5 ⌝ }
+    requires { ⌜ (write-kind kind ≡ false) × (kind ≢ 5) ⌝ }
     ensures { λ r. ⌜ calls.command (command-of r) ≡ call kind first second ⌝ }
 {
     if kind == PIN {
@@ -59,7 +79,16 @@ fn command_at(kind: u8, first: u32, second: u32) -> Command
     if kind == BUDGET {
         return Command::SetBudget(first);
     }
-    Command::TakeBack
+    if kind == TAKE_BACK {
+        return Command::TakeBack;
+    }
+    if kind == PIN_GROUP {
+        return Command::SetMarks(Mark::Pinned, Vertex(first), second);
+    }
+    if kind == BAN_GROUP {
+        return Command::SetMarks(Mark::Banned, Vertex(first), second);
+    }
+    Command::SetMarks(Mark::Free, Vertex(first), second)
 }
 
 // A write whose card is not wanted: what it answers.
@@ -76,24 +105,24 @@ fn make_call(
     b: Board,
     kind: u8, // what is called
     first: u32, // a tail or a budget
-    second: u32, // a head
+    second: u32, // a head or a set of heads
     parents: &mut [u8], // these three are a look's buffers
     states: &mut [u8],
     cuts: &mut [u32],
 ) -> Answered
     ensures { λ r. ⌜ Makes b (call kind first second) (buffers (now (parents .entry)) (now (states .entry)) (now (cuts .entry))) (buffers (now (parents .exit)) (now (states .exit)) (now (cuts .exit))) r ⌝ }
 {
-    if kind < LOOK {
-        let command = command_at(kind, first, second);
-        return execute(b, command);
-    }
     if kind == LOOK {
         let view = look(b, parents, states, cuts);
         let answer = view_answer(view);
         return Answered { answer, board: b };
     }
-    let answer = write_away(b);
-    Answered { answer, board: b }
+    if is_write(kind) {
+        let answer = write_away(b);
+        return Answered { answer, board: b };
+    }
+    let command = command_at(kind, first, second);
+    execute(b, command)
 }
 
 fn are_lists_short(kinds: usize, firsts: usize, seconds: usize, answers: usize) -> bool
@@ -110,9 +139,9 @@ fn are_lists_short(kinds: usize, firsts: usize, seconds: usize, answers: usize) 
 
 // Opens the card `bytes`, makes every call of the list, stores every answer, and looks at the end; a look between goes
 // into the same buffers. `kinds`, `firsts` and `seconds` are the list, a kind and two numbers for each call: 0 pins, 1
-// bans, 2 clears (tail and head), 3 sets the budget, 4 takes back, 5 looks, any other kind writes. `answers` takes the
-// answer of each. `parents`, `states`, `cuts` are the buffers of every look. All are judged before anything is done:
-// where one is too short, nothing is touched.
+// bans, 2 clears (tail and head), 3 sets the budget, 4 takes back, 5 looks, 7 pins, 8 bans, 9 clears several arcs (tail
+// and set of heads), any other kind writes. `answers` takes the answer of each. `parents`, `states`, `cuts` are the
+// buffers of every look. All are judged before anything is done: where one is too short, nothing is touched.
 pub fn replay(
     bytes: &[u8],
     kinds: &[u8],

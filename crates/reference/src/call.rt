@@ -1,6 +1,8 @@
 // The calls that change a board, by number, and random ones with arguments inside and outside their ranges.
+use crate::group;
 use crate::problem::MAX_BUDGET;
 use crate::problem::MAX_VERTICES;
+use crate::problem::Problem;
 use crate::random;
 use crate::random::Random;
 
@@ -15,11 +17,39 @@ pub const BUDGET: u32 = 3;
 
 pub const TAKE_BACK: u32 = 4;
 
-// The two vertices of a mark; or a budget, in first.
+// Those of a group press (02, A5). 5 and 6 are a look and a write, which change nothing.
+pub const PIN_GROUP: u32 = 7;
+
+pub const BAN_GROUP: u32 = 8;
+
+pub const CLEAR_GROUP: u32 = 9;
+
+// The two vertices of a mark; or the tail of a group and the set of its heads; or a budget, in first.
 pub struct Call {
     pub kind: u32,
     pub first: u32,
     pub second: u32,
+}
+
+pub fn take_back() -> Call {
+    Call {
+        kind: TAKE_BACK,
+        first: 0,
+        second: 0,
+    }
+}
+
+pub fn is_group(kind: u32) -> bool {
+    kind == PIN_GROUP || kind == BAN_GROUP || kind == CLEAR_GROUP
+}
+
+// The single press that sets the mark of a group press.
+pub fn single_of(kind: u32) -> u32 {
+    match kind {
+        PIN_GROUP => PIN,
+        BAN_GROUP => BAN,
+        _ => CLEAR,
+    }
 }
 
 // A vertex, now and then n or more.
@@ -48,11 +78,29 @@ fn some_kind(g: Random, back: u32) -> u32 {
     if random::below(g, 16) < back {
         return TAKE_BACK;
     }
-    random::below(random::next(g), 4)
+    match random::below(random::next(g), 7) {
+        0 => PIN,
+        1 => BAN,
+        2 => CLEAR,
+        3 => PIN_GROUP,
+        4 => BAN_GROUP,
+        5 => CLEAR_GROUP,
+        _ => BUDGET,
+    }
 }
 
-// A call on a board of n vertices. It takes four steps of the generator.
-pub fn some_call(g: Random, n: u32, back: u32) -> Call {
+// A group press of a kind on a board with that instance.
+pub fn some_group(g: Random, p: Problem, kind: u32) -> Call {
+    let tail = some_vertex(g, p.n);
+    Call {
+        kind: kind,
+        first: tail,
+        second: group::some_set(random::next(random::next(g)), p, tail),
+    }
+}
+
+// A call on a board with that instance.
+pub fn some_call(g: Random, p: Problem, back: u32) -> Call {
     let kind = some_kind(g, back);
     let after = random::next(random::next(g));
     if kind == BUDGET {
@@ -62,9 +110,18 @@ pub fn some_call(g: Random, n: u32, back: u32) -> Call {
             second: 0,
         };
     }
+    if is_group(kind) {
+        return some_group(after, p, kind);
+    }
     Call {
         kind: kind,
-        first: some_vertex(after, n),
-        second: some_vertex(random::next(random::next(after)), n),
+        first: some_vertex(after, p.n),
+        second: some_vertex(random::next(random::next(after)), p.n),
     }
+}
+
+// The generator after a call was drawn, which takes six steps.
+pub fn drawn(g: Random) -> Random {
+    let h = random::next(random::next(random::next(g)));
+    random::next(random::next(random::next(h)))
 }

@@ -7,6 +7,7 @@ pub mod card; // card.rt: cards, bit by bit
 pub mod certificate; // certificate.rt: plans made elsewhere, and the answers to them
 pub mod dual; // dual.rt: a planner of another kind
 pub mod families; // families.rt: instances of 32 vertices
+pub mod group; // group.rt: group presses, one feeder and a set of fed positions
 pub mod log; // log.rt: the log of document 01, "The book for demand 3"
 pub mod outcome; // outcome.rt: what a look has to show, from the listing
 pub mod problem; // problem.rt: instances, and the arcs that remain

@@ -2,6 +2,7 @@
 use crate::access::plus;
 use crate::call;
 use crate::call::Call;
+use crate::group;
 use crate::problem;
 use crate::problem::BANNED;
 use crate::problem::FREE;
@@ -29,11 +30,7 @@ pub struct Logged {
 }
 
 pub fn empty() -> Log {
-    let none = Call {
-        kind: call::TAKE_BACK,
-        first: 0,
-        second: 0,
-    };
+    let none = call::take_back();
     Log {
         count: 0,
         calls: [none; RECORDS],
@@ -73,19 +70,32 @@ fn answer_to(count: u32, card: Problem, c: Call) -> u32 {
     match kind {
         call::TAKE_BACK => if count == 0 { HISTORY_EMPTY } else { 0 },
         call::BUDGET => full_answer(if MAX_BUDGET < c.first { BAD_BUDGET } else { 0 }, count),
+        call::PIN_GROUP | call::BAN_GROUP | call::CLEAR_GROUP => full_answer(
+            group::answer(card, c.first, c.second),
+            count,
+        ),
         _ => full_answer(mark_answer(card, c.first, c.second), count),
     }
 }
 
+// What is written of a press. A group is one press and names its links alone: "Members that are no link are skipped."
+fn entry_of(card: Problem, c: Call) -> Call {
+    let mut entry = c;
+    if call::is_group(c.kind) {
+        entry.second = group::links(card, c.first, c.second);
+    }
+    entry
+}
+
 // "accepted and written at the end"; of a take-back "accepted, and the last one is struck out".
-fn changed(log: Log, c: Call) -> Log {
+fn changed(log: Log, card: Problem, c: Call) -> Log {
     let mut l = log;
     if c.kind == call::TAKE_BACK {
         l.count = std::num::wrapping_sub_u32(l.count, 1);
         return l;
     }
     let at = (l.count % RECORDS as u32) as usize;
-    l.calls[at] = c;
+    l.calls[at] = entry_of(card, c);
     l.count = plus(l.count, 1);
     l
 }
@@ -101,17 +111,28 @@ pub fn note(log: Log, card: Problem, c: Call) -> Logged {
     }
     Logged {
         answer: 0,
-        log: changed(log, c),
+        log: changed(log, card, c),
     }
 }
 
 // The mark that a call sets.
-fn mark_set(kind: u32) -> u8 {
+pub fn mark_set(kind: u32) -> u8 {
     match kind {
-        call::PIN => PINNED,
-        call::BAN => BANNED,
+        call::PIN | call::PIN_GROUP => PINNED,
+        call::BAN | call::BAN_GROUP => BANNED,
         _ => FREE,
     }
+}
+
+// The instance with the marks that an entry sets.
+fn marked(p: Problem, c: Call) -> Problem {
+    let mut q = p;
+    if call::is_group(c.kind) {
+        return group::marked(q, c.first, c.second, mark_set(c.kind));
+    }
+    let at = problem::cell(c.first, c.second);
+    q.marks[at] = mark_set(c.kind);
+    q
 }
 
 // The card's instance under what the log says: an arc's mark is "the one set by the last standing press that names it,
@@ -124,8 +145,7 @@ pub fn problem_now(log: Log, card: Problem) -> Problem {
             if c.kind == call::BUDGET {
                 p.budget = c.first;
             } else {
-                let at = problem::cell(c.first, c.second);
-                p.marks[at] = mark_set(c.kind);
+                p = marked(p, c);
             }
         }
     }

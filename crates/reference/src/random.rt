@@ -19,11 +19,16 @@ pub fn next(g: Random) -> Random {
     }
 }
 
-// A number below k that the present state gives, 0 where k is 0. The upper half of the state is the better one.
+// Any 32 bits. The upper half of the state is the better one.
+pub fn word(g: Random) -> u32 {
+    let high = g.state / 4294967296;
+    high as u32
+}
+
+// A number below k that the present state gives, 0 where k is 0.
 pub fn below(g: Random, k: u32) -> u32 {
     if k == 0 {
         return 0;
     }
-    let high = g.state / 4294967296;
-    (high as u32) % k
+    word(g) % k
 }

@@ -9,7 +9,7 @@ use crate::call;
 use crate::call::Call;
 
 // How many bytes of a script are read.
-pub const SCRIPT_ROOM: usize = 8192;
+pub const SCRIPT_ROOM: usize = 16384;
 
 // More than the numbers of any line.
 pub const NUMBERS: usize = 32;
@@ -104,7 +104,17 @@ fn kind_of_mark(mark: u32) -> u32 {
     }
 }
 
-// The call of a line: "mark 1 on 2 1" (a mark, a tail and a head), "budget 16", "take-back".
+// The kind of the call that sets it on a group.
+fn kind_of_group(mark: u32) -> u32 {
+    match mark {
+        1 => call::PIN_GROUP,
+        2 => call::BAN_GROUP,
+        _ => call::CLEAR_GROUP,
+    }
+}
+
+// The call of a line: "mark 1 on 2 1" (a mark, a tail and a head), "group 1 on 2, set 10" (a mark, a tail and a set of
+// heads), "budget 16", "take-back".
 pub fn call_of(line: Line) -> Call {
     let first = line.first;
     match first {
@@ -113,24 +123,26 @@ pub fn call_of(line: Line) -> Call {
             first: number(line, 2),
             second: number(line, 3),
         },
+        b'g' => Call {
+            kind: kind_of_group(number(line, 1)),
+            first: number(line, 2),
+            second: number(line, 3),
+        },
         b'b' => Call {
             kind: call::BUDGET,
             first: number(line, 1),
             second: 0,
         },
-        _ => Call {
-            kind: call::TAKE_BACK,
-            first: 0,
-            second: 0,
-        },
+        _ => call::take_back(),
     }
 }
 
-// How often it is made: "budget 16, 199 times", "take-back, 200 times".
+// How often it is made: "group 1 on 2, set 10, 3 times", "budget 16, 199 times", "take-back, 200 times".
 pub fn times_of(line: Line) -> u32 {
     let first = line.first;
     let inputs = line.inputs;
     match first {
+        b'g' => if inputs == 4 { number(line, 4) } else { 1 },
         b'b' => if inputs == 2 { number(line, 2) } else { 1 },
         b't' => if inputs == 1 { number(line, 1) } else { 1 },
         _ => 1,

@@ -2,6 +2,7 @@
 // look is no damage.
 use crate::damage;
 use crate::damage::Damaged;
+use crate::group_records;
 use board::Board;
 use harness::boards;
 use harness::buffers;
@@ -32,21 +33,21 @@ const CALLS: u32 = 5;
 
 const REFUSED: u32 = 6;
 
-// The calls that are made on each board: six that change one; a write, a look, and both with buffers too short for any
+// The calls that are made on each board: nine that change one; a write, a look, and both with buffers too short for any
 // board here; a check of a list that is no tree, and of one that is too short.
-const KINDS_OF_CALL: u32 = 12;
+const KINDS_OF_CALL: u32 = 15;
 
-const WRITE: u32 = 6;
+const WRITE: u32 = 9;
 
-const LOOK: u32 = 7;
+const LOOK: u32 = 10;
 
-const SHORT_WRITE: u32 = 8;
+const SHORT_WRITE: u32 = 11;
 
-const SHORT_LOOK: u32 = 9;
+const SHORT_LOOK: u32 = 12;
 
-const CHECK: u32 = 10;
+const CHECK: u32 = 13;
 
-const SHORT_CHECK: u32 = 11;
+const SHORT_CHECK: u32 = 14;
 
 fn nth_call(k: u32) -> Call {
     match k {
@@ -55,6 +56,9 @@ fn nth_call(k: u32) -> Call {
         2 => new_call(call::CLEAR, 33, 4294967295),
         3 => new_call(call::BUDGET, 17, 0),
         4 => new_call(call::BUDGET, 4294967295, 0),
+        5 => new_call(call::PIN_GROUP, 0, 3),
+        6 => new_call(call::BAN_GROUP, 33, 4294967295),
+        7 => new_call(call::CLEAR_GROUP, 1, 0),
         _ => new_call(call::TAKE_BACK, 0, 0),
     }
 }
@@ -102,15 +106,17 @@ fn is_right(r: Reply, k: u32, is_damaged: bool) -> bool {
     replies::is_reply(r, BUFFER_SHORT)
 }
 
-// One call, and whether 15 came.
+// One call, and whether 15 came. A sound board taken for a damaged one has to be reported, and a damaged one taken for
+// a sound one.
 fn tried_call(tally: Tally, d: Damaged, k: u32) -> Tally {
     let b = d.board;
     let r = reply_of(b, k);
     let t = tally::checked(tally, CALLS, is_right(r, k, d.is_damaged));
+    let u = tally::planted(t, !is_right(r, k, !d.is_damaged));
     if r.answer == INVALID_BOARD {
-        return tally::with(t, REFUSED, 1);
+        return tally::with(u, REFUSED, 1);
     }
-    t
+    u
 }
 
 // Whether a call is left out: a look at a large sound board takes long, and test_cases has it.
@@ -140,39 +146,36 @@ fn tried(tally: Tally, d: Damaged) -> Tally {
 const SIZES: u32 = MAX_VERTICES - 1;
 
 // A sound board of each size in turn, with some history.
-fn some_board(k: u32) -> Board {
+pub fn some_board(k: u32) -> Board {
     let g = random::seeded(k);
-    let n = k % SIZES + 2;
-    let mut b = boards::of_problem(sample::any_instance(g, n));
+    let p = sample::any_instance(g, k % SIZES + 2);
+    let mut b = boards::of_problem(p);
     let mut r = random::next(g);
     for step in 0u32..40 {
-        let made = calls::made(b, call::some_call(r, n, 4));
+        let made = calls::made(b, call::some_call(r, p, 4));
         b = made.board;
-        r = random::next(random::next(random::next(random::next(random::next(r)))));
+        r = call::drawn(r);
     }
     b
 }
 
-// A sound board taken for a damaged one: what it replies has to be reported, or the test could not fail.
-fn planted(tally: Tally, b: Board) -> Tally {
-    let mut t = tally;
-    for k in 0..KINDS_OF_CALL {
-        if k != LOOK {
-            t = tally::planted(t, !is_right(reply_of(b, k), k, true));
-        }
+// The changes of damage.rt, then those of group_records.rt.
+fn nth_damage(b: Board, kind: u32, g: Random) -> Damaged {
+    if kind < damage::KINDS {
+        return damage::nth_damage(b, kind, g);
     }
-    t
+    group_records::nth_damage(b, kind - damage::KINDS, g)
 }
 
-// The board as it is, and then with each damage.
+// The board as it is, and then with each change.
 fn tried_all(tally: Tally, b: Board, g: Random) -> Tally {
     let sound = Damaged {
         is_damaged: false,
         board: b,
     };
-    let mut t = tried(planted(tally, b), sound);
-    for kind in 0..damage::KINDS {
-        t = tried(t, damage::nth_damage(b, kind, g));
+    let mut t = tried(tally, sound);
+    for kind in 0..damage::KINDS + group_records::KINDS {
+        t = tried(t, nth_damage(b, kind, g));
     }
     t
 }

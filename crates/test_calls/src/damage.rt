@@ -1,7 +1,7 @@
 // A board with one field changed: document 01's list for 15, and places that nobody may look at.
 use board::Board;
 use board::UndoRecord;
-use harness::boards;
+use harness::records;
 use reference::access;
 use reference::log::RECORDS;
 use reference::problem;
@@ -34,11 +34,29 @@ fn other_vertex(g: Random, n: u32, v: u32) -> u32 {
     access::plus(v, access::plus(random::below(g, n - 1), 1)) % n
 }
 
-fn with_cell(b: Board, tail: u32, head: u32, weight: u32, mark: u8) -> Board {
+pub struct Arc {
+    pub tail: u32,
+    pub head: u32,
+}
+
+// An arc that there can be, for n of 2 or more. It takes two steps of the generator.
+pub fn some_arc(g: Random, n: u32, root: u32) -> Arc {
+    let head = other_vertex(g, n, root);
+    Arc {
+        tail: other_vertex(random::next(g), n, head),
+        head: head,
+    }
+}
+
+// The board with that in a cell. Where it is no arc then, the history goes, which may name it.
+pub fn with_cell(b: Board, tail: u32, head: u32, weight: u32, mark: u8) -> Board {
     let mut c = b;
     let at = problem::cell(tail, head);
     c.weights[at] = weight;
     c.marks[at] = mark;
+    if weight == NO_ARC {
+        c.count = 0;
+    }
     c
 }
 
@@ -49,7 +67,7 @@ fn with_budget(b: Board, budget: u32) -> Board {
 }
 
 // One record of the history replaced; one is made if there is none.
-fn with_record(b: Board, g: Random, record: UndoRecord) -> Board {
+pub fn with_record(b: Board, g: Random, record: UndoRecord) -> Board {
     let mut c = b;
     if c.count == 0 {
         c.count = 1;
@@ -101,14 +119,14 @@ fn bad_mark(kind: u32) -> u8 {
 // A record that names no arc, or restores a value out of its range; and two that are lawful.
 fn nth_record(kind: u32, n: u32, root: u32, tail: u32, head: u32) -> UndoRecord {
     match kind {
-        15 => boards::mark_record(n, head, 0),
-        16 => boards::mark_record(tail, tail, 0),
-        17 => boards::mark_record(head, root, 0),
-        18 => boards::mark_record(tail, head, 0),
-        19 => boards::mark_record(tail, head, 3),
-        20 => boards::budget_record(MAX_BUDGET + 1),
-        24 => boards::mark_record(tail, head, 2),
-        _ => boards::budget_record(MAX_BUDGET),
+        15 => records::mark_record(n, head, 0),
+        16 => records::mark_record(tail, tail, 0),
+        17 => records::mark_record(head, root, 0),
+        18 => records::mark_record(tail, head, 0),
+        19 => records::mark_record(tail, head, 3),
+        20 => records::budget_record(MAX_BUDGET + 1),
+        24 => records::mark_record(tail, head, 2),
+        _ => records::budget_record(MAX_BUDGET),
     }
 }
 
@@ -127,7 +145,7 @@ fn with_rubbish_record(b: Board) -> Board {
     let mut c = b;
     if c.count < RECORDS {
         let at = c.count;
-        c.records[at] = boards::mark_record(250, 251, 252);
+        c.records[at] = records::mark_record(250, 251, 252);
     }
     c
 }
@@ -147,8 +165,9 @@ fn sound(b: Board, kind: u32, g: Random, tail: u32, head: u32) -> Board {
 
 // The board with the change of that kind, at an arc that the generator picks.
 fn changed(b: Board, kind: u32, g: Random) -> Board {
-    let head = other_vertex(g, b.n, b.root);
-    let tail = other_vertex(random::next(g), b.n, head);
+    let arc = some_arc(g, b.n, b.root);
+    let tail = arc.tail;
+    let head = arc.head;
     let h = random::next(random::next(g));
     if kind < CELLS_FROM {
         return number_damaged(b, kind);

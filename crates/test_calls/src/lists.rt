@@ -1,6 +1,6 @@
 // Random lists of calls on boards opened from cards, with looks and writes between, against the log: every answer, what
 // a look shows, and the bytes of a written card.
-use harness::calls;
+use harness::boards;
 use harness::replies;
 use harness::session;
 use harness::session::Session;
@@ -8,6 +8,7 @@ use reference::access;
 use reference::call;
 use reference::call::Call;
 use reference::problem::MAX_BUDGET;
+use reference::problem::Problem;
 use reference::random;
 use reference::random::Random;
 use reference::sample;
@@ -19,11 +20,15 @@ const LISTS: u32 = 3;
 
 const CALLS: u32 = 4;
 
-const LOOKS: u32 = 5;
+const GROUPS: u32 = 5;
 
-const WRITES: u32 = 6;
+const ACCEPTED: u32 = 6;
 
-const ANSWERS: u32 = 7;
+const LOOKS: u32 = 7;
+
+const WRITES: u32 = 8;
+
+const ANSWERS: u32 = 9;
 
 // Where a list has come to, and what was counted on the way.
 struct Progress {
@@ -32,7 +37,7 @@ struct Progress {
 }
 
 // The call of a step: in a crowded list the first ones are budgets, so that the 200 records are reached.
-fn nth_call(g: Random, n: u32, crowded: bool, step: u32) -> Call {
+fn nth_call(g: Random, card: Problem, crowded: bool, step: u32) -> Call {
     if crowded {
         if step < 190 {
             return Call {
@@ -41,9 +46,9 @@ fn nth_call(g: Random, n: u32, crowded: bool, step: u32) -> Call {
                 second: 0,
             };
         }
-        return call::some_call(g, n, 2);
+        return call::some_call(g, card, 2);
     }
-    call::some_call(g, n, 5)
+    call::some_call(g, card, 5)
 }
 
 // Now and then a look or a write. They leave the board as it was.
@@ -58,27 +63,52 @@ fn between(tally: Tally, s: Session, dice: u32) -> Tally {
     t
 }
 
-// One call, held to the log's answer and then to another, which has to be reported; and what comes after it.
-fn stepped(p: Progress, n: u32, crowded: bool, seed: u32, step: u32) -> Progress {
-    let g = random::seeded(access::plus(seed, step));
+// Counts what kind of call was made, and the answer to it.
+fn counted(tally: Tally, kind: u32, answer: u32) -> Tally {
+    let t = tally::with(tally, access::plus(ANSWERS, answer), 1);
+    if !call::is_group(kind) {
+        return t;
+    }
+    let u = tally::with(t, GROUPS, 1);
+    if answer == 0 {
+        return tally::with(u, ACCEPTED, 1);
+    }
+    u
+}
+
+// One call, held to the log's answer and then to another, which has to be reported.
+fn called(p: Progress, c: Call) -> Progress {
     let before = p.session;
-    let c = session::with_call(before, nth_call(random::next(g), n, crowded, step));
-    let reply = c.reply;
-    let answer = c.log_answer;
+    let made = session::with_call(before, c);
+    let reply = made.reply;
+    let answer = made.log_answer;
     let t = tally::checked(p.tally, CALLS, replies::is_reply(reply, answer));
     let u = tally::planted(t, !replies::is_reply(reply, access::plus(answer, 1)));
-    let v = tally::with(u, access::plus(ANSWERS, answer), 1);
-    let s = c.session;
+    let s = made.session;
     Progress {
         session: s,
-        tally: between(v, s, random::below(g, 20)),
+        tally: counted(u, c.kind, answer),
     }
 }
 
-fn list_of_calls(start: Progress, n: u32, crowded: bool, seed: u32, length: u32) -> Progress {
+// The call of a step, and what comes after it.
+fn stepped(p: Progress, crowded: bool, seed: u32, step: u32) -> Progress {
+    let g = random::seeded(access::plus(seed, step));
+    let before = p.session;
+    let card = before.card;
+    let after = called(p, nth_call(random::next(g), card, crowded, step));
+    let s = after.session;
+    let t = after.tally;
+    Progress {
+        session: s,
+        tally: between(t, s, random::below(g, 20)),
+    }
+}
+
+fn list_of_calls(start: Progress, crowded: bool, seed: u32, length: u32) -> Progress {
     let mut p = start;
     for step in 0..length {
-        p = stepped(p, n, crowded, seed, step);
+        p = stepped(p, crowded, seed, step);
     }
     p
 }
@@ -97,26 +127,45 @@ fn length_of(g: Random, crowded: bool) -> u32 {
     random::below(random::next(g), 61)
 }
 
-// A call on the board that the log does not know: what is written then has to be reported.
-fn planted(tally: Tally, s: Session) -> Tally {
-    let now = session::problem_now(s);
-    let c = Call {
-        kind: call::BUDGET,
-        first: access::plus(now.budget % MAX_BUDGET, 1),
-        second: 0,
-    };
-    let board = s.board;
-    let made = calls::made(board, c);
-    if made.answer != 0 {
+// A call on the board that the log does not know: where it changes something, what is written then has to be reported.
+fn planted_call(tally: Tally, s: Session, c: Call) -> Tally {
+    let made = session::with_call(s, c);
+    let after = made.session;
+    if boards::equal_problems(session::problem_now(s), session::problem_now(after), false) {
         return tally;
     }
     let mut wrong = s;
-    let changed = made.board;
+    let changed = after.board;
     wrong.board = changed;
     tally::planted(tally, !session::write_right(wrong))
 }
 
-// One list: the card is opened, the calls are made, and the last board is looked at and written.
+// A budget press and a group press that the log does not know.
+fn planted(tally: Tally, s: Session, g: Random) -> Tally {
+    let now = session::problem_now(s);
+    let budget = Call {
+        kind: call::BUDGET,
+        first: access::plus(now.budget % MAX_BUDGET, 1),
+        second: 0,
+    };
+    let t = planted_call(tally, s, budget);
+    planted_call(t, s, call::some_group(g, now, call::PIN_GROUP))
+}
+
+// Every standing press taken back, and one take-back more, which is refused. The log says then that the board is
+// written as its card was.
+fn unwound(start: Progress) -> Progress {
+    let s = start.session;
+    let log = s.log;
+    let count = access::plus(log.count, 1);
+    let mut p = start;
+    for k in 0..count {
+        p = called(p, call::take_back());
+    }
+    p
+}
+
+// One list: the card is opened, the calls are made, the last board is looked at and written; then all is taken back.
 fn one_list(tally: Tally, k: u32) -> Tally {
     let card = sample::small_instance(k);
     let crowded = k % 20 == 0;
@@ -125,11 +174,15 @@ fn one_list(tally: Tally, k: u32) -> Tally {
         session: session::opened(card),
         tally: tally::with(tally, LISTS, 1),
     };
-    let length = length_of(random::seeded(seed), crowded);
-    let end = list_of_calls(start, card.n, crowded, seed, length);
+    let g = random::seeded(seed);
+    let end = list_of_calls(start, crowded, seed, length_of(g, crowded));
     let s = end.session;
     let t = end.tally;
-    planted(between(t, s, 0), s)
+    let last = unwound(Progress {
+        session: s,
+        tally: planted(between(t, s, 0), s, g),
+    });
+    between(last.tally, last.session, 0)
 }
 
 fn run(count: u32) -> Tally {
@@ -143,7 +196,8 @@ fn run(count: u32) -> Tally {
 pub fn all() {
     tally::report(
         run(2000),
-        b"lists\ncalls\nlooks\nwrites\nanswer 0:\nanswer 1:\nanswer 2:\nanswer 3:\nanswer 4:\nanswer 5:\nanswer 6:\n\
+        b"lists\ncalls\ngroup presses\nof these accepted\nlooks\nwrites\n\
+        answer 0:\nanswer 1:\nanswer 2:\nanswer 3:\nanswer 4:\nanswer 5:\nanswer 6:\n\
         answer 7:\nanswer 8:\nanswer 9:\nanswer 10:\nanswer 11:\nanswer 12:\nanswer 13:\n",
     );
 }

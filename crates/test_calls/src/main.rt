@@ -1,13 +1,21 @@
-// Calls: random lists of them against the log, one by one and handed over whole; on damaged boards; on damaged cards.
+// Calls: random lists of them against the log, one by one and handed over whole; group presses against single ones, and
+// taken back; calls on damaged boards; on damaged cards.
 mod boards; // boards.rt: damaged boards
 mod cards; // cards.rt: random and damaged cards
 mod damage; // damage.rt: a board with one field changed
+mod faults; // faults.rt: a board with a fault planted
+mod group_records; // group_records.rt: records of group presses, sound and damaged
+mod groups; // groups.rt: group presses against single ones
 mod lists; // lists.rt: lists of calls
 mod replays; // replays.rt: lists of calls handed over whole
+mod restores; // restores.rt: records of group presses taken back
+mod singles; // singles.rt: single presses on the members of a group
 
 fn main() {
     lists::all();
     replays::all();
+    groups::all();
+    restores::all();
     boards::all();
     cards::all();
 }

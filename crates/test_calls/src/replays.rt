@@ -30,19 +30,29 @@ const REPLAYED: u32 = 3;
 
 const REFUSED: u32 = 4;
 
-// Kinds of a look and a write, beside those of the calls that change a board.
+// Kinds of a look and a write, beside those of the calls that change a board. Every kind from ten on writes too.
 const LOOK: u32 = 5;
+
+const WRITE: u32 = 6;
+
+const WRITES_FROM: u32 = 10;
 
 // Of 32 calls one looks and one writes.
 fn kind_or_between(g: Random, kind: u32) -> u32 {
-    let x = random::below(g, 32);
-    if x < 2 {
-        return LOOK + x;
+    match random::below(g, 64) {
+        0 | 1 => LOOK,
+        2 => WRITE,
+        3 => access::plus(WRITES_FROM, random::below(random::next(g), 246)),
+        _ => kind,
     }
-    kind
 }
 
-fn some_list(seed: Random, n: u32) -> Calls {
+// Whether a call of that kind leaves the board as it is.
+fn is_between(kind: u32) -> bool {
+    kind == LOOK || kind == WRITE || WRITES_FROM <= kind
+}
+
+fn some_list(seed: Random, p: Problem) -> Calls {
     let mut l = Calls {
         kinds: [0; CALLS],
         firsts: [0; CALLS],
@@ -50,12 +60,12 @@ fn some_list(seed: Random, n: u32) -> Calls {
     };
     let mut g = seed;
     for k in 0..CALLS {
-        let c = call::some_call(g, n, 4);
-        g = random::next(random::next(random::next(random::next(random::next(g)))));
+        let c = call::some_call(g, p, 4);
+        g = call::drawn(g);
         l.kinds[k] = access::narrow(kind_or_between(g, c.kind));
         l.firsts[k] = c.first;
         l.seconds[k] = c.second;
-        g = random::next(g);
+        g = random::next(random::next(g));
     }
     l
 }
@@ -83,7 +93,7 @@ struct Reading {
 
 fn after_call(r: Reading, p: Problem, c: Call, answer: u32) -> Reading {
     let log = r.log;
-    if LOOK <= c.kind {
+    if is_between(c.kind) {
         return Reading {
             log: log,
             right: r.right && answer == 0,
@@ -177,7 +187,7 @@ fn tried_refused(tally: Tally, c: Card, list: Calls, n: u32) -> Tally {
 // A list from a card, and the same with one call changed, which has to be reported; then the refusals.
 fn tried(tally: Tally, p: Problem, g: Random) -> Tally {
     let c = card::build(p);
-    let list = some_list(g, p.n);
+    let list = some_list(g, p);
     let other = with_other_call(list, random::below(g, CALLS as u32));
     let whole = replays::whole();
     let t = tally::checked(

@@ -1,6 +1,6 @@
 // The documents' own cases, one to a line of the standard input, held against the reference and against the planner:
 // the worked outcomes with their trees, states and cards, every refusal from 1 to 15 but 6 with what it leaves behind,
-// the 200 records, plans made elsewhere.
+// the 200 records, group presses, plans made elsewhere.
 use crate::buffer_lines;
 use crate::look_lines;
 use harness::boards;
@@ -36,8 +36,8 @@ fn called(line: Line, s: Session) -> Called {
     last
 }
 
-// "mark 1 on 2 1: 0", "budget 16: 0", "take-back: 13": the board's answer is the line's, and the log's is the same. 15
-// is no answer of the log's, which knows the card alone.
+// "mark 1 on 2 1: 0", "group 1 on 2, set 10: 0", "budget 16: 0", "take-back: 13": the board's answer is the line's, and
+// the log's is the same. 15 is no answer of the log's, which knows the card alone.
 fn answer_right(line: Line, s: Session) -> bool {
     let answer = script::expected(line, 1);
     let c = called(line, s);
@@ -54,7 +54,7 @@ fn answer_right(line: Line, s: Session) -> bool {
 fn is_right(line: Line, s: Session) -> bool {
     let first = line.first;
     match first {
-        b'm' | b'b' | b't' => answer_right(line, s),
+        b'm' | b'g' | b'b' | b't' => answer_right(line, s),
         b'p' => look_lines::outcome_right(line, s, outcome::PLAN),
         b'o' => look_lines::outcome_right(line, s, outcome::OVER),
         b'n' => look_lines::outcome_right(line, s, outcome::NONE),
@@ -88,7 +88,7 @@ fn after(line: Line, s: Session) -> Session {
             script::number(line, 1),
         )),
         b'D' => damaged(),
-        b'm' | b'b' | b't' => session_of(called(line, s)),
+        b'm' | b'g' | b'b' | b't' => session_of(called(line, s)),
         _ => s,
     }
 }

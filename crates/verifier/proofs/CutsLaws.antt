@@ -4,14 +4,12 @@ use mathlib.Core.Path.{_≡_, refl, sym, ap, _∙_}
 use mathlib.Core.Bool.{Bool, true, false, _&&_, not, cond}
 use mathlib.Core.List.{List, [], _∷_}
 use mathlib.Core.Logic.{_≢_}
-use Prim.Native.Nat.{ℕ, _+_, _*_, _-_, _/_, _^_, _≤_, _<_}
+use Prim.Native.Nat.{ℕ, _+_, _*_, _-_, _^_, _≤_, _<_}
 use native.Mathlib.Omega.{arith}
-use native.Mathlib.Nat.{div-lt-iff-lt-mul, div-eq-of-lt}
 use lib.Dec.{ltb, leb, eqb}
 use lib.ListN.{length, getD}
-use lib.Pow.{pow-pos}
-use borrow.Author.Tests.{lt-ltb, le-ltb, ltb-true, ltb-false, le-leb}
-use Rattle.base.proofs.BoolLaws.{is-false, and-false-right}
+use borrow.Author.Tests.{lt-ltb, le-leb}
+use Rattle.base.proofs.BoolLaws.{and-false-right}
 use Rattle.instance.specs.Limits.{cells, max-cuts}
 use Rattle.instance.specs.Instance.{Instance, cell, weight, is-arc}
 use Rattle.instance.specs.Arborescence.{if-remaining}
@@ -29,17 +27,13 @@ module _ (s : Instance) (c : ℕ) where
   unfolding set-ok
   empty-set e = rw e
 
-  pub large-set : c / 2 ^ s .n ≢ 0 → false ≡ set-ok s c
+  pub large-set : ltb c (2 ^ s .n) ≡ false → false ≡ set-ok s c
   unfolding set-ok
-  large-set e =
-      let past : 2 ^ s .n ≤ c = ltb-false c (2 ^ s .n) (is-false (ltb c (2 ^ s .n)) (λ l. e (div-eq-of-lt (ltb-true c (2 ^ s .n) l)))) in
-      sym (rw (le-ltb c (2 ^ s .n) past, and-false-right (ltb 0 c) false refl))
+  large-set e = sym (rw (e, and-false-right (ltb 0 c) false refl))
 
-  pub judged-set : c ≢ 0 → c / 2 ^ s .n ≡ 0 → not (inside c (s .root)) ≡ set-ok s c
+  pub judged-set : c ≢ 0 → ltb c (2 ^ s .n) ≡ true → not (inside c (s .root)) ≡ set-ok s c
   unfolding set-ok
-  judged-set z e =
-      let below : c < 2 ^ s .n = omega (arith, div-lt-iff-lt-mul {k = 2 ^ s .n} {x = c} {y = 1} (pow-pos (s .n)) .0 (omega arith)) in
-      sym (rw (lt-ltb 0 c (omega arith), lt-ltb c (2 ^ s .n) below))
+  judged-set z e = sym (rw (lt-ltb 0 c (omega arith), e))
 
 abbrev pub Judging : Instance → (words : List ℕ) → (count k : ℕ) → Type 0
 Judging s ws count k = (k ≤ count) × (sets-ok s (cuts-in count ws) ≡ sets-ok s (cuts-from (count - k) k ws))

@@ -9,22 +9,16 @@ ghost use lib.Dec.{leb, eqb};
 ghost use lib.ListN.{length, getD};
 ghost use Rattle.instance.specs.Limits.{max-vertices, cells, max-cuts};
 ghost use Rattle.instance.specs.Arborescence.{if-remaining};
-ghost use Rattle.instance.specs.Cuts.{cuts-in, inside, enters, charged, values, set-ok, sets-ok};
+ghost use Rattle.instance.specs.Cuts.{cuts-in, enters, charged, values, set-ok, sets-ok};
 ghost use Rattle.instance.specs.Matrix.{unmarked};
 ghost use Rattle.certificate.specs.Certificate.{covered, none-overcharged};
 ghost use Rattle.verifier.specs.Selected.{Selects, covered-into};
 use checks::arc::is_arc;
+use checks::sets::is_below;
+use checks::sets::is_inside;
 use instance::limits::CELLS;
 use instance::limits::CUT_WORDS;
 use instance::limits::MAX_CUTS;
-
-// Whether a vertex is in a set.
-fn is_inside(set: u32, vertex: u32) -> bool
-    requires { ⌜ vertex < max-vertices ⌝ }
-    ensures { λ r. ⌜ r ≡ inside set vertex ⌝ }
-{
-    (set >> vertex) % 2 == 1
-}
 
 // Whether a set is that of a cut: not empty, of the n vertices, without the root.
 fn is_cut(set: u32, n: u32, root: u32) -> bool
@@ -34,7 +28,7 @@ fn is_cut(set: u32, n: u32, root: u32) -> bool
     if set == 0 {
         return false;
     }
-    if (set as u64) >> n != 0 {
+    if !is_below(set, n) {
         return false;
     }
     !is_inside(set, root)

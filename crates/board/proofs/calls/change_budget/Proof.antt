@@ -26,7 +26,7 @@ unfolding budgeted budget-refusal decided
 returns-3 c =
     let e = c .before in
     let g = c .recorded .ensures in
-    answers-accepted _ _ _ g _ _ _ (simp (le-ltb _ _ (e .before .if1 .left), length-history, lt-leb _ _ (e .if2 .left)))
+    answers-accepted _ _ _ g refl _ _ _ (simp (le-ltb _ _ (e .before .if1 .left), length-history, lt-leb _ _ (e .if2 .left)))
     (ap (with-budget (e .before .before .args .budget)) (g .instance)) refl refl
 
 pub change-budget-spec : {M : Type 1} → statement M

@@ -5,7 +5,7 @@ use borrow.Author.Tests.{not-true, not-false}
 use borrow.Author.Needs.{needs}
 use Rattle.instance.specs.Refusals.{invalid-board}
 use Rattle.commands.specs.Valid.{valid}
-use Rattle.commands.specs.Commands.{set-mark, set-budget, undo, applied, answered}
+use Rattle.commands.specs.Commands.{set-mark, set-marks, set-budget, undo, applied, answered}
 use Rattle.board.specs.ModelOf.{model-of}
 use Rattle.commands.proofs.ValidLaws.{valid-parts}
 use Rattle.board.proofs.CallLaws.{answers-refused, answers-valid}
@@ -31,6 +31,12 @@ set-mark-requires c κs = valid-parts _ (board-valid (c .before .before .before)
 enum-known-command-2 : tie.Need-enum-known-command-2
 enum-known-command-2 c = search needs
 
+set-marks-requires : tie.Need-set-marks-requires
+set-marks-requires c κs = board-valid (c .before .before .before)
+
+enum-known-command-3 : tie.Need-enum-known-command-3
+enum-known-command-3 c = search needs
+
 change-budget-requires : tie.Need-change-budget-requires
 change-budget-requires c κs = search needs
 
@@ -53,11 +59,19 @@ unfolding applied
 returns-3 c =
     let e = c .before .before .before .before in
     let v = c .before .before .command2 .given in
-    rw (v .1) (answers-valid (set-budget (v .0 .0)) (e .before .before .args .b) (c .change-budget .result) (board-valid e) (c .change-budget .ensures))
+    rw (v .1)
+    (answers-valid (set-marks (v .0 .0) (v .0 .1 .0 .0) (v .0 .1 .1 .0)) (e .before .before .args .b) (c .set-marks .result) (board-valid e) (c .set-marks .ensures))
 
 returns-4 : tie.Need-returns-4
 unfolding applied
 returns-4 c =
+    let e = c .before .before .before .before in
+    let v = c .before .before .command3 .given in
+    rw (v .1) (answers-valid (set-budget (v .0 .0)) (e .before .before .args .b) (c .change-budget .result) (board-valid e) (c .change-budget .ensures))
+
+returns-5 : tie.Need-returns-5
+unfolding applied
+returns-5 c =
     let e = c .before .before .before in
     rw (c .before .enum-told .given .1)
     (answers-valid undo (e .before .before .args .b) (c .undo-latest .result) (board-valid e) (c .undo-latest .ensures))
@@ -71,9 +85,12 @@ execute-spec =
     enum-known-command
     set-mark-requires
     enum-known-command-2
+    set-marks-requires
+    enum-known-command-3
     change-budget-requires
     enum-told
     undo-latest-requires
     returns-2
     returns-3
-    returns-4)
+    returns-4
+    returns-5)

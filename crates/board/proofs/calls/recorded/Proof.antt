@@ -5,7 +5,6 @@ use native.Mathlib.Omega.{arith}
 use lib.ListN.{length}
 use borrow.Author.Needs.{needs}
 use Rattle.board.proofs.ModelOfLaws.{history-more, known}
-use Rattle.board.proofs.CallLaws.{record-of-replaced}
 use Rattle.board.proofs.calls.recorded.Statement.{statement}
 use Rattle.board.proofs.calls.recorded.Tie as tie
 
@@ -23,7 +22,7 @@ returns c =
     let b = c .args .b in
     let k = known b _ (c .good .0) in
     let h : b .count < length (b .records) = omega (arith, k) in
-    record { instance = refl; records = rw (record-of-replaced (c .args .replaced)); history = history-more (b .count) (b .records) (record { replaced = c .args .replaced }) h }
+    record { instance = refl; records = refl; history = history-more (b .count) (b .records) (record { replaced = c .args .replaced }) h }
 
 pub recorded-spec : {M : Type 1} → statement M
 recorded-spec = tie.close (tie.spec mul-t6 element-set-from-next add-next returns)

@@ -81,7 +81,7 @@ returns-2 c =
     let e = c .before .before .before in
     let a = start (e .before) .args in
     let g = c .recorded .ensures in
-    answers-accepted _ _ _ g _ _ _ (mark-accepted (a .mark) (a .tail) (a .head) (model-of (a .t1)) (sym (number (e .before)) ∙ e .if1 .left))
+    answers-accepted _ _ _ g refl _ _ _ (mark-accepted (a .mark) (a .tail) (a .head) (model-of (a .t1)) (sym (number (e .before)) ∙ e .if1 .left))
     (rw (← c .before .before .mark-number .ensures) (ap (with-mark _ (a .tail) (a .head)) (g .instance))) refl refl
 
 pub set-mark-spec : {M : Type 1} → statement M

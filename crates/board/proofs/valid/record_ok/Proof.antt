@@ -19,6 +19,15 @@ is-arc-requires c κs = search needs
 enum-known-replaced-2 : tie.Need-enum-known-replaced-2
 enum-known-replaced-2 c = search needs
 
+enum-known-replaced-3 : tie.Need-enum-known-replaced-3
+enum-known-replaced-3 c = search needs
+
+cast-are-heads-ok : tie.Need-cast-are-heads-ok
+cast-are-heads-ok c = search needs
+
+are-heads-ok-requires : tie.Need-are-heads-ok-requires
+are-heads-ok-requires c κs = search needs
+
 returns : tie.Need-returns
 unfolding record-ok
 returns c = rw (c .before .before .before .replaced .given .1) (simp (← c .before .is-arc .ensures, c .if1 .taken))
@@ -31,6 +40,9 @@ returns-3 : tie.Need-returns-3
 unfolding record-ok
 returns-3 c = rw (c .before .replaced2 .given .1)
 
+returns-4 : tie.Need-returns-4
+returns-4 c = rw (c .before .before .replaced3 .given .1) (c .are-heads-ok .ensures)
+
 pub record-ok-spec : {M : Type 1} → statement M
 record-ok-spec =
     tie.close
@@ -40,6 +52,10 @@ record-ok-spec =
     cast-is-arc-2
     is-arc-requires
     enum-known-replaced-2
+    enum-known-replaced-3
+    cast-are-heads-ok
+    are-heads-ok-requires
     returns
     returns-2
-    returns-3)
+    returns-3
+    returns-4)

@@ -5,10 +5,10 @@ use Rattle.test_calls.proofs.boards.some_board.Statement.{statement}
 use Rattle.test_calls.proofs.boards.some_board.Tie as tie
 
 abbrev Inv-loop : tie.InvT-loop
-Inv-loop k n b₀ r₀ step₀ b r step = Unit
+Inv-loop k p b₀ r₀ step₀ b r step = Unit
 
 abbrev μ-loop : tie.MeasureT-loop
-μ-loop k n b₀ r₀ step₀ b r step = 40 - step
+μ-loop k p b₀ r₀ step₀ b r step = 40 - step
 
 pub some-board-spec : {M : Type 1} → statement M
 some-board-spec =
@@ -22,10 +22,6 @@ some-board-spec =
     (λ c κs. search needs)
     (λ c κs. search needs)
     (λ c. search needs)
-    (λ c κs. search needs)
-    (λ c κs. search needs)
-    (λ c κs. search needs)
-    (λ c κs. search needs)
     (λ c κs. search needs)
     (λ c κs. search needs)
     (λ c κs. search needs)

@@ -8,7 +8,7 @@ abbrev Inv-loop : tie.InvT-loop
 Inv-loop b g t₀ kind₀ t kind = Unit
 
 abbrev μ-loop : tie.MeasureT-loop
-μ-loop b g t₀ kind₀ t kind = 28 - kind
+μ-loop b g t₀ kind₀ t kind = 39 - kind
 
 pub tried-all-spec : {M : Type 1} → statement M
 tried-all-spec =
@@ -16,7 +16,6 @@ tried-all-spec =
     (tie.spec
     Inv-loop
     μ-loop
-    (λ c κs. search needs)
     (λ c κs. search needs)
     (λ c. search needs)
     (λ c κs. search needs)

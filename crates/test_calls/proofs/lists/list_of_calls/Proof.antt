@@ -5,10 +5,10 @@ use Rattle.test_calls.proofs.lists.list_of_calls.Statement.{statement}
 use Rattle.test_calls.proofs.lists.list_of_calls.Tie as tie
 
 abbrev Inv-loop : tie.InvT-loop
-Inv-loop n crowded seed length p₀ step₀ p step = Unit
+Inv-loop crowded seed length p₀ step₀ p step = Unit
 
 abbrev μ-loop : tie.MeasureT-loop
-μ-loop n crowded seed length p₀ step₀ p step = length - step
+μ-loop crowded seed length p₀ step₀ p step = length - step
 
 pub list-of-calls-spec : {M : Type 1} → statement M
 list-of-calls-spec =

@@ -1,14 +1,14 @@
--- `test_calls::boards::planted` is safe and ends.
+-- `test_calls::groups::planted` is safe and ends.
 use Prim.Native.Nat.{_-_}
 use borrow.Author.Needs.{needs}
-use Rattle.test_calls.proofs.boards.planted.Statement.{statement}
-use Rattle.test_calls.proofs.boards.planted.Tie as tie
+use Rattle.test_calls.proofs.groups.planted.Statement.{statement}
+use Rattle.test_calls.proofs.groups.planted.Tie as tie
 
 abbrev Inv-loop : tie.InvT-loop
-Inv-loop b t₀ k₀ t k = Unit
+Inv-loop made before s c head t₀ after kind₀ t kind = Unit
 
 abbrev μ-loop : tie.MeasureT-loop
-μ-loop b t₀ k₀ t k = 12 - k
+μ-loop made before s c head t₀ after kind₀ t kind = 7 - kind
 
 pub planted-spec : {M : Type 1} → statement M
 planted-spec =
@@ -16,6 +16,9 @@ planted-spec =
     (tie.spec
     Inv-loop
     μ-loop
+    (λ c κs. search needs)
+    (λ c κs. search needs)
+    (λ c κs. search needs)
     (λ c. search needs)
     (λ c κs. search needs)
     (λ c κs. search needs)

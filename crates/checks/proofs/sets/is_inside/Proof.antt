@@ -2,8 +2,8 @@
 use mathlib.Core.Path.{refl}
 use borrow.Author.Needs.{needs}
 use Rattle.instance.specs.Cuts.{inside}
-use Rattle.verifier.proofs.cuts.is_inside.Statement.{statement}
-use Rattle.verifier.proofs.cuts.is_inside.Tie as tie
+use Rattle.checks.proofs.sets.is_inside.Statement.{statement}
+use Rattle.checks.proofs.sets.is_inside.Tie as tie
 
 shr-result : tie.Need-shr-result
 shr-result c = search needs

@@ -1,0 +1,2 @@
+-- Sets of heads and marks of two bits a head, put together and read again. Assumes nothing.
+pub mod HeadsLaws
