@@ -28,7 +28,7 @@ use Rattle.board.specs.declared.Replaced.the-variants.{OldMarks}
 use Rattle.board.specs.ModelOf.{replaced-of, model-of, instance-of}
 use Rattle.board.specs.Calls.{record-of}
 use Rattle.board.proofs.ModelOfLaws.{length-history}
-use Rattle.heads.proofs.HeadsLaws.{old-at, marks-in-is, marks-in-made, every-head, each-digit}
+use Rattle.heads.proofs.RecordMarksLaws.{old-at, record-marks-is, record-marks-made, every-head, each-digit}
 
 module _ (b : Board) (ok : valid (model-of b) ≡ true) (t c : ℕ) where
   abbrev pub named : ℕ → Bool
@@ -64,7 +64,7 @@ module _ (b : Board) (ok : valid (model-of b) ≡ true) (t c : ℕ) where
       old-is = o ∙ ap (λ (x : ℕ). from-digits 4 max-vertices (λ h. cond (inside x h) (getD (b .marks) (cell t h) free) free)) arcs-are
 
       pub record-made : record-of (replaced-of (OldMarks t arcs old)) ≡ record { replaced = OldMarks t arcs old }
-      record-made = rw arcs-are (λ j. record { replaced = OldMarks t (heads-of named) (marks-in-made (instance-of b) t named marks-low old old-is j) })
+      record-made = rw arcs-are (λ j. record { replaced = OldMarks t (heads-of named) (record-marks-made (instance-of b) t named marks-low old old-is j) })
 
       pub accepted-is :
           (m : Mark) → marks-refusal (instance-of b) (length (model-of b .history)) t c ≡ 0 →
@@ -72,7 +72,7 @@ module _ (b : Board) (ok : valid (model-of b) ≡ true) (t c : ℕ) where
       accepted-is m z =
           marks-accepted m t c (model-of b) z
           ∙ rw arcs-are
-          (λ j. accepted (old-marks t (heads-of named) (sym (marks-in-is (instance-of b) t named marks-low old old-is) j)) (with-marks t named (λ h. mark-number m) (instance-of b)) (model-of b))
+          (λ j. accepted (old-marks t (heads-of named) (sym (record-marks-is (instance-of b) t named marks-low old old-is) j)) (with-marks t named (λ h. mark-number m) (instance-of b)) (model-of b))
 
     -- the marks
     pub put-is-all :

@@ -3,7 +3,7 @@ use mathlib.Core.List.{List, [], _∷_}
 use Prim.Native.Nat.{ℕ, zero, suc}
 use lib.ListN.{getD}
 use Rattle.instance.specs.Instance.{Instance, instance-with}
-use Rattle.heads.specs.MarksIn.{marks-in}
+use Rattle.heads.specs.RecordMarks.{record-marks}
 use Rattle.commands.specs.Model.{Model, Replaced, old-mark, old-marks, old-budget}
 use Rattle.commands.specs.Commands.{Result, Command, set-mark, set-marks, set-budget, undo}
 use Rattle.board.specs.declared.Board.{Board}
@@ -18,7 +18,7 @@ use Rattle.board.specs.declared.Command.the-variants.{SetMark, SetMarks,
 abbrev pub replaced-of : declared-replaced.Replaced → Replaced
 replaced-of (OldMark t h m) = old-mark t h m
 replaced-of (OldBudget v) = old-budget v
-replaced-of (OldMarks t c v) = old-marks t c (marks-in c v)
+replaced-of (OldMarks t c v) = old-marks t c (record-marks c v)
 
 abbrev pub blank-record : UndoRecord
 blank-record = record { replaced = OldMark 0 0 0 }

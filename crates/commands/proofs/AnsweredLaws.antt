@@ -1,6 +1,6 @@
 -- Every command on a valid board leaves a valid one. A new mark goes to an arc, whose weight a valid board has in
--- range; what is recorded is the mark or the budget of a valid board; what undo restores was judged with the records.
--- Assumes nothing.
+-- range; what is recorded are marks of arcs, or the budget, of a valid board; what undo restores was judged with the
+-- records. Assumes nothing.
 use mathlib.Core.Path.{_≡_, refl, sym, ap, _∙_, subst}
 use mathlib.Core.Bool.{Bool, true, false, cond}
 use mathlib.Core.List.{List, [], _∷_}

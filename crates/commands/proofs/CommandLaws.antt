@@ -200,6 +200,17 @@ command-recorded (set-marks m t c) b n = marks-cases (Recorded b) b (refused-rec
 command-recorded (set-budget v) b n = budget-cases (Recorded b) b (refused-recorded b) v (λ _ _. accepted-recorded b _ _)
 command-recorded undo b n = absurd (true≢false n)
 
+-- the record of several arcs
+pub several-recorded :
+    (m : Mark) (t c : ℕ) (b : Model) → applied (set-marks m t c) b .answer ≡ 0 → let s = b .instance in let q = names-arc s t c in
+    applied (set-marks m t c) b .board .history ≡ old-marks t (heads-of q) (marks-of s t q) ∷ b .history
+unfolding applied accepted refused
+several-recorded m t c b =
+    let s = b .instance in
+    let q = names-arc s t c in
+    marks-cases (λ d. d .answer ≡ 0 → d .board .history ≡ old-marks t (heads-of q) (marks-of s t q) ∷ b .history) b
+    (λ k e. absurd (omega arith)) m t c (λ _ _ _. refl)
+
 undone-shorter : (rs : List Replaced) (b : Model) → b .history ≡ rs → length (undone rs b .board .history) ≤ length (b .history)
 unfolding undone refused
 undone-shorter [] b e = omega arith

@@ -6,8 +6,8 @@ use Rattle.commands.specs.Model.{Model}
 use Rattle.commands.specs.Commands.{Result}
 
 -- "Price and mark cells that can never be a link .. and record places past the count are never looked at, nor compared
--- when boards are called equal." The history holds no places past the count, and of a record of several arcs
--- no mark at a head that is not in its set (`marks-in`, heads/MarksIn). A board has 1,024 marks, so two boards have
+-- when boards are called equal." The history holds no places past the count, and of a record of several arcs no mark at
+-- a head that is not in its set (`record-marks`, heads/RecordMarks). A board has 1,024 marks, so two boards have
 -- equally many.
 pub record Same-board (a b : Model) : Type 0 where
   pub same-instances : Same-instance (a .instance) (b .instance)

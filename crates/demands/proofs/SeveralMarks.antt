@@ -9,16 +9,19 @@ use native.Mathlib.Omega.{arith}
 use lib.ListN.{length, replicate}
 use Rattle.instance.specs.Limits.{max-records}
 use Rattle.instance.specs.declared.Mark.{Mark}
-use Rattle.commands.specs.Model.{Model, Replaced}
+use Rattle.commands.specs.Heads.{names-arc, heads-of, marks-of}
+use Rattle.commands.specs.Model.{old-marks, Model}
 use Rattle.commands.specs.Valid.{valid}
-use Rattle.commands.specs.Commands.{Command, set-marks, undo, answered, answers, board-after}
+use Rattle.commands.specs.Commands.{Command, set-marks, undo, Result, answered, answers, board-after}
 use Rattle.commands.specs.Changes.{is-undo}
+use Rattle.commands.proofs.CommandLaws.{several-recorded}
+use Rattle.commands.proofs.AnsweredLaws.{answered-applied, accepted-valid}
 use Rattle.commands.proofs.SinglesLaws.{singles, Lists-arcs, singles-alike}
 use Rattle.board.specs.ModelOf.{model-of, instance-of, result-of}
 use Rattle.board.specs.declared.Board.{Board}
 use Rattle.board.specs.declared.Answered.{Answered}
 use Rattle.board.proofs.ModelOfLaws.{length-history}
-use Rattle.board.proofs.CallLaws.{call-board, call-answer, call-records, call-undo-restores}
+use Rattle.board.proofs.CallLaws.{call-board, call-answer, call-undo-restores}
 use Rattle.board.proofs.RunLaws.{Called, called-answers}
 use Rattle.demands.proofs.DemandThree.{Run, no-call, then-command, then-look, then-write, then-check}
 
@@ -65,15 +68,23 @@ several-alike {m} {t} {c} {hs} {b} {a} {r} l z v same names few run =
       same-instance = ap (λ (x : Model). x .instance) (n .same-board) ∙ s .same-instance ∙ ap (λ (x : Model). x .instance) (sym (call-board (set-marks m t c) b r d));
     }
 
--- "recorded as one press and taken back as one"
-pub record As-one (b : Board) (r q : Answered) : Type 0 where
-  pub one-record : (o : Replaced) × (model-of (r .board) .history ≡ o ∷ model-of b .history)
+-- "recorded as one press and taken back as one": one record, of the members that are arcs with the mark that each had
+pub record As-one (t c : ℕ) (b : Board) (r q : Answered) : Type 0 where
+  pub one-record :
+      let s = instance-of b in
+      model-of (r .board) .history ≡ old-marks t (heads-of (names-arc s t c)) (marks-of s t (names-arc s t c)) ∷ model-of b .history
   pub taken-back : result-of q ≡ record { answer = 0; board = model-of b }
 
 pub several-as-one :
-    {m : Mark} {t c : ℕ} {b : Board} {r q : Answered} → Called (set-marks m t c) b r → r .answer ≡ 0 → Called undo (r .board) q → As-one b r q
+    {m : Mark} {t c : ℕ} {b : Board} {r q : Answered} → Called (set-marks m t c) b r → r .answer ≡ 0 → Called undo (r .board) q → As-one t c b r q
 unfolding is-undo
 several-as-one {m} {t} {c} {b} {r} {q} l z u =
     let a = called-answers l in
-    let k = call-records (set-marks m t c) b r a refl z in
-    record { one-record = (k .0, k .1); taken-back = call-undo-restores (set-marks m t c) b r a refl z q (called-answers u) }
+    let y = sym (call-answer (set-marks m t c) b r a) ∙ z in
+    let k = answered-applied (set-marks m t c) (model-of b) (accepted-valid (set-marks m t c) (model-of b) y) in
+    record {
+      one-record =
+          ap (λ (x : Model). x .history) (call-board (set-marks m t c) b r a) ∙ ap (λ (d : Result). d .board .history) k
+          ∙ several-recorded m t c (model-of b) (ap (λ (d : Result). d .answer) (sym k) ∙ y);
+      taken-back = call-undo-restores (set-marks m t c) b r a refl z q (called-answers u);
+    }

@@ -72,18 +72,13 @@ pub fn equal_problems(p: Problem, q: Problem, every_cell: bool) -> bool {
     equal_headers(p, q)
 }
 
-// Whether the first so many records are equal, in every bit or in what they restore.
-fn equal_records(
-    a: [UndoRecord; RECORDS],
-    b: [UndoRecord; RECORDS],
-    count: usize,
-    every_bit: bool,
-) -> bool {
+// Whether the first so many records are equal.
+fn equal_records(a: [UndoRecord; RECORDS], b: [UndoRecord; RECORDS], count: usize) -> bool {
     for k in 0..RECORDS {
         if k < count {
             let x = a[k];
             let y = b[k];
-            if !records::equal(x, y, every_bit) {
+            if !records::equal(x, y) {
                 return false;
             }
         }
@@ -98,14 +93,13 @@ pub fn identical(a: Board, b: Board) -> bool {
     }
     let x = a.records;
     let y = b.records;
-    if !equal_records(x, y, RECORDS, true) {
+    if !equal_records(x, y, RECORDS) {
         return false;
     }
     equal_problems(problem_of(a), problem_of(b), true)
 }
 
-// Whether two boards are equal as document 01 says it: cells that can never be a link and "record places past the
-// count" are not compared, nor what a group's record holds at heads that it does not name.
+// Whether two boards have the same in every cell and the same history. "record places past the count" are not compared.
 pub fn equal(a: Board, b: Board) -> bool {
     let count = a.count;
     if count != b.count {
@@ -113,8 +107,8 @@ pub fn equal(a: Board, b: Board) -> bool {
     }
     let x = a.records;
     let y = b.records;
-    if !equal_records(x, y, count, false) {
+    if !equal_records(x, y, count) {
         return false;
     }
-    equal_problems(problem_of(a), problem_of(b), false)
+    equal_problems(problem_of(a), problem_of(b), true)
 }

@@ -48,18 +48,6 @@ pub fn marks_into(p: Problem, tail: u32, heads: u32) -> u64 {
     marks
 }
 
-// Whether the heads of a set have the same marks.
-fn equal_marks(heads: u32, a: u64, b: u64) -> bool {
-    for head in 0..MAX_VERTICES {
-        if shown::holds(heads, head) {
-            if mark_at(a, head) != mark_at(b, head) {
-                return false;
-            }
-        }
-    }
-    true
-}
-
 fn is_mark(x: Replaced, tail: u8, head: u8, mark: u8) -> bool {
     match x {
         Replaced::OldMark(t, h, m) => t == tail && h == head && m == mark,
@@ -68,11 +56,10 @@ fn is_mark(x: Replaced, tail: u8, head: u8, mark: u8) -> bool {
     }
 }
 
-fn is_marks(x: Replaced, tail: u8, heads: u32, marks: u64, every_bit: bool) -> bool {
-    let compared = if every_bit { 4294967295 } else { heads };
+fn is_marks(x: Replaced, tail: u8, heads: u32, marks: u64) -> bool {
     match x {
         Replaced::OldMark(_, _, _) => false,
-        Replaced::OldMarks(t, h, m) => t == tail && h == heads && equal_marks(compared, m, marks),
+        Replaced::OldMarks(t, h, m) => t == tail && h == heads && m == marks,
         Replaced::OldBudget(_) => false,
     }
 }
@@ -85,13 +72,23 @@ fn is_budget(x: Replaced, budget: u32) -> bool {
     }
 }
 
-// Whether two records restore the same; and if every bit is compared, have the same bits at the other heads too.
-pub fn equal(a: UndoRecord, b: UndoRecord, every_bit: bool) -> bool {
+// Whether two records are the same in every bit.
+pub fn equal(a: UndoRecord, b: UndoRecord) -> bool {
     let x = a.replaced;
     let y = b.replaced;
     match x {
         Replaced::OldMark(tail, head, mark) => is_mark(y, tail, head, mark),
-        Replaced::OldMarks(tail, heads, marks) => is_marks(y, tail, heads, marks, every_bit),
+        Replaced::OldMarks(tail, heads, marks) => is_marks(y, tail, heads, marks),
         Replaced::OldBudget(budget) => is_budget(y, budget),
+    }
+}
+
+// Whether a record names the arc from a tail to a head.
+pub fn names(r: UndoRecord, tail: u32, head: u32) -> bool {
+    let x = r.replaced;
+    match x {
+        Replaced::OldMark(t, h, _) => access::of_byte(t) == tail && access::of_byte(h) == head,
+        Replaced::OldMarks(t, heads, _) => access::of_byte(t) == tail && shown::holds(heads, head),
+        Replaced::OldBudget(_) => false,
     }
 }

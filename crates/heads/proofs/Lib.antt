@@ -1,2 +1,3 @@
 -- Sets of heads and marks of two bits a head, put together and read again. Assumes nothing.
-pub mod HeadsLaws
+pub mod LoopLaws
+pub mod RecordMarksLaws

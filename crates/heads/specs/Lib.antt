@@ -1,2 +1,2 @@
 -- What the contracts cite besides the definitions of `commands`. Assumes nothing.
-pub mod MarksIn
+pub mod RecordMarks

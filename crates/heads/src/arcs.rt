@@ -8,7 +8,7 @@ ghost use Rattle.instance.specs.Matrix.{unmarked};
 ghost use Rattle.commands.specs.Heads.{names-arc, heads-of};
 ghost use Rattle.commands.specs.Model.{old-marks};
 ghost use Rattle.commands.specs.Valid.{head-ok, record-ok};
-ghost use Rattle.heads.specs.MarksIn.{marks-in};
+ghost use Rattle.heads.specs.RecordMarks.{record-marks};
 use checks::arc::is_arc;
 use checks::sets::is_inside;
 use instance::limits::BANNED;
@@ -74,7 +74,7 @@ pub fn are_heads_ok(
     old: u64,
 ) -> bool
     requires { ⌜ (n ≤ max-vertices) × (length (now weights) ≡ cells) ⌝ }
-    ensures { λ r. ⌜ r ≡ record-ok (unmarked n root (now (weights .entry))) (old-marks tail heads (marks-in heads old)) ⌝ }
+    ensures { λ r. ⌜ r ≡ record-ok (unmarked n root (now (weights .entry))) (old-marks tail heads (record-marks heads old)) ⌝ }
 {
     if heads == 0 {
         return false;

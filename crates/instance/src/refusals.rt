@@ -25,10 +25,10 @@ pub const BAD_MARK: u32 = 7;
 // 8: a filling bit is 1.
 pub const BAD_FILLING: u32 = 8;
 
-// 9: press names a position not below n, a group a feeder or a set bit.
+// 9: press names a position not below n; of a group: a feeder or a set bit not below the count.
 pub const NO_VERTEX: u32 = 9;
 
-// 10: press names no link, a group not one.
+// 10: press names no link; of a group: no member is a link.
 pub const NO_SUCH_ARC: u32 = 10;
 
 // 11: budget press above MAX_BUDGET.

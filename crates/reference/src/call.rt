@@ -17,7 +17,7 @@ pub const BUDGET: u32 = 3;
 
 pub const TAKE_BACK: u32 = 4;
 
-// Those of a group press (02, A5). 5 and 6 are a look and a write, which change nothing.
+// Those of a group press (02, A5). The numbers are README's for a list of calls, where 5 looks and 6 writes.
 pub const PIN_GROUP: u32 = 7;
 
 pub const BAN_GROUP: u32 = 8;

@@ -11,7 +11,7 @@ use crate::refusals::NO_VERTEX;
 use crate::shown;
 
 // Whether there is "a set bit not below the count".
-fn passes(n: u32, set: u32) -> bool {
+fn is_outside(n: u32, set: u32) -> bool {
     for vertex in 0..MAX_VERTICES {
         if shown::holds(set, vertex) {
             if n <= vertex {
@@ -40,7 +40,7 @@ pub fn answer(p: Problem, tail: u32, set: u32) -> u32 {
     if p.n <= tail {
         return NO_VERTEX;
     }
-    if passes(p.n, set) {
+    if is_outside(p.n, set) {
         return NO_VERTEX;
     }
     if links(p, tail, set) == 0 {
@@ -81,8 +81,9 @@ fn vertices(n: u32) -> u32 {
     std::num::wrapping_sub_u32(shown::only(n), 1)
 }
 
-// A set of heads for a tail: nothing, all 32 bits, any 32 bits, every arc and the first vertex that is not there; the
-// root alone, the tail alone, all that is no arc; one vertex, every arc; mostly any of the vertices.
+// A set of heads for a tail: nothing, all 32 bits, any 32 bits, every arc and the first vertex that is not there, if
+// there is one; the root alone, the tail alone, or some bit for a tail that is not there; all that is no arc; one
+// vertex, every arc; mostly any of the vertices.
 pub fn some_set(g: Random, p: Problem, tail: u32) -> u32 {
     let n = p.n;
     let any = random::word(random::next(g));
@@ -91,7 +92,11 @@ pub fn some_set(g: Random, p: Problem, tail: u32) -> u32 {
         0 => 0,
         1 => 4294967295,
         2 => any,
-        3 => arcs | shown::only(n),
+        3 => if n < MAX_VERTICES {
+            arcs | shown::only(n)
+        } else {
+            arcs
+        },
         4 => shown::only(p.root),
         5 => shown::only(tail),
         6 => vertices(n) ^ arcs,

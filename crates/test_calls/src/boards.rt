@@ -106,13 +106,24 @@ fn is_right(r: Reply, k: u32, is_damaged: bool) -> bool {
     replies::is_reply(r, BUFFER_SHORT)
 }
 
+// A reply that touched what it was lent, which has to be reported where the board is damaged.
+fn planted_touch(tally: Tally, r: Reply, k: u32, is_damaged: bool) -> Tally {
+    let mut touched = r;
+    touched.untouched = false;
+    if is_damaged {
+        return tally::planted(tally, !is_right(touched, k, true));
+    }
+    tally
+}
+
 // One call, and whether 15 came. A sound board taken for a damaged one has to be reported, and a damaged one taken for
 // a sound one.
 fn tried_call(tally: Tally, d: Damaged, k: u32) -> Tally {
     let b = d.board;
     let r = reply_of(b, k);
     let t = tally::checked(tally, CALLS, is_right(r, k, d.is_damaged));
-    let u = tally::planted(t, !is_right(r, k, !d.is_damaged));
+    let v = tally::planted(t, !is_right(r, k, !d.is_damaged));
+    let u = planted_touch(v, r, k, d.is_damaged);
     if r.answer == INVALID_BOARD {
         return tally::with(u, REFUSED, 1);
     }
@@ -151,7 +162,7 @@ pub fn some_board(k: u32) -> Board {
     let p = sample::any_instance(g, k % SIZES + 2);
     let mut b = boards::of_problem(p);
     let mut r = random::next(g);
-    for step in 0u32..40 {
+    for step in 0u32..70 {
         let made = calls::made(b, call::some_call(r, p, 4));
         b = made.board;
         r = call::drawn(r);

@@ -48,14 +48,26 @@ pub fn some_arc(g: Random, n: u32, root: u32) -> Arc {
     }
 }
 
-// The board with that in a cell. Where it is no arc then, the history goes, which may name it.
+// The board with a budget in the place of every record that names an arc.
+fn without_records_of(b: Board, tail: u32, head: u32) -> Board {
+    let mut c = b;
+    for k in 0..RECORDS {
+        let r = b.records[k];
+        if records::names(r, tail, head) {
+            c.records[k] = records::budget_record(0);
+        }
+    }
+    c
+}
+
+// The board with that in a cell. Where it is no arc then, no record names it, which would be damage of its own.
 pub fn with_cell(b: Board, tail: u32, head: u32, weight: u32, mark: u8) -> Board {
     let mut c = b;
     let at = problem::cell(tail, head);
     c.weights[at] = weight;
     c.marks[at] = mark;
     if weight == NO_ARC {
-        c.count = 0;
+        return without_records_of(c, tail, head);
     }
     c
 }

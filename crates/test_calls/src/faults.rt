@@ -10,16 +10,16 @@ use reference::log::RECORDS;
 use reference::problem;
 use reference::shown;
 
-// The faults: 4 of the board's fields, then 3 of its latest record.
-pub const KINDS: u32 = 7;
+// The faults: 5 of the board's fields, then 3 of its latest record.
+pub const KINDS: u32 = 8;
 
-pub const RECORDS_FROM: u32 = 4;
+pub const RECORDS_FROM: u32 = 5;
 
 pub const MARK: u32 = 0;
 
-const TAIL: u32 = 4;
+const TAIL: u32 = 5;
 
-const HEADS: u32 = 5;
+const HEADS: u32 = 6;
 
 fn other_mark(mark: u8) -> u8 {
     (mark % 3 + 1) % 3
@@ -36,13 +36,23 @@ fn group_changed(tail: u32, heads: u32, marks: u64, kind: u32, head: u32) -> Und
     }
 }
 
+// A single record with another tail, head or mark.
+fn mark_changed(tail: u32, head: u32, mark: u8, kind: u32) -> UndoRecord {
+    match kind {
+        TAIL => records::mark_record(access::plus(tail, 1), head, mark),
+        HEADS => records::mark_record(tail, access::plus(head, 1), mark),
+        _ => records::mark_record(tail, head, other_mark(mark)),
+    }
+}
+
 fn record_changed(r: UndoRecord, kind: u32, head: u32) -> UndoRecord {
     let x = r.replaced;
     match x {
-        Replaced::OldMark(t, h, mark) => records::mark_record(
+        Replaced::OldMark(t, h, mark) => mark_changed(
             access::of_byte(t),
             access::of_byte(h),
-            other_mark(mark),
+            mark,
+            kind,
         ),
         Replaced::OldMarks(t, heads, marks) => group_changed(
             access::of_byte(t),
@@ -51,7 +61,7 @@ fn record_changed(r: UndoRecord, kind: u32, head: u32) -> UndoRecord {
             kind,
             head,
         ),
-        Replaced::OldBudget(budget) => records::budget_record(access::plus(budget, 1)),
+        Replaced::OldBudget(budget) => records::budget_record(access::plus(budget, kind)),
     }
 }
 
@@ -61,15 +71,18 @@ fn latest(count: usize) -> u32 {
     if c == 0 { 0 } else { c - 1 }
 }
 
-// The mark of an arc changed, its weight, the budget, the number of records, the latest record.
+// The mark of an arc changed, its weight, the budget, the number of records, the mark of the tail's own cell, where no
+// arc can be, the latest record.
 pub fn with_fault(b: Board, kind: u32, tail: u32, head: u32) -> Board {
     let mut c = b;
     let at = problem::cell(tail, head);
+    let own = problem::cell(tail, tail);
     match kind {
         MARK => c.marks[at] = other_mark(c.marks[at]),
         1 => c.weights[at] = access::plus(c.weights[at], 1),
         2 => c.budget = access::plus(c.budget, 1),
         3 => c.count = c.count % RECORDS + 1,
+        4 => c.marks[own] = other_mark(c.marks[own]),
         _ => return with_record_fault(c, kind, head),
     }
     c

@@ -28,13 +28,13 @@ const SOUND_FROM: u32 = 8;
 const PAST_THE_COUNT: u32 = 10;
 
 // A record by its parts.
-pub struct Marks {
+pub struct GroupRecord {
     pub tail: u32,
     pub heads: u32,
     pub marks: u64,
 }
 
-pub fn record_of(r: Marks) -> UndoRecord {
+pub fn record_of(r: GroupRecord) -> UndoRecord {
     records::marks_record(r.tail, r.heads, r.marks)
 }
 
@@ -52,10 +52,10 @@ fn some_marks(seed: Random, heads: u32) -> u64 {
 }
 
 // A sound record: some of the arcs from a tail, with that to a head, which is one of them.
-pub fn some_record(b: Board, tail: u32, head: u32, g: Random) -> Marks {
+pub fn some_record(b: Board, tail: u32, head: u32, g: Random) -> GroupRecord {
     let set = random::word(g) | shown::only(head);
     let heads = group::links(boards::problem_of(b), tail, set);
-    Marks {
+    GroupRecord {
         tail: tail,
         heads: heads,
         marks: some_marks(random::next(g), heads),
@@ -63,7 +63,7 @@ pub fn some_record(b: Board, tail: u32, head: u32, g: Random) -> Marks {
 }
 
 // The record with one head more, whose mark is free.
-fn with_head(r: Marks, head: u32) -> Marks {
+fn with_head(r: GroupRecord, head: u32) -> GroupRecord {
     let mut s = r;
     s.heads = r.heads | shown::only(head);
     s.marks = records::with_mark_at(r.marks, head, 0);
@@ -71,7 +71,7 @@ fn with_head(r: Marks, head: u32) -> Marks {
 }
 
 // The record with one head that is not there, or where there are all 32 vertices with such a tail.
-fn past_the_vertices(r: Marks, n: u32) -> Marks {
+fn past_the_vertices(r: GroupRecord, n: u32) -> GroupRecord {
     let mut s = r;
     if n < MAX_VERTICES {
         return with_head(r, access::plus(n, r.heads % (MAX_VERTICES - n)));
@@ -82,7 +82,7 @@ fn past_the_vertices(r: Marks, n: u32) -> Marks {
 
 // The record with one thing wrong: the tail, no head, a head that is not there, the root, the tail itself, a number
 // that is no mark. The other kinds need no change of it.
-fn changed(r: Marks, kind: u32, n: u32, root: u32, head: u32) -> Marks {
+fn changed(r: GroupRecord, kind: u32, n: u32, root: u32, head: u32) -> GroupRecord {
     let mut s = r;
     match kind {
         0 => s.tail = n,
@@ -99,8 +99,8 @@ fn changed(r: Marks, kind: u32, n: u32, root: u32, head: u32) -> Marks {
 }
 
 // A record of one head, and numbers that are no marks at all the others.
-fn only_head(r: Marks, head: u32) -> Marks {
-    Marks {
+fn only_head(r: GroupRecord, head: u32) -> GroupRecord {
+    GroupRecord {
         tail: r.tail,
         heads: shown::only(head),
         marks: records::with_mark_at(18446744073709551615, head, BANNED),
@@ -108,7 +108,7 @@ fn only_head(r: Marks, head: u32) -> Marks {
 }
 
 // Rubbish in a place past the count.
-fn with_rubbish_record(b: Board) -> Board {
+fn with_group_rubbish(b: Board) -> Board {
     let mut c = b;
     if c.count < RECORDS {
         let at = c.count;
@@ -127,7 +127,7 @@ fn with_kind(b: Board, kind: u32, g: Random, tail: u32, head: u32) -> Board {
             g,
             record_of(r),
         ),
-        PAST_THE_COUNT => with_rubbish_record(b),
+        PAST_THE_COUNT => with_group_rubbish(b),
         _ => damage::with_record(b, g, record_of(r)),
     }
 }

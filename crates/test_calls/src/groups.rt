@@ -63,7 +63,7 @@ fn is_right(made: Answered, before: Board, s: Singles, c: Call) -> bool {
     }
     let links = group::links(p, c.first, c.second);
     let marked = group::marked(p, c.first, links, log::mark_set(c.kind));
-    if !boards::equal_problems(boards::problem_of(after), marked, false) {
+    if !boards::equal_problems(boards::problem_of(after), marked, true) {
         return false;
     }
     boards::equal(after, board_due(before, s, c))
@@ -104,7 +104,8 @@ fn planted_singles(
     tally::planted(t, !is_right(made, before, refused, c))
 }
 
-// What follows an accepted group: other bits at a head that it does not name are passed over, and it is taken back.
+// What follows an accepted group: it is taken back, as it is and with other bits at a head that its record does not
+// name.
 fn tried_accepted(
     tally: Tally,
     made: Answered,
@@ -114,14 +115,11 @@ fn tried_accepted(
     head: u32,
 ) -> Tally {
     let after = made.board;
-    let other = Answered {
-        answer: 0,
-        board: faults::with_rubbish(after, head),
-    };
     let back = calls::made(after, call::take_back());
+    let other = calls::made(faults::with_rubbish(after, head), call::take_back());
     let t = tally::with(tally, ACCEPTED, 1);
-    let u = tally::checked(t, PASSED_OVER, is_right(other, before, s, c));
-    let v = tally::checked(u, TAKEN_BACK, restores::is_right(back, before));
+    let u = tally::checked(t, TAKEN_BACK, restores::is_right(back, before));
+    let v = tally::checked(u, PASSED_OVER, restores::is_right(other, before));
     let w = planted_singles(v, made, before, s, c, head);
     restores::planted(w, back, before, c.first, head)
 }

@@ -195,7 +195,7 @@ fn run(count: u32) -> Tally {
 
 pub fn all() {
     tally::report(
-        run(2000),
+        run(3500),
         b"lists\ncalls\ngroup presses\nof these accepted\nlooks\nwrites\n\
         answer 0:\nanswer 1:\nanswer 2:\nanswer 3:\nanswer 4:\nanswer 5:\nanswer 6:\n\
         answer 7:\nanswer 8:\nanswer 9:\nanswer 10:\nanswer 11:\nanswer 12:\nanswer 13:\n",

@@ -208,5 +208,5 @@ fn run(count: u32) -> Tally {
 }
 
 pub fn all() {
-    tally::report(run(60), b"lists of 300 handed over\nrefused\n");
+    tally::report(run(105), b"lists of 300 handed over\nrefused\n");
 }

@@ -4,7 +4,7 @@ use crate::boards::some_board;
 use crate::damage;
 use crate::faults;
 use crate::group_records;
-use crate::group_records::Marks;
+use crate::group_records::GroupRecord;
 use board::Answered;
 use board::Board;
 use harness::boards;
@@ -27,7 +27,7 @@ const RESTORED: u32 = 3;
 const PASSED_OVER: u32 = 4;
 
 // The board with that record after its others.
-fn recorded(b: Board, r: Marks) -> Board {
+fn recorded(b: Board, r: GroupRecord) -> Board {
     let mut c = b;
     let at = c.count % RECORDS;
     c.records[at] = group_records::record_of(r);
@@ -36,7 +36,7 @@ fn recorded(b: Board, r: Marks) -> Board {
 }
 
 // The board with the marks that the record says.
-fn restored(b: Board, r: Marks) -> Board {
+fn restored(b: Board, r: GroupRecord) -> Board {
     let mut c = b;
     for head in 0..MAX_VERTICES {
         if shown::holds(r.heads, head) {

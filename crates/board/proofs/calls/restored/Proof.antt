@@ -7,7 +7,7 @@ use Rattle.commands.specs.Model.{restored, with-mark}
 use Rattle.commands.specs.Heads.{with-marks}
 use Rattle.commands.proofs.ValidLaws.{record-cell, record-arcs, record-tail}
 use Rattle.board.proofs.ModelOfLaws.{known}
-use Rattle.heads.proofs.HeadsLaws.{marks-in-put}
+use Rattle.heads.proofs.RecordMarksLaws.{record-marks-put}
 use Rattle.board.proofs.calls.restored.Statement.{statement}
 use Rattle.board.proofs.calls.restored.Tie as tie
 
@@ -59,7 +59,7 @@ unfolding restored with-marks
 returns-3 c =
     let b = c .before .before .before .before .before .args .b in
     let g = c .before .before .before .replaced3 .given in
-    let e = c .put-marks .ensures ∙ marks-in-put (g .0 .1 .0) (g .0 .1 .1 .0) (g .0 .0) (b .marks) in
+    let e = c .put-marks .ensures ∙ record-marks-put (g .0 .1 .0) (g .0 .1 .1 .0) (g .0 .0) (b .marks) in
     rw (g .1) (record { instance = λ j. instance-with (b .n) (b .root) (b .budget) (b .weights) (e j); records = refl; count = refl })
 
 pub restored-spec : {M : Type 1} → statement M

@@ -17,7 +17,7 @@ use Rattle.commands.proofs.AnsweredLaws.{mark-low}
 use Rattle.commands.proofs.CommandLaws.{Marks-unrefused, marks-unrefused, marks-refused}
 use Rattle.commands.proofs.ValidLaws.{valid-parts}
 use Rattle.board.proofs.ModelOfLaws.{known, length-history}
-use Rattle.heads.proofs.HeadsLaws.{every-head}
+use Rattle.heads.proofs.RecordMarksLaws.{every-head}
 use Rattle.board.proofs.SetMarksLaws.{old-low, number-is, record-made, accepted-is, put-is-all}
 use Rattle.board.proofs.CallLaws.{answers-refused, answers-accepted}
 use Rattle.board.proofs.calls.set_marks.Statement.{statement}

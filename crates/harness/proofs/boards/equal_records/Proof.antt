@@ -5,10 +5,10 @@ use Rattle.harness.proofs.boards.equal_records.Statement.{statement}
 use Rattle.harness.proofs.boards.equal_records.Tie as tie
 
 abbrev Inv-loop : tie.InvT-loop
-Inv-loop count every-bit a b k₀ k = Unit
+Inv-loop count a b k₀ k = Unit
 
 abbrev μ-loop : tie.MeasureT-loop
-μ-loop count every-bit a b k₀ k = 200 - k
+μ-loop count a b k₀ k = 200 - k
 
 pub equal-records-spec : {M : Type 1} → statement M
 equal-records-spec =

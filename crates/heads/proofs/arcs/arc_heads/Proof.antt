@@ -9,7 +9,7 @@ use Rattle.instance.specs.Limits.{max-vertices}
 use Rattle.instance.specs.Matrix.{unmarked}
 use Rattle.commands.specs.Heads.{names-arc, heads-of}
 use Rattle.base.proofs.DigitLaws.{digits-none}
-use Rattle.heads.proofs.HeadsLaws.{head-fits, head-more, head-skip}
+use Rattle.heads.proofs.LoopLaws.{head-fits, head-more, head-skip}
 use Rattle.heads.proofs.arcs.arc_heads.Statement.{statement}
 use Rattle.heads.proofs.arcs.arc_heads.Tie as tie
 

@@ -13,16 +13,16 @@ use Rattle.base.specs.Bounded.{all-below}
 use Rattle.instance.specs.Limits.{max-vertices, free}
 use Rattle.instance.specs.Matrix.{unmarked}
 use Rattle.commands.specs.Valid.{head-ok, record-ok}
-use Rattle.heads.specs.MarksIn.{marks-in}
+use Rattle.heads.specs.RecordMarks.{record-marks}
 use Rattle.base.proofs.BoundedLaws.{all-none, all-fail, all-pass}
 use Rattle.instance.proofs.SetBits.{none-inside, some-inside}
-use Rattle.heads.proofs.HeadsLaws.{marks-in-ok}
+use Rattle.heads.proofs.RecordMarksLaws.{record-marks-ok}
 use Rattle.heads.proofs.arcs.are_heads_ok.Statement.{statement}
 use Rattle.heads.proofs.arcs.are_heads_ok.Tie as tie
 
 -- the test of one head
 abbrev ok : (weights : List ℕ) → (n root tail heads old head : ℕ) → Bool
-ok weights n root tail heads old head = head-ok (unmarked n root weights) tail heads (getD (marks-in heads old) head free) head
+ok weights n root tail heads old head = head-ok (unmarked n root weights) tail heads (getD (record-marks heads old) head free) head
 
 abbrev Inv-loop : tie.InvT-loop
 Inv-loop weights n root tail heads old head₀ head =
@@ -52,7 +52,7 @@ returns-2 c =
     let P = ok (a .weights .now) (a .n) (a .root) (a .tail) (a .heads) (a .old) in
     let s = unmarked (a .n) (a .root) (a .weights .now) in
     let e : P (l .head - 1) ≡ false =
-    sym (marks-in-ok (a .heads) (a .old) s (a .tail) (l .head - 1) (omega arith)) ∙ sym (c .before .is-head-ok .ensures) ∙ not-true _ (c .if2 .taken) in
+    sym (record-marks-ok (a .heads) (a .old) s (a .tail) (l .head - 1) (omega arith)) ∙ sym (c .before .is-head-ok .ensures) ∙ not-true _ (c .if2 .taken) in
     let f : Fits w32 (a .heads) = search needs in
     sym (rw (some-inside max-vertices (a .heads) (f .fits) (omega arith)) (l .inv .1 ∙ all-fail (l .head) P (omega arith) e))
 
@@ -66,7 +66,7 @@ loop-again c =
     let P = ok (a .weights .now) (a .n) (a .root) (a .tail) (a .heads) (a .old) in
     let s = unmarked (a .n) (a .root) (a .weights .now) in
     let e : P (l .head - 1) ≡ true =
-    sym (marks-in-ok (a .heads) (a .old) s (a .tail) (l .head - 1) (omega arith)) ∙ sym (c .before .is-head-ok .ensures) ∙ not-false _ (c .if2 .left) in
+    sym (record-marks-ok (a .heads) (a .old) s (a .tail) (l .head - 1) (omega arith)) ∙ sym (c .before .is-head-ok .ensures) ∙ not-false _ (c .if2 .left) in
     (omega arith, l .inv .1 ∙ all-pass (l .head) P (omega arith) e)
 
 returns-3 : tie.Need-returns-3 Inv-loop μ-loop

@@ -3,7 +3,7 @@ use borrow.Author.Tests.{not-true, not-false}
 use borrow.Author.Needs.{needs}
 use Rattle.base.specs.Digits.{digit}
 use Rattle.commands.specs.Valid.{head-ok}
-use Rattle.heads.proofs.HeadsLaws.{four-pow}
+use Rattle.heads.proofs.LoopLaws.{four-pow}
 use Rattle.heads.proofs.arcs.is_head_ok.Statement.{statement}
 use Rattle.heads.proofs.arcs.is_head_ok.Tie as tie
 

@@ -8,7 +8,7 @@ use Rattle.base.specs.Digits.{digit}
 use Rattle.instance.specs.Limits.{max-vertices}
 use Rattle.instance.specs.Cuts.{inside}
 use Rattle.commands.specs.Heads.{put-marks}
-use Rattle.heads.proofs.HeadsLaws.{four-pow, heads-to, put-start, put-next, put-skip, put-end}
+use Rattle.heads.proofs.LoopLaws.{four-pow, heads-to, put-start, put-next, put-skip, put-end}
 use Rattle.heads.proofs.marks.put_marks.Statement.{statement}
 use Rattle.heads.proofs.marks.put_marks.Tie as tie
 

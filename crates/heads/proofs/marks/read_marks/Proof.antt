@@ -12,7 +12,7 @@ use Rattle.instance.specs.Limits.{max-vertices, free, banned}
 use Rattle.instance.specs.Instance.{cell}
 use Rattle.instance.specs.Cuts.{inside}
 use Rattle.base.proofs.DigitLaws.{digits-none}
-use Rattle.heads.proofs.HeadsLaws.{mark-fits, mark-more, mark-skip}
+use Rattle.heads.proofs.LoopLaws.{mark-fits, mark-more, mark-skip}
 use Rattle.heads.proofs.marks.read_marks.Statement.{statement}
 use Rattle.heads.proofs.marks.read_marks.Tie as tie
 

@@ -8,7 +8,7 @@ abbrev Inv-loop : tie.InvT-loop
 Inv-loop k p b₀ r₀ step₀ b r step = Unit
 
 abbrev μ-loop : tie.MeasureT-loop
-μ-loop k p b₀ r₀ step₀ b r step = 40 - step
+μ-loop k p b₀ r₀ step₀ b r step = 70 - step
 
 pub some-board-spec : {M : Type 1} → statement M
 some-board-spec =

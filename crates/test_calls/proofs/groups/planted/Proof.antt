@@ -8,7 +8,7 @@ abbrev Inv-loop : tie.InvT-loop
 Inv-loop made before s c head t₀ after kind₀ t kind = Unit
 
 abbrev μ-loop : tie.MeasureT-loop
-μ-loop made before s c head t₀ after kind₀ t kind = 7 - kind
+μ-loop made before s c head t₀ after kind₀ t kind = 8 - kind
 
 pub planted-spec : {M : Type 1} → statement M
 planted-spec =

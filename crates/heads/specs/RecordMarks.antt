@@ -8,5 +8,5 @@ use Rattle.instance.specs.Limits.{max-vertices, free}
 use Rattle.instance.specs.Cuts.{inside}
 
 -- the marks in a number, two bits a head; at a head that is not in the set nothing is looked at (DECISIONS 63)
-unfoldable pub marks-in : (heads value : ℕ) → List ℕ
-marks-in c v = tabulate max-vertices (λ h. cond (inside c h) (digit 4 v h) free)
+unfoldable pub record-marks : (heads value : ℕ) → List ℕ
+record-marks c v = tabulate max-vertices (λ h. cond (inside c h) (digit 4 v h) free)

@@ -1,8 +1,8 @@
--- `reference::group::passes` is safe and ends.
+-- `reference::group::is_outside` is safe and ends.
 use Prim.Native.Nat.{_-_}
 use borrow.Author.Needs.{needs}
-use Rattle.reference.proofs.group.passes.Statement.{statement}
-use Rattle.reference.proofs.group.passes.Tie as tie
+use Rattle.reference.proofs.group.is_outside.Statement.{statement}
+use Rattle.reference.proofs.group.is_outside.Tie as tie
 
 abbrev Inv-loop : tie.InvT-loop
 Inv-loop n set vertex₀ vertex = Unit
@@ -10,8 +10,8 @@ Inv-loop n set vertex₀ vertex = Unit
 abbrev μ-loop : tie.MeasureT-loop
 μ-loop n set vertex₀ vertex = 32 - vertex
 
-pub passes-spec : {M : Type 1} → statement M
-passes-spec =
+pub is-outside-spec : {M : Type 1} → statement M
+is-outside-spec =
     tie.close
     (tie.spec
     Inv-loop
