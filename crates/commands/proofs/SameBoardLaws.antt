@@ -59,15 +59,15 @@ module _ (a b : Instance) (e : Same-instance a b) where
   -- the marks of the arcs that are named
   same-marks-of : (t c : ℕ) → marks-of a t (names-arc b t c) ≡ marks-of b t (names-arc b t c)
   unfolding marks-of names-arc
-  same-marks-of t c = λ j. tabulate max-vertices (λ h. kept h j)
+  same-marks-of t c = λ j. tabulate max-vertices (λ h. mark-same h j)
     where
       at : (x y : Bool) (h : ℕ) → (y ≡ true → mark a t h ≡ mark b t h) → cond (x && y) (mark a t h) free ≡ cond (x && y) (mark b t h) free
       at true true h m = m refl
       at true false h m = refl
       at false y h m = refl
 
-      kept : (h : ℕ) → cond (inside c h && is-arc b t h) (mark a t h) free ≡ cond (inside c h && is-arc b t h) (mark b t h) free
-      kept h = at (inside c h) (is-arc b t h) h (same-arc-mark a b e t h)
+      mark-same : (h : ℕ) → cond (inside c h && is-arc b t h) (mark a t h) free ≡ cond (inside c h && is-arc b t h) (mark b t h) free
+      mark-same h = at (inside c h) (is-arc b t h) h (same-arc-mark a b e t h)
 
   with-budget-same : (v : ℕ) → Same-instance (with-budget v a) (with-budget v b)
   unfolding weight mark

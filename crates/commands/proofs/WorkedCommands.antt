@@ -162,8 +162,8 @@ runs =
             budget = 3;
           };
     }
-    -- 02, A5: the links of 1 are those to 2 and 3; the root, the tail itself and 3→2 are skipped; mixed marks come back
-    -- as they were, the card's too
+    -- 02, A5: the links of 1 are those to 2 and 3; the root, the tail itself and 3→2 are skipped; mixed marks come
+    -- back as they were, the card's too
     ∷ record {
       from = instance-q 16 (arc 1 2 banned ∷ arc 3 1 1 ∷ []);
       commands = pin 1 3 ∷ clear-group 1 15 ∷ pin-group 0 14 ∷ ban-group 3 6 ∷ undo ∷ undo ∷ undo ∷ ban-group 2 2 ∷ [];
