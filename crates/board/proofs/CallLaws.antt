@@ -17,6 +17,7 @@ use Rattle.commands.proofs.CommandLaws.{command-recorded}
 use Rattle.commands.proofs.AnsweredLaws.{answered-applied, answered-valid, accepted-valid, answered-undo-restores, answered-undo-shorter}
 use Rattle.board.specs.declared.Board.{Board}
 use Rattle.board.specs.declared.Answered.{Answered}
+use Rattle.board.specs.declared.UndoRecord.{UndoRecord}
 use Rattle.board.specs.declared.Replaced as declared-replaced
 use Rattle.board.specs.ModelOf.{replaced-of, model-of, instance-of, history-of, result-of}
 use Rattle.board.specs.Calls.{record-of, records-after, Answers, Records}
@@ -24,14 +25,14 @@ use Rattle.board.proofs.ModelOfLaws.{length-history}
 
 -- THE RECORD PLACES that are left: one more record sets the place at the count, any other history sets none
 pub records-added :
-    (b : Board) (o : Replaced) → records-after b (o ∷ history-of (b .count) (b .records)) ≡ set (b .records) (b .count) (record-of o)
+    (b : Board) (o : Replaced) → records-after (b .records) (b .count) (o ∷ history-of (b .count) (b .records)) ≡ set (b .records) (b .count) (record-of o)
 unfolding records-after
 records-added b o = rw (eq-eqb _ _ (length-history (b .count) (b .records)))
 
-pub records-left : (b : Board) (os : List Replaced) → length os ≤ b .count → records-after b os ≡ b .records
+pub records-left : (rs : List UndoRecord) (k : ℕ) (os : List Replaced) → length os ≤ k → records-after rs k os ≡ rs
 unfolding records-after
-records-left b [] l = refl
-records-left b (o ∷ os) l = rw (ne-eqb (length os) (b .count) (λ e. omega arith))
+records-left rs k [] l = refl
+records-left rs k (o ∷ os) l = rw (ne-eqb (length os) k (λ e. omega arith))
 
 -- REFUSED, and accepted with one record more
 pub answers-refused : (k : ℕ) (d : Result) (b : Board) → d ≡ refused k (model-of b) → Answers d b (record { answer = k; board = b })
@@ -40,7 +41,7 @@ answers-refused k d b e =
     rw e
     (record {
       result = refl;
-      records = sym (records-left b (history-of (b .count) (b .records)) (omega (arith, length-history (b .count) (b .records))));
+      records = sym (records-left (b .records) (b .count) (history-of (b .count) (b .records)) (omega (arith, length-history (b .count) (b .records))));
       unchanged = λ _. refl;
     })
 
@@ -63,30 +64,6 @@ module _ (o : declared-replaced.Replaced) (b g : Board) (k : Records b o g) (mad
 pub answers-valid :
     (c : Command) (b : Board) (r : Answered) → valid (model-of b) ≡ true → Answers (applied c (model-of b)) b r → Answers (answered c (model-of b)) b r
 answers-valid c b r v a = rw (answered-applied c (model-of b) v) a
-
--- A CALL CAN GIVE ONE RESULT ONLY: the contract fixes the whole board, record places past the count too
-pub answers-once : (d : Result) (b : Board) (r q : Answered) → Answers d b r → Answers d b q → r ≡ q
-answers-once d b r q x y =
-    let e : result-of r ≡ result-of q = x .result ∙ sym (y .result) in
-    let s : instance-of (r .board) ≡ instance-of (q .board) = ap (λ (z : Result). z .board .instance) e in
-    let rs : r .board .records ≡ q .board .records = x .records ∙ sym (y .records) in
-    let k : r .board .count ≡ q .board .count =
-    sym (length-history (r .board .count) (r .board .records)) ∙ ap (λ (z : Result). length (z .board .history)) e
-    ∙ length-history (q .board .count) (q .board .records) in
-    λ j.
-    record {
-      answer = e j .answer;
-      board =
-          record {
-            n = s j .n;
-            root = s j .root;
-            budget = s j .budget;
-            weights = s j .weights;
-            marks = s j .marks;
-            records = rs j;
-            count = k j;
-          };
-    }
 
 module _ (c : Command) (b : Board) (r : Answered) (a : Answers (answered c (model-of b)) b r) where
   -- the board that is left, in the model's terms
@@ -121,10 +98,12 @@ module _ (c : Command) (b : Board) (r : Answered) (a : Answers (answered c (mode
       let h : answered c (model-of b) .board .history ≡ g .0 ∷ model-of b .history = ap (λ (d : Result). d .board .history) q ∙ g .1 in (
         g .0,
         ap (λ (m : Model). m .history) call-board ∙ h,
-        a .records ∙ ap (records-after b) h ∙ records-added b (g .0),
+        a .records ∙ ap (records-after (b .records) (b .count)) h ∙ records-added b (g .0),
       )
 
 -- A TAKE-BACK SETS NONE
 pub undo-records : (b : Board) (r : Answered) → Answers (answered undo (model-of b)) b r → r .board .records ≡ b .records
 undo-records b r a =
-    a .records ∙ records-left b (answered undo (model-of b) .board .history) (omega (arith, answered-undo-shorter (model-of b), length-history (b .count) (b .records)))
+    a .records
+    ∙ records-left (b .records) (b .count) (answered undo (model-of b) .board .history)
+    (omega (arith, answered-undo-shorter (model-of b), length-history (b .count) (b .records)))

@@ -2,5 +2,6 @@
 pub mod ModelOfLaws
 pub mod SetMarksLaws
 pub mod CallLaws
+pub mod ContentsLaws
 pub mod RunLaws
 pub mod CreateLaws

@@ -3,6 +3,7 @@
 use mathlib.Core.Path.{_≡_}
 use mathlib.Core.Bool.{cond}
 use mathlib.Core.List.{List, [], _∷_}
+use Prim.Native.Nat.{ℕ}
 use lib.Dec.{eqb}
 use lib.ListN.{length, getD, set}
 use Rattle.base.specs.Digits.{from-digits}
@@ -22,17 +23,18 @@ record-of (old-mark t h m) = record { replaced = OldMark t h m }
 record-of (old-marks t c ms) = record { replaced = OldMarks t c (from-digits 4 max-vertices (λ h. getD ms h free)) }
 record-of (old-budget v) = record { replaced = OldBudget v }
 
--- The record places that are left beside a history: "Each accepted press is recorded", which sets the place at the
--- count; a take-back and a refused call set none, so every later place is left as it was.
-unfoldable pub records-after : Board → (history : List Replaced) → List UndoRecord
-records-after b [] = b .records
-records-after b (o ∷ os) = cond (eqb (length os) (b .count)) (set (b .records) (b .count) (record-of o)) (b .records)
+-- The record places that are left beside a history, where the first count of them were counted: "Each accepted press is
+-- recorded", which sets the place at the count; a take-back and a refused call set none, so every later place is left
+-- as it was.
+unfoldable pub records-after : (records : List UndoRecord) → (count : ℕ) → (history : List Replaced) → List UndoRecord
+records-after rs k [] = rs
+records-after rs k (o ∷ os) = cond (eqb (length os) k) (set rs k (record-of o)) rs
 
 -- What a call on the board b gives: answer and board as the model's result d, "board as before" after a refusal, and
 -- which record places are set. So the whole board is fixed.
 pub record Answers (d : Result) (b : Board) (r : Answered) : Type 0 where
   pub result : result-of r ≡ d
-  pub records : r .board .records ≡ records-after b (d .board .history)
+  pub records : r .board .records ≡ records-after (b .records) (b .count) (d .board .history)
   pub unchanged : (r .answer ≡ 0 → ⊥) → r .board ≡ b
 
 -- one record more, and nothing else

@@ -8,6 +8,7 @@ pub mod NumberLaws
 pub mod ChangeLaws
 pub mod EffectiveLaws
 pub mod LogLaws
+pub mod LogListsLaws
 pub mod SinglesLaws
 pub mod SameBoardLaws
 pub mod WorkedCommands

@@ -1,8 +1,10 @@
--- Every answer of a command, on any board, is one of the command's own numbers. Assumes nothing.
+-- Every answer of a command, on any board, is one of the command's own numbers, and 15 is never that of a valid board.
+-- Assumes nothing.
 use mathlib.Core.Path.{_≡_, refl}
 use mathlib.Core.Bool.{Bool, true, false, _&&_, not, cond}
 use mathlib.Core.List.{List, [], _∷_}
-use Prim.Native.Nat.{ℕ, zero, suc}
+use Prim.Native.Nat.{ℕ, zero, suc, _<_}
+use native.Mathlib.Omega.{arith}
 use lib.Dec.{ltb, leb, eqb}
 use lib.ListN.{length}
 use Rattle.base.specs.Lists.{any-of}
@@ -71,3 +73,41 @@ answered-listed c b = go (valid b)
     go : (v : Bool) → any-of (eqb (cond v (applied c b) (refused invalid-board b) .answer)) (command-numbers c) ≡ true
     go true = applied-listed c b
     go false = invalid-listed c
+
+-- A COMMAND ON A VALID BOARD IS NEVER ANSWERED 15, the greatest of the numbers
+arc-below : (x y z : Bool) → arc-refusal x y z < invalid-board
+unfolding arc-refusal
+arc-below true y z = omega arith
+arc-below false true z = omega arith
+arc-below false false true = omega arith
+arc-below false false false = omega arith
+
+budget-below : (x z : Bool) → cond x bad-budget (cond z history-full 0) < invalid-board
+budget-below true z = omega arith
+budget-below false true = omega arith
+budget-below false false = omega arith
+
+undo-below : (rs : List Replaced) (b : Model) → undone rs b .answer < invalid-board
+unfolding undone refused
+undo-below [] b = omega arith
+undo-below (r ∷ rs) b = omega arith
+
+applied-below : (c : Command) (b : Model) → applied c b .answer < invalid-board
+unfolding applied marked mark-refusal several-marked marks-refusal budgeted budget-refusal
+applied-below (set-mark m t h) b =
+    let s = b .instance in
+    rw (decided-answer (mark-refusal s (length (b .history)) t h) (old-mark t h (mark s t h)) (with-mark (mark-number m) t h s) b)
+    (arc-below (not (ltb t (s .n) && ltb h (s .n))) (not (is-arc s t h)) (leb max-records (length (b .history))))
+applied-below (set-marks m t c) b =
+    let s = b .instance in
+    let q = names-arc s t c in
+    rw (decided-answer (marks-refusal s (length (b .history)) t c) (old-marks t (heads-of q) (marks-of s t q)) (with-marks t q (λ h. mark-number m) s) b)
+    (arc-below (not (ltb t (s .n) && heads-below (s .n) c)) (not (names-any s t c)) (leb max-records (length (b .history))))
+applied-below (set-budget v) b =
+    let s = b .instance in
+    rw (decided-answer (budget-refusal (length (b .history)) v) (old-budget (s .budget)) (with-budget v s) b)
+    (budget-below (ltb max-budget v) (leb max-records (length (b .history))))
+applied-below undo b = undo-below (b .history) b
+
+pub applied-not-15 : (c : Command) (b : Model) → applied c b .answer ≡ invalid-board → ⊥
+applied-not-15 c b e = omega (arith, applied-below c b, e)

@@ -6,5 +6,6 @@ pub mod Valid
 pub mod Commands
 pub mod Changes
 pub mod Log
+pub mod LogLists
 pub mod Effective
 pub mod SameBoard

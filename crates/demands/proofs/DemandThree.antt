@@ -1,80 +1,42 @@
 -- DEMAND 3, of the public calls themselves and for every caller: one claim about every list of commands on a freshly
--- opened card, refused ones included, looks, writes and checks between them or not. Assumes nothing.
-use mathlib.Core.Path.{_≡_, refl, sym, ap, _∙_, subst}
+-- opened card, refused ones included, made singly or handed over in lists, looks, writes and checks between them or
+-- not. Assumes nothing.
+use mathlib.Core.Path.{_≡_, sym, ap, _∙_, subst}
 use mathlib.Core.Bool.{Bool, true, false, true≢false}
-use mathlib.Core.List.{List, [], _∷_}
+use mathlib.Core.List.{List}
 use Prim.Native.Nat.{ℕ, _*_}
 use lib.ListN.{take}
 use Rattle.instance.specs.Instance.{Instance}
 use Rattle.theory.specs.Readings.{States-read}
 use Rattle.theory.proofs.StateLaws.{states-read}
 use Rattle.card_format.specs.Card.{card-refusal, instance-in}
-use Rattle.card.specs.declared.write.Written.{Written}
-use Rattle.commands.specs.Commands.{Command}
-use Rattle.commands.specs.Log.{Log, new-log, note, log-answers, log-after}
+use Rattle.commands.specs.Log.{new-log}
+use Rattle.commands.specs.LogLists.{Input, input-answers, input-after}
 use Rattle.commands.specs.Effective.{effective}
 use Rattle.board.specs.ModelOf.{instance-of}
 use Rattle.board.specs.declared.Board.{Board}
 use Rattle.board.specs.declared.Answered.{Answered}
-use Rattle.board.proofs.CallLaws.{call-changes}
-use Rattle.board.proofs.RunLaws.{Called, called-answers, Follows, call-follows}
 use Rattle.planner.specs.declared.View.{View}
 use Rattle.planner.specs.Looking.{Buffers, short-for, Looks-at}
 use Rattle.planner.proofs.CallSteps.{states-front, looks-valid}
-use Rattle.planner.proofs.Learnt.{Opened-by, opened-by, Looked, looked, Wrote, Checked}
+use Rattle.planner.proofs.Learnt.{Opened-by, opened-by, Looked, looked}
 use Rattle.planner.proofs.OpeningLaws.{opened-starts}
-
--- a run: "each later one the board as the call before left it, refused or not; looks and writes may come between", and
--- checks of plans made elsewhere (02, A6), which leave the board too. Its commands are single ones and groups: "The
--- press claim .. take[s] a group as one press" (02, A5)
-pub data Run : List Command → Board → (answers : List ℕ) → (last : Board) → Type 0 where
-  no-call : {b : Board} → Run [] b [] b
-  then-command :
-      {c : Command} {cs : List Command} {b : Board} {r : Answered} {xs : List ℕ} {e : Board} → Called c b r → Run cs (r .board) xs e →
-      Run (c ∷ cs) b (r .answer ∷ xs) e
-  then-look :
-      {cs : List Command} {b : Board} {xs : List ℕ} {e : Board} {v : View} {old new : Buffers} → Looked b old new v → Run cs b xs e → Run cs b xs e
-  then-write :
-      {cs : List Command} {b : Board} {xs : List ℕ} {e : Board} {r : Written} {out out′ : List ℕ} → Wrote b out out′ r → Run cs b xs e → Run cs b xs e
-  then-check :
-      {cs : List Command} {b : Board} {xs : List ℕ} {e : Board} {ps ps′ : List ℕ} {v k : ℕ} {ws ws′ : List ℕ} {r : ℕ} → Checked b ps ps′ v k ws ws′ r → Run cs b xs e →
-      Run cs b xs e
-
-pub record Follows-run (cs : List Command) (k : Log) (b : Board) (xs : List ℕ) (e : Board) : Type 0 where
-  pub same-answers : xs ≡ log-answers cs k
-  pub follows : Follows e (log-after cs k)
-  pub same-n : e .n ≡ b .n
-
-pub run-follows : {cs : List Command} {b : Board} {xs : List ℕ} {e : Board} → Run cs b xs e → (k : Log) → Follows b k → Follows-run cs k b xs e
-unfolding log-answers log-after
-run-follows no-call k f = record { same-answers = refl; follows = f; same-n = refl }
-run-follows (then-command {c = c} {b = b} {r = r} l rest) k f =
-    let a = called-answers l in
-    let s = call-follows c b r k a f in
-    let n = run-follows rest (note c k .log) (s .follows) in
-    record {
-      same-answers = λ i. s .same-answer i ∷ n .same-answers i;
-      follows = n .follows;
-      same-n = n .same-n ∙ call-changes c b r a .n;
-    }
-run-follows (then-look l rest) k f = run-follows rest k f
-run-follows (then-write l rest) k f = run-follows rest k f
-run-follows (then-check l rest) k f = run-follows rest k f
+use Rattle.demands.proofs.Runs.{Run, run-follows}
 
 -- "every call's answer, accepted or the refusal's number, is the book's. A look at the last board, whatever buffers it
 -- is lent, gives 14 exactly when one is too short; otherwise the n times n states are those of 'Link states', over the
 -- feed trees of the card's positions, root and prices under the standing marks, within the standing budget." The last
 -- words are amended: "The claim about presses and the rule on reduced prices now use the larger of the budget and the
 -- cheapest total" (02, A2).
-pub record Demand-3 (ws : List ℕ) (cs : List Command) (xs : List ℕ) (old new : Buffers) (v : View) : Type 0 where
-  pub answers : xs ≡ log-answers cs (new-log (instance-in ws))
-  pub last-look : Looks-at true (short-for (instance-in ws .n) old) (effective (log-after cs (new-log (instance-in ws)))) old new v
+pub record Demand-3 (ws : List ℕ) (is : List Input) (xs : List ℕ) (old new : Buffers) (v : View) : Type 0 where
+  pub answers : xs ≡ input-answers is (new-log (instance-in ws))
+  pub last-look : Looks-at true (short-for (instance-in ws .n) old) (effective (input-after is (new-log (instance-in ws)))) old new v
   -- the n times n states in the buffer, read in the documents' words and in both directions: closed exactly when no
   -- arborescence of the effective instance within that limit uses the arc, open exactly when some do and some don't,
   -- sure exactly when there is one and all use it
   pub states-shown :
       short-for (instance-in ws .n) old ≡ false →
-      States-read (effective (log-after cs (new-log (instance-in ws)))) (take (instance-in ws .n * instance-in ws .n) (new .states))
+      States-read (effective (input-after is (new-log (instance-in ws)))) (take (instance-in ws .n * instance-in ws .n) (new .states))
 
 shown-states : (t : Bool) (s : Instance) (v : View) (old new : Buffers) → Looks-at true t s old new v → t ≡ false → States-read s (take (s .n * s .n) (new .states))
 unfolding Looks-at
@@ -82,14 +44,14 @@ shown-states true s v old new l e = absurd (true≢false e)
 shown-states false s v old new x e = subst (States-read s) (sym (states-front s v old new x)) (states-read s)
 
 pub demand-3 :
-    (ws : List ℕ) (cs : List Command) (o : Answered) (xs : List ℕ) (last : Board) (v : View) (old new : Buffers) → card-refusal ws ≡ 0 →
-    Opened-by ws o → Run cs (o .board) xs last → Looked last old new v → Demand-3 ws cs xs old new v
-demand-3 ws cs o xs last v old new z p run l =
+    (ws : List ℕ) (is : List Input) (o : Answered) (xs : List ℕ) (last : Board) (v : View) (old new : Buffers) → card-refusal ws ≡ 0 →
+    Opened-by ws o → Run is (o .board) xs last → Looked last old new v → Demand-3 ws is xs old new v
+demand-3 ws is o xs last v old new z p run l =
     let s = opened-starts ws o (opened-by p) z in
     let r = run-follows run (new-log (instance-in ws)) (record { is-valid = s .good; tied = s .tied }) in
     let shown = looks-valid last v old new (r .follows .is-valid) (looked l) in
     let t = short-for (instance-in ws .n) old in
-    let k = log-after cs (new-log (instance-in ws)) in
+    let k = input-after is (new-log (instance-in ws)) in
     let same = r .follows .tied .same-instance in
     let looks : Looks-at true t (effective k) old new v =
     subst (λ (i : Instance). Looks-at true t i old new v) same

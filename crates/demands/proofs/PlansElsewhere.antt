@@ -24,9 +24,9 @@ use Rattle.card_format.specs.Card.{card-refusal, instance-in}
 use Rattle.certificate.specs.Certificate.{certificate-refusal}
 use Rattle.certificate.specs.Readings.{Accepted}
 use Rattle.certificate.proofs.CertificateLaws.{same-refusal, accepted-reads, accepted-least, no-tree-refused}
-use Rattle.commands.specs.Commands.{Command}
 use Rattle.commands.specs.Valid.{valid}
-use Rattle.commands.specs.Log.{new-log, log-after}
+use Rattle.commands.specs.Log.{new-log}
+use Rattle.commands.specs.LogLists.{Input, input-after}
 use Rattle.commands.specs.Effective.{effective}
 use Rattle.commands.specs.SameBoard.{Same-board}
 use Rattle.commands.proofs.SameBoardLaws.{same-valid}
@@ -43,7 +43,7 @@ use Rattle.planner.specs.Checking.{check-answer}
 use Rattle.planner.proofs.Learnt.{Opened-by, opened-by, Looked, looked, Checked, checked}
 use Rattle.planner.proofs.OpeningLaws.{opened-starts}
 use Rattle.demands.proofs.DemandTwo.{Keeps-marks, Proved-tree, Demand-2, demand-2}
-use Rattle.demands.proofs.DemandThree.{Run, run-follows}
+use Rattle.demands.proofs.Runs.{Run, run-follows}
 
 -- A PLAN THAT IS ACCEPTED
 pub record Cheapest-plan (s : Instance) (tree : List ℕ) (v : ℕ) : Type 0 where
@@ -166,10 +166,10 @@ own-accepted {b} {u} {old} {new} {w} {k} {ps′} {ws′} {r} l e c =
 
 -- AFTER ANY RUN on a freshly opened card a plan is judged by the log's marks
 pub check-follows :
-    (ws : List ℕ) (cs : List Command) (o : Answered) (xs : List ℕ) (last : Board) → card-refusal ws ≡ 0 → Opened-by ws o → Run cs (o .board) xs last →
+    (ws : List ℕ) (is : List Input) (o : Answered) (xs : List ℕ) (last : Board) → card-refusal ws ≡ 0 → Opened-by ws o → Run is (o .board) xs last →
     {ps ps′ : List ℕ} {v k : ℕ} {us us′ : List ℕ} {r : ℕ} → Checked last ps ps′ v k us us′ r →
-    r ≡ certificate-refusal (effective (log-after cs (new-log (instance-in ws)))) ps v k us
-check-follows ws cs o xs last z p run {ps} {ps′} {v} {k} {us} {us′} {r} c =
+    r ≡ certificate-refusal (effective (input-after is (new-log (instance-in ws)))) ps v k us
+check-follows ws is o xs last z p run {ps} {ps′} {v} {k} {us} {us′} {r} c =
     let s = opened-starts ws o (opened-by p) z in
     let f = run-follows run (new-log (instance-in ws)) (record { is-valid = s .good; tied = s .tied }) .follows in
     checked c .result ∙ rw (f .is-valid) (ap (λ (i : Instance). certificate-refusal i ps v k us) (f .tied .same-instance))

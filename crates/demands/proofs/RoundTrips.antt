@@ -30,9 +30,11 @@ use Rattle.card_format.proofs.SameCard.{same-card}
 use Rattle.commands.specs.Valid.{valid}
 use Rattle.commands.specs.Commands.{Command}
 use Rattle.commands.specs.Log.{Log, new-log, log-after}
+use Rattle.commands.specs.LogLists.{Input}
 use Rattle.commands.specs.Effective.{effective}
 use Rattle.commands.specs.SameBoard.{Same-board}
 use Rattle.commands.proofs.ValidLaws.{valid-fields}
+use Rattle.commands.proofs.LogListsLaws.{input-commands, input-after-commands}
 use Rattle.commands.proofs.EffectiveLaws.{new-on-arcs, log-on-arcs, effective-cell-elsewhere}
 use Rattle.commands.proofs.SameBoardLaws.{same-valid}
 use Rattle.board.specs.ModelOf.{model-of, instance-of}
@@ -42,7 +44,7 @@ use Rattle.planner.specs.Opening.{opened-from}
 use Rattle.planner.proofs.Learnt.{Opened-by, opened-by, Wrote, wrote}
 use Rattle.planner.proofs.OpeningLaws.{opened-starts, opened-answer, opened-instance}
 use Rattle.planner.proofs.WritingLaws.{Write-case, refused-board, refused-buffer, stored, write-cases}
-use Rattle.demands.proofs.DemandThree.{Run, run-follows}
+use Rattle.demands.proofs.Runs.{Run, run-follows}
 
 -- FROM A CARD AND BACK
 pub record Same-card (ws out out′ : List ℕ) (r : Written) : Type 0 where
@@ -123,12 +125,14 @@ module _ (ws : List ℕ) (cs : List Command) where
   reached-back v =
       instance-back (effective after) v (ap (λ (s : Instance). length (s .weights)) same-log-card ∙ weights-long ws) (length-tabulate cells _) off-card
 
-pub run-back : {ws : List ℕ} {o : Answered} {cs : List Command} {xs : List ℕ} {last : Board} {r : Written} {out out′ : List ℕ} {q : Answered} → card-refusal ws ≡ 0
-    → Opened-by ws o → Run cs (o .board) xs last → Wrote last out out′ r → r .answer ≡ 0 → Opened-by (take (r .length) out′) q → instance-of (q .board) ≡ instance-of last
-run-back {ws} {o} {cs} {xs} {last} {r} {out} {out′} {q} z p run w a u =
+pub run-back : {ws : List ℕ} {o : Answered} {is : List Input} {xs : List ℕ} {last : Board} {r : Written} {out out′ : List ℕ} {q : Answered} → card-refusal ws ≡ 0
+    → Opened-by ws o → Run is (o .board) xs last → Wrote last out out′ r → r .answer ≡ 0 → Opened-by (take (r .length) out′) q → instance-of (q .board) ≡ instance-of last
+run-back {ws} {o} {is} {xs} {last} {r} {out} {out′} {q} z p run w a u =
     let s = opened-starts ws o (opened-by p) z in
-    let f = run-follows run (new-log (instance-in ws)) (record { is-valid = s .good; tied = s .tied }) in
-    let same = f .follows .tied .same-instance in
+    let k = new-log (instance-in ws) in
+    let f = run-follows run k (record { is-valid = s .good; tied = s .tied }) in
+    let cs = input-commands is k in
+    let same = f .follows .tied .same-instance ∙ ap effective (input-after-commands is k) in
     let c = stored-card w a in
     let e = reopened last (take (r .length) out′) q c (opened-by u) in
     e .1 ∙ ap (λ (x : Instance). instance-in (card-of x)) same ∙ reached-back ws cs (subst (λ (x : Instance). valid-instance x ≡ true) same (c .fields)) ∙ sym same

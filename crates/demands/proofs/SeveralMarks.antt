@@ -3,7 +3,7 @@
 -- writes and checks between or not; and that it is recorded as one press and taken back as one. Assumes nothing.
 use mathlib.Core.Path.{_≡_, refl, sym, ap, _∙_}
 use mathlib.Core.Bool.{true}
-use mathlib.Core.List.{List, _∷_}
+use mathlib.Core.List.{List, _∷_, map}
 use Prim.Native.Nat.{ℕ, _+_, _≤_}
 use native.Mathlib.Omega.{arith}
 use lib.ListN.{length, replicate}
@@ -12,8 +12,9 @@ use Rattle.instance.specs.declared.Mark.{Mark}
 use Rattle.commands.specs.Heads.{names-arc, heads-of, marks-of}
 use Rattle.commands.specs.Model.{old-marks, Model}
 use Rattle.commands.specs.Valid.{valid}
-use Rattle.commands.specs.Commands.{Command, set-marks, undo, Result, answered, answers, board-after}
+use Rattle.commands.specs.Commands.{set-marks, undo, Result}
 use Rattle.commands.specs.Changes.{is-undo}
+use Rattle.commands.specs.LogLists.{single}
 use Rattle.commands.proofs.CommandLaws.{several-recorded}
 use Rattle.commands.proofs.AnsweredLaws.{answered-applied, accepted-valid}
 use Rattle.commands.proofs.SinglesLaws.{singles, Lists-arcs, singles-alike}
@@ -23,27 +24,7 @@ use Rattle.board.specs.declared.Answered.{Answered}
 use Rattle.board.proofs.ModelOfLaws.{length-history}
 use Rattle.board.proofs.CallLaws.{call-board, call-answer, call-undo-restores}
 use Rattle.board.proofs.RunLaws.{Called, called-answers}
-use Rattle.demands.proofs.DemandThree.{Run, no-call, then-command, then-look, then-write, then-check}
-
--- what a run gives is what the model gives for its commands
-pub record Runs-as (cs : List Command) (b : Board) (xs : List ℕ) (e : Board) : Type 0 where
-  pub same-answers : xs ≡ answers answered cs (model-of b)
-  pub same-board : model-of e ≡ board-after answered cs (model-of b)
-
-pub run-model : {cs : List Command} {b : Board} {xs : List ℕ} {e : Board} → Run cs b xs e → Runs-as cs b xs e
-unfolding answers board-after
-run-model no-call = record { same-answers = refl; same-board = refl }
-run-model (then-command {c = c} {cs = cs} {b = b} {r = r} l rest) =
-    let a = called-answers l in
-    let n = run-model rest in
-    let m = call-board c b r a in
-    record {
-      same-answers = λ i. call-answer c b r a i ∷ (n .same-answers ∙ ap (answers answered cs) m) i;
-      same-board = n .same-board ∙ ap (board-after answered cs) m;
-    }
-run-model (then-look l rest) = run-model rest
-run-model (then-write l rest) = run-model rest
-run-model (then-check l rest) = run-model rest
+use Rattle.demands.proofs.Runs.{Run, run-as}
 
 -- THE LAW: a group press that was accepted, and a run of single presses on a board with the same instance, which names
 -- the members that are arcs and no others, leave one and the same instance: every mark, and so the outcome and the
@@ -56,16 +37,15 @@ pub record Alike (hs : List ℕ) (r : Answered) (xs : List ℕ) (e : Board) : Ty
 pub several-alike :
     {m : Mark} {t c : ℕ} {hs : List ℕ} {b a : Board} {r : Answered} {xs : List ℕ} {e : Board} → Called (set-marks m t c) b r → r .answer ≡ 0 →
     valid (model-of a) ≡ true → instance-of a ≡ instance-of b → Lists-arcs (instance-of b) t c hs → a .count + length hs ≤ max-records →
-    Run (singles m t hs) a xs e → Alike hs r xs e
+    Run (map single (singles m t hs)) a xs e → Alike hs r xs e
 several-alike {m} {t} {c} {hs} {b} {a} {r} l z v same names few run =
     let d = called-answers l in
-    let n = run-model run in
     let s =
     singles-alike m t c hs (model-of b) (model-of a) (sym (call-answer (set-marks m t c) b r d) ∙ z) v same names
     (omega (arith, few, length-history (a .count) (a .records))) in
     record {
-      all-accepted = n .same-answers ∙ s .all-accepted;
-      same-instance = ap (λ (x : Model). x .instance) (n .same-board) ∙ s .same-instance ∙ ap (λ (x : Model). x .instance) (sym (call-board (set-marks m t c) b r d));
+      all-accepted = run-as run .same-answers ∙ s .all-accepted;
+      same-instance = ap (λ (x : Model). x .instance) (run-as run .same-model) ∙ s .same-instance ∙ ap (λ (x : Model). x .instance) (sym (call-board (set-marks m t c) b r d));
     }
 
 -- "recorded as one press and taken back as one": one record, of the members that are arcs with the mark that each had

@@ -11,8 +11,11 @@ use Rattle.base.specs.Lists.{any-of}
 use Rattle.commands.specs.Commands.{Command, set-mark, set-marks, set-budget, undo, command-numbers}
 use Rattle.commands.specs.Log.{Log, unnoted, note}
 use Rattle.commands.proofs.LogLaws.{note-listed}
+use Rattle.command_list.specs.CommandList.{commands-in}
+use Rattle.command_list.proofs.ListNumberLaws.{lists-lack}
 use Rattle.planner.specs.Replaying.{Call, command, look, write, log-call, call-answers}
-use Rattle.demands.proofs.DemandOne.{Given, by-opening, by-command, by-looking, by-writing, by-checking, by-reporting, by-replaying, numbers, among, demand-1}
+use Rattle.demands.proofs.CallNumbers.{among}
+use Rattle.demands.proofs.DemandOne.{Given, by-opening, by-command, by-list, by-looking, by-writing, by-checking, by-reporting, by-replaying, numbers, demand-1}
 
 -- ONE CALL
 -- 6 is among the numbers of no command
@@ -28,6 +31,7 @@ all-lack-six : {a : ℕ} (g : Given a) → among 6 (numbers g) ≡ false
 unfolding any-of
 all-lack-six (by-opening p) = refl
 all-lack-six (by-command {c = c} p) = commands-lack-six c
+all-lack-six (by-list {ps = ps} p) = lists-lack (eqb 6) refl commands-lack-six (commands-in ps)
 all-lack-six (by-looking p) = refl
 all-lack-six (by-writing p) = refl
 all-lack-six (by-checking p) = refl

@@ -1,6 +1,7 @@
 // The public calls, gathered here: open_card, pin, ban, clear, pin_group, ban_group, clear_group, set_budget,
-// take_back, look, write_card, check_plan and replay. None requires anything of its caller: whatever is handed in gets
-// an answer, and after a refusal the board and all buffers are as they were.
+// take_back, press_list, look, write_card, check_plan and replay. None requires anything of its caller: whatever is
+// handed in gets an answer, and after a refusal the board and all buffers are as they were; of a list of presses that
+// is said of the refused press, and what the earlier ones did stands.
 mod checking; // checking.rt: a plan made elsewhere, checked for a board
 mod copies; // copies.rt: copies into the caller's buffers
 mod displaying; // displaying.rt: what planning found, copied there
@@ -11,6 +12,7 @@ mod writing; // writing.rt: a board written as a card
 
 pub use board::Answered;
 pub use board::Board;
+pub use board::Command;
 pub use board::calls::ban;
 pub use board::calls::ban_group;
 pub use board::calls::clear;
@@ -21,6 +23,10 @@ pub use board::calls::set_budget;
 pub use board::calls::take_back;
 pub use card::write::Written;
 pub use checking::check_plan;
+pub use command_list::ListAnswered;
+pub use command_list::Press;
+pub use command_list::press_list;
+pub use instance::Mark;
 pub use instance::Outcome;
 pub use instance::Vertex;
 pub use looking::look;

@@ -52,7 +52,9 @@ returns-2 c =
     rw (history-step (b .count) (b .records) (omega arith))
     (record {
       result = λ i. record { answer = 0; board = record { instance = g .instance i; history = history-of (b .count - 1) (g .records i) } };
-      records = g .records ∙ sym (records-left b (history-of (b .count - 1) (b .records)) (omega (arith, length-history (b .count - 1) (b .records))));
+      records =
+          g .records
+          ∙ sym (records-left (b .records) (b .count) (history-of (b .count - 1) (b .records)) (omega (arith, length-history (b .count - 1) (b .records))));
       unchanged = λ z. absurd (z refl);
     })
 

@@ -1,0 +1,2 @@
+-- What the contracts cite. Assumes nothing.
+pub mod CommandList

@@ -1,0 +1,186 @@
+-- What demand 1 says of each call but the commands: its numbers, that every answer is one of them, what a refusal
+-- leaves as it was, and that what is accepted was asked of a valid board or of a card that opens. Assumes nothing.
+use mathlib.Core.Path.{_≡_, refl, sym, ap, _∙_, subst}
+use mathlib.Core.Bool.{Bool, true, false, cond}
+use mathlib.Core.List.{List, [], _∷_}
+use Prim.Native.Nat.{ℕ, zero, suc, _≤_}
+use native.Mathlib.Omega.{arith}
+use lib.Dec.{eqb}
+use lib.ListN.{length}
+use borrow.Author.Tests.{ne-eqb, eqb-true}
+use Rattle.base.proofs.BoolLaws.{or-right}
+use Rattle.base.specs.Lists.{any-of}
+use Rattle.instance.specs.Refusals.{card-short, bad-count, bad-length, bad-root, bad-card-budget, bad-mark, bad-filling, buffer-short, invalid-board}
+use Rattle.instance.specs.Instance.{Instance}
+use Rattle.card_format.specs.Card.{card-refusal}
+use Rattle.card_format.proofs.OpensLaws.{card-refusal-most}
+use Rattle.card_format.proofs.SixRetired.{six-retired}
+use Rattle.card.specs.declared.write.Written.{Written}
+use Rattle.certificate.specs.Certificate.{certificate-refusal, certificate-numbers}
+use Rattle.certificate.proofs.CertificateLaws.{refusal-listed}
+use Rattle.commands.specs.Valid.{valid}
+use Rattle.commands.specs.Log.{Log}
+use Rattle.board.specs.ModelOf.{model-of, instance-of}
+use Rattle.board.specs.Create.{blank}
+use Rattle.board.specs.declared.Board.{Board}
+use Rattle.board.specs.declared.Answered.{Answered}
+use Rattle.text.specs.Buffer.{Filled}
+use Rattle.report_text.specs.Whole.{refused-text}
+use Rattle.report.specs.declared.Reported.{Reported}
+use Rattle.report.specs.Reports.{Reports-by}
+use Rattle.planner.specs.declared.View.{View}
+use Rattle.planner.specs.Opening.{answered-with, opened-from}
+use Rattle.planner.specs.Looking.{Buffers, answer-of, Looks-at}
+use Rattle.planner.specs.Checking.{check-answer}
+use Rattle.planner.specs.Replaying.{Call, Replays-at}
+use Rattle.planner.proofs.CallSteps.{shown-answer}
+use Rattle.planner.proofs.WritingLaws.{Write-case, refused-board, refused-buffer, stored}
+use Rattle.planner.proofs.OpeningLaws.{opened-answer}
+
+-- THE NUMBERS OF EACH CALL, 0 for accepted: "Cards: 1 to 5 in that order; then the first faulty cell ..; then 8." Of a
+-- cell it is 7: "6 is retired" (02, A9).
+abbrev pub card-numbers : List ℕ
+card-numbers = 0 ∷ card-short ∷ bad-count ∷ bad-length ∷ bad-root ∷ bad-card-budget ∷ bad-mark ∷ bad-filling ∷ []
+
+-- "14 for looks and writes"
+abbrev pub buffer-numbers : List ℕ
+buffer-numbers = 0 ∷ invalid-board ∷ buffer-short ∷ []
+
+-- "in order 15, 14, 21 .. 25" (02, A6)
+abbrev pub check-numbers : List ℕ
+check-numbers = invalid-board ∷ certificate-numbers
+
+abbrev pub among : (a : ℕ) → List ℕ → Bool
+among a ns = any-of (eqb a) ns
+
+-- a report that is refused: 14 leaves the buffer as it was; the line of a refused card is what it is to write
+pub record Reports-before (out out′ : List ℕ) (r : Reported) : Type 0 where
+  pub short : r .answer ≡ buffer-short → out′ ≡ out
+  pub line : (r .answer ≡ buffer-short → ⊥) → Filled (refused-text (r .answer)) out out′ (r .length)
+
+-- CARDS
+pub card-listed : (a : ℕ) → a ≤ bad-filling → (a ≡ 6 → ⊥) → among a card-numbers ≡ true
+unfolding any-of
+card-listed zero h n = refl
+card-listed (suc zero) h n = refl
+card-listed (suc (suc zero)) h n = refl
+card-listed (suc (suc (suc zero))) h n = refl
+card-listed (suc (suc (suc (suc zero)))) h n = refl
+card-listed (suc (suc (suc (suc (suc zero))))) h n = refl
+card-listed (suc (suc (suc (suc (suc (suc zero)))))) h n = absurd (n refl)
+card-listed (suc (suc (suc (suc (suc (suc (suc zero))))))) h n = refl
+card-listed (suc (suc (suc (suc (suc (suc (suc (suc zero)))))))) h n = refl
+card-listed (suc (suc (suc (suc (suc (suc (suc (suc (suc a))))))))) h n = absurd (omega arith)
+
+pub card-among : (ws : List ℕ) → among (card-refusal ws) card-numbers ≡ true
+card-among ws = card-listed (card-refusal ws) (card-refusal-most ws) (six-retired ws)
+
+pub opened-as-before : (ws : List ℕ) (o : Answered) → o ≡ opened-from ws → (o .answer ≡ 0 → ⊥) → o .board ≡ blank
+unfolding opened-from
+opened-as-before ws o e n =
+    let z : card-refusal ws ≡ 0 → ⊥ = λ z. n (opened-answer ws o e ∙ z) in
+    let q : o ≡ answered-with (card-refusal ws) blank = e ∙ rw (ne-eqb (card-refusal ws) 0 z) in
+    ap (λ (x : Answered). x .board) q
+
+-- LOOKS
+module _ (s : Instance) (v : View) (old new : Buffers) where
+  pub looks-at-among : (g t : Bool) → Looks-at g t s old new v → among (answer-of v) buffer-numbers ≡ true
+  unfolding Looks-at any-of
+  looks-at-among false t u = rw (ap answer-of (u .result))
+  looks-at-among true true u = rw (ap answer-of (u .result))
+  looks-at-among true false x = rw (shown-answer s v old new x)
+
+  pub looks-at-as-before : (g t : Bool) → Looks-at g t s old new v → (answer-of v ≡ 0 → ⊥) → new ≡ old
+  unfolding Looks-at
+  looks-at-as-before false t u n = u .buffers
+  looks-at-as-before true true u n = u .buffers
+  looks-at-as-before true false x n = absurd (n (shown-answer s v old new x))
+
+  pub looks-at-valid : (g t : Bool) → Looks-at g t s old new v → answer-of v ≡ 0 → g ≡ true
+  unfolding Looks-at
+  looks-at-valid true t u e = refl
+  looks-at-valid false t u e = absurd (omega (arith, sym e ∙ ap answer-of (u .result)))
+
+-- WRITES
+module _ (b : Board) (r : Written) (out out′ : List ℕ) where
+  pub writes-among : Write-case b out out′ r → among (r .answer) buffer-numbers ≡ true
+  unfolding any-of
+  writes-among (refused-board e p q) = rw p
+  writes-among (refused-buffer e l p q) = rw p
+  writes-among (stored e l p q) = rw p
+
+  pub writes-as-before : Write-case b out out′ r → (r .answer ≡ 0 → ⊥) → out′ ≡ out
+  writes-as-before (refused-board e p q) n = q
+  writes-as-before (refused-buffer e l p q) n = q
+  writes-as-before (stored e l p q) n = absurd (n (ap (λ (x : Written). x .answer) p))
+
+  pub writes-valid : Write-case b out out′ r → r .answer ≡ 0 → valid (model-of b) ≡ true
+  writes-valid (refused-board e p q) z = absurd (omega (arith, sym z ∙ ap (λ (x : Written). x .answer) p))
+  writes-valid (refused-buffer e l p q) z = e
+  writes-valid (stored e l p q) z = e
+
+-- CHECKS
+module _ (b : Board) (ps : List ℕ) (v k : ℕ) (ws : List ℕ) where
+  pub check-among : among (check-answer b ps v k ws) check-numbers ≡ true
+  unfolding any-of
+  check-among = by (valid (model-of b))
+    where
+      by : (g : Bool) → among (cond g (certificate-refusal (instance-of b) ps v k ws) invalid-board) check-numbers ≡ true
+      by false = refl
+      by true =
+          or-right (eqb (certificate-refusal (instance-of b) ps v k ws) invalid-board) (among (certificate-refusal (instance-of b) ps v k ws) certificate-numbers)
+          (refusal-listed (instance-of b) ps v k ws)
+
+  pub check-valid : check-answer b ps v k ws ≡ 0 → valid (model-of b) ≡ true
+  check-valid = by (valid (model-of b))
+    where
+      by : (g : Bool) → cond g (certificate-refusal (instance-of b) ps v k ws) invalid-board ≡ 0 → g ≡ true
+      by true e = refl
+      by false e = absurd (omega (arith, e))
+
+-- REPORTS, by whether the buffer is too short and the card opens
+module _ (ws : List ℕ) (r : Reported) (out out′ : List ℕ) where
+  abbrev opens : Bool
+  opens = eqb (card-refusal ws) 0
+
+  pub reports-among : (t u : Bool) → Reports-by t u ws out out′ r → among (r .answer) (buffer-short ∷ card-numbers) ≡ true
+  unfolding Reports-by any-of
+  reports-among true u x = rw (ap (λ (y : Reported). y .answer) (x .result))
+  reports-among false false x =
+      rw (x .answer) (or-right (eqb (card-refusal ws) buffer-short) (among (card-refusal ws) card-numbers) (card-among ws))
+  reports-among false true x = rw (x .answer)
+
+  pub reports-before : (t u : Bool) → Reports-by t u ws out out′ r → (r .answer ≡ 0 → ⊥) → Reports-before out out′ r
+  unfolding Reports-by
+  reports-before true u x n = record { short = λ e. x .buffer; line = λ e. absurd (e (ap (λ (y : Reported). y .answer) (x .result))) }
+  reports-before false false x n =
+      record {
+        short = λ e. absurd (omega (arith, sym (x .answer) ∙ e, card-refusal-most ws));
+        line = λ e. subst (λ (a : ℕ). Filled (refused-text a) out out′ (r .length)) (sym (x .answer)) (x .text);
+      }
+  reports-before false true x n = absurd (n (x .answer))
+
+  pub reports-opened : (t u : Bool) → opens ≡ u → Reports-by t u ws out out′ r → r .answer ≡ 0 → card-refusal ws ≡ 0
+  unfolding Reports-by
+  reports-opened true u q x e = absurd (omega (arith, sym e ∙ ap (λ (y : Reported). y .answer) (x .result)))
+  reports-opened false false q x e = sym (x .answer) ∙ e
+  reports-opened false true q x e = eqb-true (card-refusal ws) 0 q
+
+-- REPLAYS
+module _ (cs : List Call) (k : Log) (v : View) (xs xs′ : List ℕ) (old new : Buffers) where
+  pub replays-among : (a : ℕ) (t : Bool) → among a card-numbers ≡ true → Replays-at a t cs k xs xs′ old new v → among (answer-of v) (buffer-short ∷ card-numbers) ≡ true
+  unfolding Replays-at any-of
+  replays-among (suc a) t l r = rw (ap answer-of (r .1 .result)) (or-right (eqb (suc a) buffer-short) (among (suc a) card-numbers) l)
+  replays-among zero true l r = rw (ap answer-of (r .1 .result))
+  replays-among zero false l r = rw (shown-answer _ v old new (r .1))
+
+  pub replays-as-before : (a : ℕ) (t : Bool) → Replays-at a t cs k xs xs′ old new v → (answer-of v ≡ 0 → ⊥) → (xs′ ≡ xs) × (new ≡ old)
+  unfolding Replays-at
+  replays-as-before (suc a) t r n = (r .0, r .1 .buffers)
+  replays-as-before zero true r n = (r .0, r .1 .buffers)
+  replays-as-before zero false r n = absurd (n (shown-answer _ v old new (r .1)))
+
+  pub replays-opened : (a : ℕ) (t : Bool) → Replays-at a t cs k xs xs′ old new v → answer-of v ≡ 0 → a ≡ 0
+  unfolding Replays-at
+  replays-opened zero t r e = refl
+  replays-opened (suc a) t r e = absurd (omega (arith, sym e ∙ ap answer-of (r .1 .result)))
