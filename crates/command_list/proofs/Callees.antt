@@ -1,6 +1,6 @@
 -- What `press_list` hands to `begin`, `advance` and `following`, and what it hears of them: their contracts, and
--- nothing else of them. Boards, presses and runs are plain data: what their types own is never carried along, `owned`
--- makes it anew of the relation (`LL.makes`). Assumes nothing.
+-- nothing else of them. Boards, presses and results are plain data: what their types own is never carried along,
+-- `owned` makes it anew of the relation (`LL.makes`). Assumes nothing.
 use mathlib.Core.Path.{_≡_, refl, ap, subst}
 use mathlib.Core.List.{[], _∷_}
 use Prim.Native.Nat.{ℕ, _+_, _<_, _^_}

@@ -4,7 +4,6 @@ use mathlib.Core.Path.{_≡_, refl, sym, ap, _∙_, subst}
 use mathlib.Core.Bool.{true}
 use mathlib.Core.List.{List, [], _∷_}
 use Prim.Native.Nat.{suc}
-use borrow.Author.Tests.{eq-eqb, ne-eqb}
 use Rattle.commands.specs.Model.{Model}
 use Rattle.commands.specs.Valid.{valid}
 use Rattle.commands.specs.Commands.{Command, Result, applied, answered}
@@ -12,6 +11,7 @@ use Rattle.commands.specs.Log.{Log, note}
 use Rattle.commands.specs.LogLists.{Noted-list, none-noted, one-more-noted, note-list}
 use Rattle.commands.proofs.AnsweredLaws.{answered-applied, answered-valid}
 use Rattle.commands.proofs.LogLaws.{Tied, step-tied}
+use Rattle.commands.proofs.LogListsLaws.{note-on, note-stop}
 use Rattle.board.specs.Contents.{Contents, contents-after}
 use Rattle.command_list.specs.CommandList.{ListResult, none-applied, one-more, list-answered}
 use Rattle.command_list.proofs.CommandListLaws.{list-on-valid}
@@ -21,14 +21,6 @@ pub record List-tied (r : ListResult) (n : Noted-list) : Type 0 where
   pub same-applied : r .applied ≡ n .applied
   pub same-answer : r .answer ≡ n .answer
   pub tied : Tied (r .board .model) (n .log)
-
-note-on : (c : Command) (cs : List Command) (k : Log) → note c k .answer ≡ 0 → note-list (c ∷ cs) k ≡ one-more-noted (note-list cs (note c k .log))
-unfolding note-list
-note-on c cs k e = rw (eq-eqb (note c k .answer) 0 e)
-
-note-stop : (c : Command) (cs : List Command) (k : Log) → (note c k .answer ≡ 0 → ⊥) → note-list (c ∷ cs) k ≡ none-noted (note c k .answer) k
-unfolding note-list
-note-stop c cs k n = rw (ne-eqb (note c k .answer) 0 n)
 
 -- ONE COMMAND, on a valid board
 module _ (c : Command) (b : Model) (k : Log) (v : valid b ≡ true) (t : Tied b k) where

@@ -2,8 +2,10 @@
 pub mod CommandListLaws
 pub mod AppliedLaws
 pub mod FollowLaws
+pub mod SameListLaws
 pub mod ListNumberLaws
 pub mod WorkedLists
 pub mod LoopLaws
-mod Callees
+pub mod Callees
+mod Standing
 pub mod Pressed

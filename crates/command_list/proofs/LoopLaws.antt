@@ -1,4 +1,4 @@
--- The loop of `press_list`: what the run so far and the rest of the list give together is what the whole list gives,
+-- The loop of `press_list`: what was given so far and the rest of the list give together is what the whole list gives,
 -- and one press more keeps it. Assumes nothing.
 use mathlib.Core.Path.{_≡_, refl, sym, ap, _∙_, subst}
 use mathlib.Core.Bool.{Bool, true, false}
@@ -59,7 +59,7 @@ place-nearer a i n l = go (eqb a 0) refl
     go true e = rw (place-on a i n (eqb-true a 0 e)) (omega (arith, l))
     go false e = rw (place-end a i n (eqb-false a 0 e)) (omega (arith, l))
 
--- THE INVARIANT, before the place i with the run s
+-- THE INVARIANT, before the place i with the result s
 pub record Upto (ps : List Press) (b : Board) (i : ℕ) (s : ListAnswered) : Type 0 where
   pub result : continued (list-result-of s) (commands-in (drop i ps)) ≡ list-answered (commands-in ps) (contents-of b)
   pub within : i ≤ length ps
@@ -79,7 +79,7 @@ module _ (ps : List Press) (b : Board) (i : ℕ) (d : Press) (s r : ListAnswered
   abbrev rest : List Command
   rest = commands-in (drop (suc i) ps)
 
-  -- the run with this press, and what comes after it
+  -- the result with this press, and what comes after it
   went-on : continued (list-result-of r) rest ≡ list-answered (commands-in ps) (contents-of b)
   went-on =
       ap (λ (q : ListResult). continued q rest) h ∙ continued-join (list-result-of s) (command-of (getD ps i d .command) ∷ []) rest

@@ -13,7 +13,7 @@ use board::calls::execute;
 use board::valid::is_valid;
 use instance::refusals::INVALID_BOARD;
 
-// An entry of a list: any command, a take-back too.
+// One press of a list: any command, a take-back too.
 pub struct Press {
     pub command: Command,
 }

@@ -59,7 +59,7 @@ pub record Reports-before (out out′ : List ℕ) (r : Reported) : Type 0 where
   pub line : (r .answer ≡ buffer-short → ⊥) → Filled (refused-text (r .answer)) out out′ (r .length)
 
 -- CARDS
-pub card-listed : (a : ℕ) → a ≤ bad-filling → (a ≡ 6 → ⊥) → among a card-numbers ≡ true
+card-listed : (a : ℕ) → a ≤ bad-filling → (a ≡ 6 → ⊥) → among a card-numbers ≡ true
 unfolding any-of
 card-listed zero h n = refl
 card-listed (suc zero) h n = refl

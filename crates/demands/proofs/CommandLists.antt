@@ -1,6 +1,6 @@
 -- A list of presses and single presses, of the public calls themselves (02, A1): "The board must equal the one reached
--- by making the applied presses singly", every record place included; what a list answers and where it stopped; and
--- lists in two parts. Assumes nothing.
+-- by making the applied presses singly", every record place included; what a list answers and where it stopped;
+-- boards that are called equal; and lists in two parts. Assumes nothing.
 use mathlib.Core.Path.{_≡_, refl, sym, ap, _∙_, subst}
 use mathlib.Core.Bool.{true, false}
 use mathlib.Core.List.{List, [], _∷_, _++_, map}
@@ -12,6 +12,7 @@ use Rattle.instance.specs.Refusals.{invalid-board}
 use Rattle.commands.specs.Valid.{valid}
 use Rattle.commands.specs.Commands.{Command, undo, command-numbers}
 use Rattle.commands.specs.LogLists.{single}
+use Rattle.commands.specs.SameBoard.{Same-board}
 use Rattle.commands.proofs.NumberLaws.{answered-listed}
 use Rattle.board.specs.ModelOf.{model-of, command-of}
 use Rattle.board.specs.Contents.{contents-of, all-contents-after}
@@ -25,6 +26,7 @@ use Rattle.command_list.specs.declared.ListAnswered.{ListAnswered}
 use Rattle.command_list.specs.CommandList.{ListResult, none-applied, list-answered, commands-in, list-result-of, more-applied, continued}
 use Rattle.command_list.proofs.CommandListLaws.{list-on-valid, list-on-invalid, continued-on, continued-stop, continued-join, answered-from-none}
 use Rattle.command_list.proofs.AppliedLaws.{Stopped, list-stopped, list-accepted, list-valid, list-15}
+use Rattle.command_list.proofs.SameListLaws.{Same-list, same-lists}
 use Rattle.command_list.proofs.Pressed.{Pressed, pressed}
 use Rattle.demands.proofs.Runs.{Run, run-as, pressed-singly}
 
@@ -97,6 +99,12 @@ list-stops {ps} {b = b} {r = r} l v =
       own-number = λ n. subst (λ (a : ℕ). any-of (eqb a) (command-numbers c) ≡ true) (s .refused n) (answered-listed c (model-of (r .board)));
       complete = s .complete;
     }
+
+-- BOARDS THAT ARE CALLED EQUAL get equal lists
+pub same-list :
+    {ps ps′ qs′ : List Press} {a b : Board} {r q : ListAnswered} → Same-board (model-of a) (model-of b) → Pressed ps ps′ a r → Pressed ps qs′ b q →
+    Same-list (list-result-of r) (list-result-of q)
+same-list {ps} {a = a} {b = b} s l m = rw (pressed l .result, pressed m .result) (same-lists (commands-in ps) (contents-of a) (contents-of b) s)
 
 -- A LIST IN TWO PARTS
 commands-join : (ps qs : List Press) → commands-in (ps ++ qs) ≡ commands-in ps ++ commands-in qs

@@ -1,14 +1,15 @@
 -- DEMAND 1, stated once: whatever a public call was handed, its answer is 0 or one of document 01's refusals for that
 -- call ("None is returned under any other condition."); after a refusal the board and all lent buffers are as they
--- were; what is accepted leaves a valid board. Of `report`, which is there to print, 14 leaves the buffer as it was,
--- and a refused card gets its line. (That every call ends, and that nothing is required of the caller, is what each
--- function's own proof says.) Assumes nothing.
+-- were; what is accepted leaves a valid board. Of a list of presses the board is the one that the presses before the
+-- refused one leave. Of `report`, which is there to print, 14 leaves the buffer as it was, and a refused card gets its
+-- line. (That every call ends, and that nothing is required of the caller, is what each function's own proof says.)
+-- Assumes nothing.
 use mathlib.Core.Path.{_≡_, refl, sym, ap, _∙_}
 use mathlib.Core.Bool.{true}
 use mathlib.Core.List.{List, _∷_}
 use Prim.Native.Nat.{ℕ}
 use lib.Dec.{ltb, eqb}
-use lib.ListN.{length, take}
+use lib.ListN.{length}
 use Rattle.instance.specs.Refusals.{buffer-short}
 use Rattle.card_format.specs.Card.{card-refusal}
 use Rattle.card.specs.declared.write.Written.{Written}
@@ -24,9 +25,9 @@ use Rattle.commands.proofs.AnsweredLaws.{accepted-valid}
 use Rattle.commands.proofs.NumberLaws.{answered-listed}
 use Rattle.command_list.specs.declared.Press.{Press}
 use Rattle.command_list.specs.declared.ListAnswered.{ListAnswered}
-use Rattle.board.specs.Contents.{contents-of, all-contents-after}
+use Rattle.board.specs.Contents.{contents-of}
 use Rattle.command_list.specs.CommandList.{ListResult, list-answered, list-numbers, commands-in, list-result-of}
-use Rattle.command_list.proofs.AppliedLaws.{list-valid, list-accepted}
+use Rattle.command_list.proofs.AppliedLaws.{Singly, list-valid, list-accepted}
 use Rattle.command_list.proofs.ListNumberLaws.{list-listed}
 use Rattle.command_list.proofs.Pressed.{Pressed, pressed}
 use Rattle.report_text.specs.Whole.{max-text}
@@ -64,11 +65,11 @@ numbers (by-checking p) = check-numbers
 numbers (by-reporting p) = buffer-short ∷ card-numbers
 numbers (by-replaying p) = buffer-short ∷ card-numbers
 
--- a list that was stopped: its board is the one that the applied ones leave, made singly, and is valid if the first
--- was; "What the earlier ones did stands; the rule on refusals speaks of the refused press alone" (02, A1)
+-- a list that was stopped: the applied ones, made singly, are all accepted and leave its board, which is valid if the
+-- first was; "What the earlier ones did stands; the rule on refusals speaks of the refused press alone" (02, A1)
 pub record List-before (ps ps′ : List Press) (b : Board) (r : ListAnswered) : Type 0 where
   pub list-kept : ps′ ≡ ps
-  pub board : contents-of (r .board) ≡ all-contents-after (take (r .applied) (commands-in ps)) (contents-of b)
+  pub singly : Singly (commands-in ps) (contents-of b) (list-result-of r)
   pub still-valid : valid (model-of b) ≡ true → valid (model-of (r .board)) ≡ true
 
 -- what a refusal leaves as it was; a card that is refused gives the blank board
@@ -124,7 +125,7 @@ demand-1 (by-list {ps = ps} {b = b} {r = r} p) =
     let g : valid (model-of b) ≡ true → valid (model-of (r .board)) ≡ true = λ v. ap (λ (d : ListResult). valid (d .board .model)) e ∙ list-valid cs w v in
     record {
       own-number = rw a (list-listed cs w);
-      as-before = λ _. record { list-kept = pressed p .list-kept; board = sym (pressed-singly p .board); still-valid = g };
+      as-before = λ _. record { list-kept = pressed p .list-kept; singly = pressed-singly p; still-valid = g };
       leaves-valid = λ z. g (list-accepted cs w (sym a ∙ z));
     }
 demand-1 (by-looking {b = b} {v = v} {old = old} {new = new} p) =

@@ -160,22 +160,22 @@ pub record Runs-as (cs : List Command) (b : Board) (xs : List ℕ) (e : Board) :
   pub same-contents : contents-of e ≡ all-contents-after cs (contents-of b)
   pub same-model : model-of e ≡ board-after answered cs (model-of b)
 
-singles-answers : (cs : List Command) (w : Contents) → contents-answers (map single cs) w ≡ answers answered cs (w .model)
+answers-of-singles : (cs : List Command) (w : Contents) → contents-answers (map single cs) w ≡ answers answered cs (w .model)
 unfolding contents-answers answers contents-after
-singles-answers [] w = refl
-singles-answers (c ∷ cs) w = λ i. answered c (w .model) .answer ∷ singles-answers cs (contents-after c w) i
+answers-of-singles [] w = refl
+answers-of-singles (c ∷ cs) w = λ i. answered c (w .model) .answer ∷ answers-of-singles cs (contents-after c w) i
 
-singles-left : (cs : List Command) (w : Contents) → contents-left (map single cs) w ≡ all-contents-after cs w
+left-by-singles : (cs : List Command) (w : Contents) → contents-left (map single cs) w ≡ all-contents-after cs w
 unfolding contents-left all-contents-after
-singles-left [] w = refl
-singles-left (c ∷ cs) w = singles-left cs (contents-after c w)
+left-by-singles [] w = refl
+left-by-singles (c ∷ cs) w = left-by-singles cs (contents-after c w)
 
 pub run-as : {cs : List Command} {b : Board} {xs : List ℕ} {e : Board} → Run (map single cs) b xs e → Runs-as cs b xs e
 run-as {cs} {b} run =
     let g = run-gives run in
-    let w = g .same-contents ∙ singles-left cs (contents-of b) in
+    let w = g .same-contents ∙ left-by-singles cs (contents-of b) in
     record {
-      same-answers = g .same-answers ∙ singles-answers cs (contents-of b);
+      same-answers = g .same-answers ∙ answers-of-singles cs (contents-of b);
       same-contents = w;
       same-model = ap (λ (v : Contents). v .model) w ∙ contents-model cs (contents-of b);
     }

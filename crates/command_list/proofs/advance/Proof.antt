@@ -1,4 +1,4 @@
--- `advance` continues a run by one command: by `execute`, of which only its promise is known. Assumes nothing.
+-- `advance` continues a result by one command: by `execute`, of which only its promise is known. Assumes nothing.
 use mathlib.Core.Path.{sym}
 use borrow.Author.Needs.{needs}
 use Rattle.command_list.proofs.CommandListLaws.{continued-stop}
