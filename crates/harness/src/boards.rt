@@ -112,3 +112,18 @@ pub fn equal(a: Board, b: Board) -> bool {
     }
     equal_problems(problem_of(a), problem_of(b), true)
 }
+
+// Whether two boards are the same wherever somebody may look: their sizes, roots and budgets, where a link can be, and
+// their histories.
+pub fn alike(a: Board, b: Board) -> bool {
+    let count = a.count;
+    if count != b.count {
+        return false;
+    }
+    let x = a.records;
+    let y = b.records;
+    if !equal_records(x, y, count) {
+        return false;
+    }
+    equal_problems(problem_of(a), problem_of(b), false)
+}

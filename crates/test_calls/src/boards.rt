@@ -1,12 +1,11 @@
 // Boards with one field damaged at a time: every call is refused with 15 and touches nothing. Rubbish where nobody may
 // look is no damage.
-use crate::damage;
-use crate::damage::Damaged;
-use crate::group_records;
 use board::Board;
 use harness::boards;
 use harness::buffers;
 use harness::calls;
+use harness::changes;
+use harness::damage::Damaged;
 use harness::replies;
 use harness::replies::Reply;
 use reference::call;
@@ -170,14 +169,6 @@ pub fn some_board(k: u32) -> Board {
     b
 }
 
-// The changes of damage.rt, then those of group_records.rt.
-fn nth_damage(b: Board, kind: u32, g: Random) -> Damaged {
-    if kind < damage::KINDS {
-        return damage::nth_damage(b, kind, g);
-    }
-    group_records::nth_damage(b, kind - damage::KINDS, g)
-}
-
 // The board as it is, and then with each change.
 fn tried_all(tally: Tally, b: Board, g: Random) -> Tally {
     let sound = Damaged {
@@ -185,8 +176,8 @@ fn tried_all(tally: Tally, b: Board, g: Random) -> Tally {
         board: b,
     };
     let mut t = tried(tally, sound);
-    for kind in 0..damage::KINDS + group_records::KINDS {
-        t = tried(t, nth_damage(b, kind, g));
+    for kind in 0..changes::KINDS {
+        t = tried(t, changes::nth_change(b, kind, g));
     }
     t
 }

@@ -2,7 +2,6 @@
 // all sizes: "The marks afterwards equal those from single presses on each member link, in any order, the 200 limit
 // aside." (02, A5) Also what is recorded, and the board after a take-back.
 use crate::boards::some_board;
-use crate::faults;
 use crate::restores;
 use crate::singles;
 use crate::singles::Singles;
@@ -10,6 +9,7 @@ use board::Answered;
 use board::Board;
 use harness::boards;
 use harness::calls;
+use harness::faults;
 use harness::records;
 use reference::access;
 use reference::call;

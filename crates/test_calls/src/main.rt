@@ -2,9 +2,6 @@
 // taken back; calls on damaged boards; on damaged cards.
 mod boards; // boards.rt: damaged boards
 mod cards; // cards.rt: random and damaged cards
-mod damage; // damage.rt: a board with one field changed
-mod faults; // faults.rt: a board with a fault planted
-mod group_records; // group_records.rt: records of group presses, sound and damaged
 mod groups; // groups.rt: group presses against single ones
 mod lists; // lists.rt: lists of calls
 mod replays; // replays.rt: lists of calls handed over whole

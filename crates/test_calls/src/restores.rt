@@ -1,14 +1,14 @@
 // Records of group presses, written by hand with any marks, taken back: each of their heads has then the mark that the
 // record says, nothing else is altered, and what the record has at other heads is not looked at.
 use crate::boards::some_board;
-use crate::damage;
-use crate::faults;
-use crate::group_records;
-use crate::group_records::GroupRecord;
 use board::Answered;
 use board::Board;
 use harness::boards;
 use harness::calls;
+use harness::damage;
+use harness::faults;
+use harness::group_records;
+use harness::group_records::GroupRecord;
 use harness::records;
 use reference::access;
 use reference::call;

@@ -1,6 +1,7 @@
 // Single presses on the members of a group, in random order and with repetitions.
 use board::Board;
 use harness::calls;
+use harness::counts;
 use reference::access;
 use reference::call;
 use reference::call::Call;
@@ -19,10 +20,6 @@ pub struct Singles {
     pub no_vertex: u32,
 }
 
-fn one_if(x: bool) -> u32 {
-    if x { 1 } else { 0 }
-}
-
 // One single press more, with the mark of the group.
 fn pressed(s: Singles, c: Call, head: u32) -> Singles {
     let b = s.board;
@@ -36,8 +33,8 @@ fn pressed(s: Singles, c: Call, head: u32) -> Singles {
     Singles {
         board: after,
         pressed: access::plus(s.pressed, 1),
-        accepted: access::plus(s.accepted, one_if(made.answer == 0)),
-        no_vertex: access::plus(s.no_vertex, one_if(made.answer == NO_VERTEX)),
+        accepted: access::plus(s.accepted, counts::one_if(made.answer == 0)),
+        no_vertex: access::plus(s.no_vertex, counts::one_if(made.answer == NO_VERTEX)),
     }
 }
 

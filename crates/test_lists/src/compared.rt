@@ -1,15 +1,22 @@
 // What the planner gave for a list, held to what is due; and the same with one fault planted, which has to be reported.
 use crate::dues;
 use crate::dues::Due;
+use crate::judged;
 use crate::lists;
 use board::Board;
 use harness::boards;
 use harness::calls;
+use harness::damage;
+use harness::damage::Arc;
+use harness::faults;
 use harness::session;
 use harness::session::Session;
 use planner::ListAnswered;
 use reference::access;
+use reference::log::RECORDS;
+use reference::problem;
 use reference::problem::MAX_BUDGET;
+use reference::random;
 use reference::refusals::BAD_BUDGET;
 use reference::refusals::HISTORY_EMPTY;
 use reference::refusals::HISTORY_FULL;
@@ -33,72 +40,25 @@ const ANSWERS: u32 = 8;
 
 pub const OWN: u32 = 15;
 
-// Whether a board is the one that single calls gave, in every field and record place, and has the marks, the budget and
-// the number of records that the log says.
-fn board_right(b: Board, due: Due) -> bool {
-    let singles = due.singles;
-    let single = singles.board;
-    if !boards::identical(single, b) {
-        return false;
-    }
-    let r = due.by_log;
-    let log = r.log;
-    if b.count != log.count as usize {
-        return false;
-    }
-    let now = due.now;
-    boards::equal_problems(now, boards::problem_of(b), false)
-}
-
-// Whether as many presses were applied as the log accepts, with its answer, and the board is right.
-pub fn is_right(a: ListAnswered, due: Due) -> bool {
-    let r = due.by_log;
-    if a.applied != r.applied as usize {
-        return false;
-    }
-    if a.answer != r.answer {
-        return false;
-    }
-    let b = a.board;
-    board_right(b, due)
-}
-
-// The result with other numbers: one press applied more, one less, the next answer, 0 for a refusal or 12 for 0.
-pub const NUMBERS: u32 = 4;
-
-pub fn with_number(a: ListAnswered, kind: u32) -> ListAnswered {
-    let mut w = a;
-    match kind {
-        0 => w.applied = std::num::wrapping_add_usize(a.applied, 1),
-        1 => w.applied = std::num::wrapping_sub_usize(a.applied, 1),
-        2 => w.answer = access::plus(a.answer, 1),
-        _ => w.answer = if a.answer == 0 { HISTORY_FULL } else { 0 },
-    }
-    w
-}
-
-pub fn with_board(a: ListAnswered, b: Board) -> ListAnswered {
-    ListAnswered {
-        applied: a.applied,
-        answer: a.answer,
-        board: b,
-    }
-}
-
 fn planted_numbers(tally: Tally, a: ListAnswered, due: Due) -> Tally {
     let mut t = tally;
-    for kind in 0..NUMBERS {
-        t = tally::planted(t, !is_right(with_number(a, kind), due));
+    for kind in 0..judged::NUMBERS {
+        t = tally::planted(t, !judged::is_right(judged::with_number(a, kind), due));
     }
     t
 }
 
+// Another board for the list alone.
+fn planted_alone(tally: Tally, a: ListAnswered, due: Due, b: Board) -> Tally {
+    tally::planted(tally, !judged::is_right(judged::with_board(a, b), due))
+}
+
 // Another board for both the list and the single calls, so that only the log can tell.
 fn planted_both(tally: Tally, a: ListAnswered, due: Due, b: Board) -> Tally {
-    tally::planted(
-        tally,
-        !is_right(with_board(a, b), dues::with_single(due, b)),
-    )
+    if !due.has_log {
+        return tally;
+    }
+    planted_alone(tally, a, dues::with_single_board(due, b), b)
 }
 
 // Another budget, with no record of it.
@@ -116,8 +76,7 @@ fn planted_more(tally: Tally, a: ListAnswered, due: Due) -> Tally {
         return tally;
     }
     let more = made.board;
-    let t = tally::planted(tally, !is_right(with_board(a, more), due));
-    planted_both(t, a, due, more)
+    planted_both(planted_alone(tally, a, due, more), a, due, more)
 }
 
 // The last press less, where there is one.
@@ -127,7 +86,46 @@ fn planted_less(tally: Tally, a: ListAnswered, due: Due) -> Tally {
     }
     let singles = due.singles;
     let less = singles.before;
-    tally::planted(tally, !is_right(with_board(a, less), due))
+    planted_alone(tally, a, due, less)
+}
+
+// Another mark, price, budget, number of records, mark where no arc can be, and latest record: each for the list alone.
+// Where no record stands, the last is one past the count.
+fn planted_fields(tally: Tally, a: ListAnswered, due: Due, arc: Arc) -> Tally {
+    let b = a.board;
+    let mut t = tally;
+    for kind in 0..faults::KINDS {
+        t = planted_alone(t, a, due, faults::with_fault(b, kind, arc.tail, arc.head));
+    }
+    t
+}
+
+// Another record past the count, where there is room for one.
+fn planted_past(tally: Tally, a: ListAnswered, due: Due, arc: Arc) -> Tally {
+    let b = a.board;
+    if RECORDS <= b.count {
+        return tally;
+    }
+    planted_alone(tally, a, due, faults::with_fault_past(b, arc.head))
+}
+
+// Another mark for both, where there is an arc.
+fn planted_mark(tally: Tally, a: ListAnswered, due: Due, arc: Arc) -> Tally {
+    let b = a.board;
+    if !problem::is_arc(boards::problem_of(b), arc.tail, arc.head) {
+        return tally;
+    }
+    let marked = faults::with_fault(b, faults::MARK, arc.tail, arc.head);
+    planted_both(tally, a, due, marked)
+}
+
+// The faults at a place that the number of the list picks.
+fn planted_there(tally: Tally, a: ListAnswered, due: Due) -> Tally {
+    let b = a.board;
+    let g = random::seeded(tally::count(tally, LISTS));
+    let arc = damage::some_arc(g, b.n, b.root);
+    let t = planted_fields(tally, a, due, arc);
+    planted_mark(planted_past(t, a, due, arc), a, due, arc)
 }
 
 fn nth_answer(answer: u32) -> u32 {
@@ -143,12 +141,12 @@ fn nth_answer(answer: u32) -> u32 {
 }
 
 fn counted(tally: Tally, due: Due) -> Tally {
-    let r = due.by_log;
-    let t = tally::with(tally, APPLIED, r.applied);
-    let u = tally::with(t, TAKE_BACKS, r.take_backs);
-    let v = tally::with(u, GROUPS, r.groups);
-    let w = tally::with(v, access::plus(ANSWERS, nth_answer(r.answer)), 1);
-    if r.answer == 0 {
+    let s = due.singles;
+    let t = tally::with(tally, APPLIED, s.applied);
+    let u = tally::with(t, TAKE_BACKS, s.take_backs);
+    let v = tally::with(u, GROUPS, s.groups);
+    let w = tally::with(v, access::plus(ANSWERS, nth_answer(s.answer)), 1);
+    if s.answer == 0 {
         return w;
     }
     tally::with(w, REFUSED, 1)
@@ -156,9 +154,10 @@ fn counted(tally: Tally, due: Due) -> Tally {
 
 // One list handed over.
 pub fn compared(tally: Tally, a: ListAnswered, due: Due) -> Tally {
-    let t = tally::checked(counted(tally, due), LISTS, is_right(a, due));
+    let t = tally::checked(counted(tally, due), LISTS, judged::is_right(a, due));
     let u = planted_budget(planted_numbers(t, a, due), a, due);
-    planted_less(planted_more(u, a, due), a, due)
+    let v = planted_less(planted_more(u, a, due), a, due);
+    planted_there(v, a, due)
 }
 
 // The last board of a list written; and with another budget, which has to be reported.

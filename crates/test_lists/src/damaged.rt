@@ -1,9 +1,9 @@
 // Lists on damaged boards: 15 with nothing applied and the very board, for the empty list too; and the same lists on
-// the sound boards.
+// the sound boards, as they are and with changes that are no damage.
 use crate::compared;
-use crate::damages;
 use crate::dues;
 use crate::dues::Due;
+use crate::judged;
 use crate::lists;
 use crate::lists::List;
 use crate::lists::PERIOD;
@@ -11,6 +11,9 @@ use crate::making;
 use crate::making::Style;
 use board::Board;
 use harness::boards;
+use harness::changes;
+use harness::counts;
+use harness::damage::Damaged;
 use harness::session;
 use harness::session::Session;
 use planner::ListAnswered;
@@ -27,9 +30,13 @@ use reference::tally::Tally;
 // What is counted beside what every part counts.
 const BOARDS: u32 = compared::OWN;
 
-const DAMAGED: u32 = compared::OWN + 1;
+const CHANGED: u32 = compared::OWN + 1;
 
-const REFUSED: u32 = compared::OWN + 2;
+const WITHOUT_LOG: u32 = compared::OWN + 2;
+
+const DAMAGED: u32 = compared::OWN + 3;
+
+const REFUSED: u32 = compared::OWN + 4;
 
 // Whether a list was refused with 15 and left this board.
 fn is_refused(a: ListAnswered, b: Board) -> bool {
@@ -46,8 +53,8 @@ fn is_refused(a: ListAnswered, b: Board) -> bool {
 // The result with other numbers: all of it has to be reported.
 fn planted_numbers(tally: Tally, a: ListAnswered, b: Board) -> Tally {
     let mut t = tally;
-    for kind in 0..compared::NUMBERS {
-        t = tally::planted(t, !is_refused(compared::with_number(a, kind), b));
+    for kind in 0..judged::NUMBERS {
+        t = tally::planted(t, !is_refused(judged::with_number(a, kind), b));
     }
     t
 }
@@ -58,17 +65,16 @@ fn planted_boards(tally: Tally, a: ListAnswered, b: Board, sound: Board) -> Tall
     more.count = std::num::wrapping_add_usize(b.count, 1);
     let mut less = b;
     less.count = std::num::wrapping_sub_usize(b.count, 1);
-    let t = tally::planted(tally, !is_refused(compared::with_board(a, more), b));
-    let u = tally::planted(t, !is_refused(compared::with_board(a, less), b));
-    tally::planted(u, !is_refused(compared::with_board(a, sound), b))
+    let t = tally::planted(tally, !is_refused(judged::with_board(a, more), b));
+    let u = tally::planted(t, !is_refused(judged::with_board(a, less), b));
+    tally::planted(u, !is_refused(judged::with_board(a, sound), b))
 }
 
 // A list on a damaged board. What it gave is not what is due on the sound one.
-fn tried_damaged(tally: Tally, b: Board, s: Session, list: List, count: u32, due: Due) -> Tally {
-    let sound = s.board;
+fn tried_damaged(tally: Tally, b: Board, sound: Board, list: List, count: u32, due: Due) -> Tally {
     let a = lists::handed(b, list, 0, count);
     let t = tally::checked(tally, DAMAGED, is_refused(a, b));
-    let u = tally::planted(t, !compared::is_right(a, due));
+    let u = tally::planted(t, !judged::is_right(a, due));
     let v = planted_boards(planted_numbers(u, a, b), a, b, sound);
     if a.answer == INVALID_BOARD {
         return tally::with(v, REFUSED, 1);
@@ -76,25 +82,55 @@ fn tried_damaged(tally: Tally, b: Board, s: Session, list: List, count: u32, due
     v
 }
 
-// The list on the board with each damage.
-fn tried_damages(tally: Tally, s: Session, list: List, count: u32, due: Due, g: Random) -> Tally {
+// A list on a sound board, whose result is not that of a damaged one.
+fn tried_sound(tally: Tally, b: Board, list: List, count: u32, due: Due) -> Tally {
+    let a = lists::handed(b, list, 0, count);
+    let t = compared::compared(tally, a, due);
+    tally::planted(t, !is_refused(a, b))
+}
+
+// What is due on a sound board that was changed: by the same log where nobody may look at the change, and else by what
+// can be said of the changed board itself.
+fn due_on_changed(b: Board, s: Session, list: List, count: u32) -> Due {
+    let before = s.board;
+    if boards::alike(before, b) {
+        let mut changed = s;
+        changed.board = b;
+        return dues::due_for(changed, list, 0, count);
+    }
+    dues::due_on(b, list, 0, count)
+}
+
+// A list on a changed board, where this is due on the unchanged one.
+fn tried_changed(tally: Tally, d: Damaged, s: Session, list: List, count: u32, due: Due) -> Tally {
+    let b = d.board;
+    let unchanged = s.board;
+    if d.is_damaged {
+        return tried_damaged(tally, b, unchanged, list, count, due);
+    }
+    let own = due_on_changed(b, s, list, count);
+    let t = tally::with(tally, CHANGED, 1);
+    let u = tally::with(t, WITHOUT_LOG, counts::one_if(!own.has_log));
+    tried_sound(u, b, list, count, own)
+}
+
+// The list on the board with each change.
+fn tried_changes(tally: Tally, s: Session, list: List, count: u32, due: Due, g: Random) -> Tally {
     let b = s.board;
     let mut t = tally;
-    for kind in 0..damages::KINDS {
-        let d = damages::nth_damage(b, kind, g);
-        t = tried_damaged(t, d, s, list, count, due);
+    for kind in 0..changes::KINDS {
+        let d = changes::nth_change(b, kind, g);
+        t = tried_changed(t, d, s, list, count, due);
     }
     t
 }
 
-// A list on the sound board, whose result is not that of a damaged one, and then with each damage.
+// A list on the board as it is, and then with each change.
 fn tried(tally: Tally, s: Session, list: List, count: u32, g: Random) -> Tally {
     let b = s.board;
     let due = dues::due_for(s, list, 0, count);
-    let a = lists::handed(b, list, 0, count);
-    let t = compared::compared(tally, a, due);
-    let u = tally::planted(t, !is_refused(a, b));
-    tried_damages(u, s, list, count, due, g)
+    let t = tried_sound(tally, b, list, count, due);
+    tried_changes(t, s, list, count, due, g)
 }
 
 // Some of the calls are refused.
@@ -154,6 +190,7 @@ pub fn all() {
         run(31),
         b"lists on sound boards\npresses applied\nof these take-backs\nof these groups\npresses refused\n\
         answer 0:\nanswer 9:\nanswer 10:\nanswer 11:\nanswer 12:\nanswer 13:\nanother answer:\n\
-        sound boards\nlists on damaged boards\nrefused with 15\n",
+        boards\nlists on changed sound boards\nof these held to single calls alone\n\
+        lists on damaged boards\nrefused with 15\n",
     );
 }

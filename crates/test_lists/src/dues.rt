@@ -1,9 +1,11 @@
-// What is due for a part of a list: how many calls the log accepts, which refusal stops it and what stands then; and
-// the board that the accepted calls give when they are made singly.
+// What is due for a part of a list: how many calls are accepted when they are made singly, which refusal stops them and
+// which board they give; and the same by the log, with what stands then.
 use crate::lists;
 use crate::lists::List;
 use board::Board;
+use harness::boards;
 use harness::calls;
+use harness::counts;
 use harness::session::Session;
 use reference::access;
 use reference::call;
@@ -11,32 +13,21 @@ use reference::call::Call;
 use reference::log;
 use reference::log::Log;
 use reference::problem::Problem;
+use reference::refusals::HISTORY_EMPTY;
 
-// The log after a part of a list, up to the first refused call: how many were accepted, how many of these were
-// take-backs and groups, and the refusal or 0.
+// The log after a part of a list, up to the first refused call: how many were accepted, and the refusal or 0.
 pub struct LogResult {
     pub applied: u32,
-    pub take_backs: u32,
-    pub groups: u32,
     pub answer: u32,
     pub log: Log,
-}
-
-fn one_if(x: bool) -> u32 {
-    if x { 1 } else { 0 }
 }
 
 fn with_call(r: LogResult, card: Problem, c: Call) -> LogResult {
     let log = r.log;
     let noted = log::note(log, card, c);
     let after = noted.log;
-    let accepted = noted.answer == 0;
-    let back = accepted && c.kind == call::TAKE_BACK;
-    let group = accepted && call::is_group(c.kind);
     LogResult {
-        applied: access::plus(r.applied, one_if(accepted)),
-        take_backs: access::plus(r.take_backs, one_if(back)),
-        groups: access::plus(r.groups, one_if(group)),
+        applied: access::plus(r.applied, counts::one_if(noted.answer == 0)),
         answer: noted.answer,
         log: after,
     }
@@ -46,8 +37,6 @@ fn with_call(r: LogResult, card: Problem, c: Call) -> LogResult {
 fn by_log(start: Log, card: Problem, list: List, from: u32, count: u32) -> LogResult {
     let mut r = LogResult {
         applied: 0,
-        take_backs: 0,
-        groups: 0,
         answer: 0,
         log: start,
     };
@@ -60,10 +49,34 @@ fn by_log(start: Log, card: Problem, list: List, from: u32, count: u32) -> LogRe
     r
 }
 
-// The board after single calls, and the one before the last of them.
+// The board after single calls, up to the first refused one, and the one before the last accepted one; how many were
+// accepted, how many of these were take-backs and groups, and the refusal or 0.
 pub struct Singles {
     pub board: Board,
     pub before: Board,
+    pub applied: u32,
+    pub take_backs: u32,
+    pub groups: u32,
+    pub answer: u32,
+}
+
+fn with_single(s: Singles, c: Call) -> Singles {
+    let before = s.board;
+    let made = calls::made(before, c);
+    let after = made.board;
+    if made.answer != 0 {
+        let mut refused = s;
+        refused.answer = made.answer;
+        return refused;
+    }
+    Singles {
+        board: after,
+        before: before,
+        applied: access::plus(s.applied, 1),
+        take_backs: access::plus(s.take_backs, counts::one_if(c.kind == call::TAKE_BACK)),
+        groups: access::plus(s.groups, counts::one_if(call::is_group(c.kind))),
+        answer: 0,
+    }
 }
 
 // So many calls of a list from a place on, made singly.
@@ -71,53 +84,72 @@ fn singly(b: Board, list: List, from: u32, count: u32) -> Singles {
     let mut s = Singles {
         board: b,
         before: b,
+        applied: 0,
+        take_backs: 0,
+        groups: 0,
+        answer: 0,
     };
     for k in 0..count {
-        let before = s.board;
-        let made = calls::made(before, lists::nth(list, access::plus(from, k)));
-        let after = made.board;
-        s = Singles {
-            board: after,
-            before: before,
-        };
+        s = with_single(s, lists::nth(list, access::plus(from, k)));
+        if s.answer != 0 {
+            return s;
+        }
     }
     s
 }
 
-// Both, and the card's instance under what the log says then.
+// Both, and the card's instance under what the log says then. So many records lie below the log's; and where there is
+// no log, the single calls alone say what is due.
 pub struct Due {
+    pub singles: Singles,
+    pub has_log: bool,
     pub by_log: LogResult,
     pub now: Problem,
-    pub singles: Singles,
+    pub below: usize,
 }
 
-pub fn due_for(s: Session, list: List, from: u32, count: u32) -> Due {
+fn due_above(below: usize, s: Session, list: List, from: u32, count: u32) -> Due {
     let board = s.board;
     let start = s.log;
     let card = s.card;
     let r = by_log(start, card, list, from, count);
     let after = r.log;
     Due {
+        singles: singly(board, list, from, count),
+        has_log: true,
         by_log: r,
         now: log::problem_now(after, card),
-        singles: singly(board, list, from, r.applied),
+        below: below,
     }
 }
 
-// The same with another board of the single calls.
-pub fn with_single(due: Due, b: Board) -> Due {
+pub fn due_for(s: Session, list: List, from: u32, count: u32) -> Due {
+    due_above(0, s, list, from, count)
+}
+
+// On a board whose history no log has: an empty log above the board's own instance, as long as the list takes back no
+// more than it pressed. The history has room for all of the list.
+pub fn due_on(b: Board, list: List, from: u32, count: u32) -> Due {
+    let own = Session {
+        board: b,
+        log: log::empty(),
+        card: boards::problem_of(b),
+    };
+    let mut due = due_above(b.count, own, list, from, count);
     let r = due.by_log;
-    let now = due.now;
-    let singles = due.singles;
-    let before = singles.before;
-    Due {
-        by_log: r,
-        now: now,
-        singles: Singles {
-            board: b,
-            before: before,
-        },
+    if b.count != 0 {
+        due.has_log = r.answer != HISTORY_EMPTY;
     }
+    due
+}
+
+// The same with another board of the single calls.
+pub fn with_single_board(due: Due, b: Board) -> Due {
+    let mut singles = due.singles;
+    singles.board = b;
+    let mut other = due;
+    other.singles = singles;
+    other
 }
 
 // Where the session has come to with the board that the planner gave.
@@ -135,5 +167,5 @@ pub fn session_after(s: Session, due: Due, b: Board) -> Session {
 // The place behind the calls that were accepted and the refused one, if there is one.
 pub fn place_behind(from: u32, due: Due) -> u32 {
     let r = due.by_log;
-    access::plus(access::plus(from, r.applied), one_if(r.answer != 0))
+    access::plus(access::plus(from, r.applied), counts::one_if(r.answer != 0))
 }

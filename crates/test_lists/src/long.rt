@@ -1,5 +1,5 @@
-// The longest lists: the history filled and emptied over and over, with budgets alone and with calls of every kind, and
-// a refusal at the end, at the start, in the middle or nowhere.
+// The longest lists: the history filled and emptied over and over, with budgets alone and with presses of every kind,
+// and a refusal at the end, at the start, in the middle or nowhere.
 use crate::compared;
 use crate::dues;
 use crate::lent::LONGEST;
@@ -39,10 +39,10 @@ fn budgets(presses: u32) -> List {
     list
 }
 
-// Nearly no call is a take-back, until the rest of the period is needed for them; none is refused.
+// Presses of every kind until the history is full, and take-backs in the rest of the period; none is refused.
 const STYLE: Style = Style {
-    presses: 0,
-    back: 1,
+    presses: RECORDS as u32,
+    back: 0,
     kept: 0,
     wound_up: true,
 };

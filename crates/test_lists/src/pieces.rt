@@ -1,12 +1,15 @@
 // Random lists of calls on boards opened from cards, handed over in pieces, the next one from behind the refused call:
-// what each piece gives, and a look and a write at the end.
+// what each piece gives, and a look and a write at the end of the list.
 use crate::compared;
 use crate::dues;
 use crate::lists;
 use crate::lists::List;
 use crate::lists::PERIOD;
+use crate::looks;
+use crate::looks::LISTED;
 use crate::making;
 use crate::making::Style;
+use harness::counts;
 use harness::session;
 use harness::session::Session;
 use reference::access;
@@ -21,24 +24,25 @@ use reference::tally::Tally;
 // What is counted beside what every part counts.
 const SESSIONS: u32 = compared::OWN;
 
-const EMPTY: u32 = compared::OWN + 1;
+const ENDED: u32 = compared::OWN + 1;
 
-const WHOLE: u32 = compared::OWN + 2;
+const EMPTY: u32 = compared::OWN + 2;
 
-const APPLIED: u32 = compared::OWN + 3;
+const WHOLE: u32 = compared::OWN + 3;
 
-const LOOKS: u32 = compared::OWN + 4;
+const APPLIED: u32 = compared::OWN + 4;
 
-const WRITES: u32 = compared::OWN + 5;
+const LOOKS: u32 = compared::OWN + 5;
+
+const LACKING: u32 = compared::OWN + 6;
+
+const WRITES: u32 = compared::OWN + 7;
 
 // How long each list is.
 const LENGTH: u32 = PERIOD as u32;
 
-// At most so many pieces of a list.
-const PIECES: u32 = 40;
-
-// The largest instance whose trees the reference lists.
-const LISTED: u32 = 6;
+// At most so many pieces of a list, which is enough for each to come to its end.
+const PIECES: u32 = 500;
 
 // So many presses come first in a crowded list.
 const CROWD: u32 = 190;
@@ -115,16 +119,6 @@ fn in_pieces(start: Progress, list: List, k: u32) -> Progress {
     with_piece(p, list, 0)
 }
 
-// A look, where the reference can list the trees, and a write.
-fn looked(tally: Tally, s: Session) -> Tally {
-    let card = s.card;
-    let t = compared::written(tally, WRITES, s);
-    if LISTED < card.n {
-        return t;
-    }
-    tally::checked(t, LOOKS, session::look_right(s))
-}
-
 // Every fourth card is a large one.
 fn nth_card(k: u32) -> Problem {
     if k % 4 == 3 {
@@ -144,7 +138,7 @@ fn nth_back(k: u32) -> u32 {
     }
 }
 
-// Of the calls that are refused all are kept, a few, or none.
+// Of 16 calls that are refused so many are kept: each ends a piece.
 fn nth_kept(k: u32) -> u32 {
     match k % 5 {
         0 => 16,
@@ -176,7 +170,9 @@ fn one_session(tally: Tally, k: u32) -> Tally {
         at: 0,
     };
     let end = in_pieces(start, list, k);
-    looked(end.tally, end.session)
+    let t = tally::with(end.tally, ENDED, counts::one_if(end.at == LENGTH));
+    let u = compared::written(t, WRITES, end.session);
+    looks::looked(u, LOOKS, LACKING, end.session)
 }
 
 fn run(count: u32) -> Tally {
@@ -192,6 +188,7 @@ pub fn all() {
         run(96),
         b"pieces\npresses applied\nof these take-backs\nof these groups\npresses refused\n\
         answer 0:\nanswer 9:\nanswer 10:\nanswer 11:\nanswer 12:\nanswer 13:\nanother answer:\n\
-        lists\nempty pieces\nwhole lists\nof these applied\nlooks\nwrites\n",
+        lists\nof these handed over to the end\nempty pieces\nwhole lists\nof these applied\nlooks\n\
+        looks held to a log that lacks something\nwrites\n",
     );
 }

@@ -75,8 +75,8 @@ use Rattle.test_lists.proofs.lent.pressed.Statement as stated
 use Rattle.test_lists.proofs.lent.pressed.Code as code
 use Rattle.test_lists.proofs.lent.pressed.Code.Mir as mir
 
-abbrev Sheet : RattleType
-Sheet = Array P.the-row 100000
+abbrev Presses : RattleType
+Presses = Array P.the-row 100000
 
 abbrev stayed : Stays (pressed.ended .signature .params) (pressed.ended .kept)
 stayed = (
@@ -87,11 +87,11 @@ stayed = (
 abbrev of-board : Board → Val
 of-board = LL.val B.the-type B′.the-laws
 
-abbrev of-sheet : List Press → Val
-of-sheet ps = only (array-vals (LL.vals P.the-type P′.the-laws) ps)
+abbrev of-presses : List Press → Val
+of-presses ps = only (array-vals (LL.vals P.the-type P′.the-laws) ps)
 
-abbrev sheet : Ty
-sheet = tyArray P′.mir 100000
+abbrev presses : Ty
+presses = tyArray P′.mir 100000
 
 abbrev word : Ty
 word = tyInt w64
@@ -101,7 +101,7 @@ abbrev slice : Ty
 slice = sliceTy (tyRef erased imm (pointee (P.the-row .written)))
 
 abbrev whole-ref : Ty
-whole-ref = tyRef erased imm (pointee (Sheet .written))
+whole-ref = tyRef erased imm (pointee (Presses .written))
 
 module _ {M : Type 1} (𝓤 : URA M) (H : Heap 𝓤) (A : Atoms 𝓤) (W : Given 𝓤 H A) (l k : ℕ) (ps : List Press) where
   -- the array in memory, as what is lent of it and the rest
@@ -114,14 +114,14 @@ module _ {M : Type 1} (𝓤 : URA M) (H : Heap 𝓤) (A : Atoms 𝓤) (W : Given
   abbrev Back : Fml
   Back = cells (mem-of P.the-row) (drop-list k ps) l (at 0 12 (length front))
 
-  apart : Is Sheet ps (of-sheet ps ∷ []) → ent 𝓤 (H .at fullShare sheet l 0 (of-sheet ps)) (sep 𝓤 (sem 𝓤 H A Front) (sem 𝓤 H A Back))
+  apart : Is Presses ps (of-presses ps ∷ []) → ent 𝓤 (H .at fullShare presses l 0 (of-presses ps)) (sep 𝓤 (sem 𝓤 H A Front) (sem 𝓤 H A Back))
   unfolding partOf
   apart is =
-      qed W (‵ (fat fullShare sheet l 0 (of-sheet ps)) ∷ []) ∵
-      use1 W (‵ (cellAt fullShare (Sheet .mir) (of-sheet ps ∷ []) l 0)) (W .laws .at-raw fullShare sheet l 0 (of-sheet ps)) $
-      owned ! Sheet (Is Sheet) (array-makes 𝓤 H A W P.the-row (LL.makes P.the-type P′.the-plain 𝓤 H A) 100000) ps (of-sheet ps ∷ []) is $
+      qed W (‵ (fat fullShare presses l 0 (of-presses ps)) ∷ []) ∵
+      use1 W (‵ (cellAt fullShare (Presses .mir) (of-presses ps ∷ []) l 0)) (W .laws .at-raw fullShare presses l 0 (of-presses ps)) $
+      owned ! Presses (Is Presses) (array-makes 𝓤 H A W P.the-row (LL.makes P.the-type P′.the-plain 𝓤 H A) 100000) ps (of-presses ps ∷ []) is $
       move ! (1 ∷ 0 ∷ []) $ fjoin ! $
-      fpack ! (List Val) (λ us. fsep (cellAt fullShare (Sheet .mir) us l 0) (Sheet .own ps us)) (of-sheet ps ∷ []) $
+      fpack ! (List Val) (λ us. fsep (cellAt fullShare (Presses .mir) us l 0) (Presses .own ps us)) (of-presses ps ∷ []) $
       use1 W (‵ (arr-parts (shares P.the-row) 100000 .part fullShare ps l 0)) (array-apart 𝓤 H A W P.the-row fullShare tt 100000 ps l 0) $ fsplit ! $
       drop ! $
       use1 W (‵ (cells (mem-of P.the-row) ps l 0)) (whole-in 𝓤 H A W P.the-row ps l 0) $
@@ -131,18 +131,18 @@ module _ {M : Type 1} (𝓤 : URA M) (H : Heap 𝓤) (A : Atoms 𝓤) (W : Given
       fjoin ! $ frame ! $ done !
 
   -- and as room once more
-  together : length ps ≡ 100000 → ent 𝓤 (sep 𝓤 (sem 𝓤 H A Front) (sem 𝓤 H A Back)) (H .room sheet l 0)
+  together : length ps ≡ 100000 → ent 𝓤 (sep 𝓤 (sem 𝓤 H A Front) (sem 𝓤 H A Back)) (H .room presses l 0)
   unfolding partOf
   together e =
       qed W (‵ Front ∷ ‵ Back ∷ []) ∵ fsplit ! $ drop ! $ use1 W (‵ (cells (mem-of P.the-row) front l 0)) (whole-in 𝓤 H A W P.the-row front l 0) $
       use2 W (‵ (cells (mem-of P.the-row) (front ++ drop-list k ps) l 0)) (join-app 𝓤 H A (mem-of P.the-row) front (drop-list k ps) l 0) $
       rewrite ! 0 (λ (qs : List Press). ‵ (cells (mem-of P.the-row) qs l 0)) (take-append-drop k ps) refl $
       use1 W (‵ (row P.the-row fullShare ps l 0)) (whole-out 𝓤 H A W P.the-row ps l 0) $ feqI ! ℕ (length ps) 100000 e $ fjoin ! $
-      use1 W (‵ (partAt Sheet fullShare ps l 0)) (array-whole 𝓤 H A W P.the-row fullShare 100000 ps l 0) $
+      use1 W (‵ (partAt Presses fullShare ps l 0)) (array-whole 𝓤 H A W P.the-row fullShare 100000 ps l 0) $
       fpick ! (λ vs. fsplit ! $ move ! (1 ∷ []) $ fpick ! (λ us. fsplit ! $ fsplit ! $ feqL ! (λ is. drop ! $ drop ! $
-      rewrite ! 0 (λ (ws : List Val). ‵ (cellAt fullShare (Sheet .mir) ws l 0)) is refl $
-      use1 W (‵ (fat fullShare sheet l 0 (arrayVal us))) (W .laws .raw-at fullShare sheet l 0 (arrayVal us)) $
-      use1 W (‵ (froom sheet l 0)) (W .laws .at-room sheet l 0 (arrayVal us)) $ done !)))
+      rewrite ! 0 (λ (ws : List Val). ‵ (cellAt fullShare (Presses .mir) ws l 0)) is refl $
+      use1 W (‵ (fat fullShare presses l 0 (arrayVal us))) (W .laws .raw-at fullShare presses l 0 (arrayVal us)) $
+      use1 W (‵ (froom presses l 0)) (W .laws .at-room presses l 0 (arrayVal us)) $ done !)))
 
 module _ {M : Type 1} (𝓤 : URA M) (H : Heap 𝓤) (A : Atoms 𝓤) (mem : Memory → SProp 𝓤) (run : Routine → Fun 𝓤) where
   abbrev LentOf : Contract 𝓤
@@ -177,16 +177,16 @@ module _ {M : Type 1} (𝓤 : URA M) (H : Heap 𝓤) (A : Atoms 𝓤) (mem : Mem
 
 module _ {M : Type 1} (𝓤 : URA M) (H : Heap 𝓤) (A : Atoms 𝓤) (W : Given 𝓤 H A) (mem : Memory → SProp 𝓤) (run : Routine →
     Fun 𝓤) (bd : Board) (ps : List Press) (cnt : ℕ)
-    (bd-is : Is B.the-row bd (of-board bd ∷ [])) (ps-is : Is Sheet ps (of-sheet ps ∷ [])) (fits : cnt < 2 ^ 64) where
+    (bd-is : Is B.the-row bd (of-board bd ∷ [])) (ps-is : Is Presses ps (of-presses ps ∷ [])) (fits : cnt < 2 ^ 64) where
   abbrev Post : Val → SProp 𝓤
   Post = walkOf 𝓤 H A pressed.ended stayed (pressed.clauses 𝓤 H A mem run) .post
-      ((tt, tt, tt, (bd, (ps, (cnt, tt))), (of-board bd ∷ [], (of-sheet ps ∷ [], (vint w64 cnt ∷ [], tt)))), tt)
+      ((tt, tt, tt, (bd, (ps, (cnt, tt))), (of-board bd ∷ [], (of-presses ps ∷ [], (vint w64 cnt ∷ [], tt)))), tt)
 
   exits : (r : ListAnswered) (u : Val) → Is S.the-row r (u ∷ []) → ent 𝓤 (emp 𝓤) (Post u)
   exits r u is =
       qed W [] ∵
       suffices ! _ (ends-at 𝓤 H A pressed.ended stayed (pressed.clauses 𝓤 H A mem run) W
-      ((tt, tt, tt, (bd, (ps, (cnt, tt))), (of-board bd ∷ [], (of-sheet ps ∷ [], (vint w64 cnt ∷ [], tt)))), tt) u r (tt, (tt, (tt, tt)))
+      ((tt, tt, tt, (bd, (ps, (cnt, tt))), (of-board bd ∷ [], (of-presses ps ∷ [], (vint w64 cnt ∷ [], tt)))), tt) u r (tt, (tt, (tt, tt)))
       (tt, (tt, (tt, tt)))) $
       owned ! S.the-row (Is S.the-row) (LL.makes S.the-type S′.the-plain 𝓤 H A) r (u ∷ []) is $ nothing ! $ nothing ! $ fjoin ! $ nothing ! $
       fjoin ! $ nothing ! $ fjoin ! $ join ! $ nothing ! $ join ! $ frame ! $ done !
@@ -194,8 +194,8 @@ module _ {M : Type 1} (𝓤 : URA M) (H : Heap 𝓤) (A : Atoms 𝓤) (W : Given
   ps-length : length ps ≡ 100000
   ps-length = ps-is .1 .0 .1
 
-  sheet-typed : Holds (hasTy sheet (of-sheet ps)) × WT (of-sheet ps)
-  sheet-typed = array-typed P.the-row (LL.lawful P.the-type P′.the-laws 𝓤 H A W .typed) 100000 ps (of-sheet ps ∷ []) ps-is .0
+  presses-typed : Holds (hasTy presses (of-presses ps)) × WT (of-presses ps)
+  presses-typed = array-typed P.the-row (LL.lawful P.the-type P′.the-laws 𝓤 H A W .typed) 100000 ps (of-presses ps ∷ []) ps-is .0
 
   module _ (k : ℕ) (k-is : k ≤ 100000) where
     front-length : length (take k ps) ≡ k
@@ -211,20 +211,20 @@ module _ {M : Type 1} (𝓤 : URA M) (H : Heap 𝓤) (A : Atoms 𝓤) (W : Given
       (known-list : Triple 𝓤 (C #press-list) (PressList 𝓤 H A mem run)) where
     module _ (l₀ l₁ l₂ l₃ l₄ l₅ l₆ l₇ : ℕ) where
       abbrev En : Env 𝓤 H
-      En = (S′.mir, l₀) ∷ (B′.mir, l₁) ∷ (sheet, l₂) ∷ (word, l₃) ∷ (sheet, l₄) ∷ (word, l₅) ∷ (whole-ref, l₆) ∷ (slice, l₇) ∷ []
+      En = (S′.mir, l₀) ∷ (B′.mir, l₁) ∷ (presses, l₂) ∷ (word, l₃) ∷ (presses, l₄) ∷ (word, l₅) ∷ (whole-ref, l₆) ∷ (slice, l₇) ∷ []
 
       abbrev Passed : List (Item 𝓤)
-      Passed = ‵ (fat fullShare word l₃ 0 (vint w64 cnt)) ∷ ‵ (fdies word l₃) ∷ ‵ (fat fullShare sheet l₂ 0 (of-sheet ps)) ∷ ‵ (fdies sheet l₂) ∷ ‵
+      Passed = ‵ (fat fullShare word l₃ 0 (vint w64 cnt)) ∷ ‵ (fdies word l₃) ∷ ‵ (fat fullShare presses l₂ 0 (of-presses ps)) ∷ ‵ (fdies presses l₂) ∷ ‵
           (fat fullShare B′.mir l₁ 0 (of-board bd)) ∷ ‵ (fdies B′.mir l₁) ∷ ‵ (froom S′.mir l₀ 0) ∷ ‵ (fdies S′.mir l₀) ∷ []
 
       -- once the count is known, and at the start
       abbrev Mid : ℕ → List (Item 𝓤)
       Mid k = ‵ (froom slice l₇ 0) ∷ ‵ (fdies slice l₇) ∷ ‵ (froom whole-ref l₆ 0) ∷ ‵ (fdies whole-ref l₆) ∷ ‵
-          (fat fullShare word l₅ 0 (vint w64 k)) ∷ ‵ (fdies word l₅) ∷ ‵ (fat fullShare sheet l₄ 0 (of-sheet ps)) ∷ ‵ (fdies sheet l₄) ∷ Passed
+          (fat fullShare word l₅ 0 (vint w64 k)) ∷ ‵ (fdies word l₅) ∷ ‵ (fat fullShare presses l₄ 0 (of-presses ps)) ∷ ‵ (fdies presses l₄) ∷ Passed
 
       abbrev Start : List (Item 𝓤)
       Start = ‵ (froom slice l₇ 0) ∷ ‵ (fdies slice l₇) ∷ ‵ (froom whole-ref l₆ 0) ∷ ‵ (fdies whole-ref l₆) ∷ ‵ (froom word l₅ 0) ∷ ‵
-          (fdies word l₅) ∷ ‵ (froom sheet l₄ 0) ∷ ‵ (fdies sheet l₄) ∷ Passed
+          (fdies word l₅) ∷ ‵ (froom presses l₄ 0) ∷ ‵ (fdies presses l₄) ∷ Passed
 
       -- the slice that is lent
       abbrev lent : ℕ → GName → RefT (List Press)
@@ -256,7 +256,7 @@ module _ {M : Type 1} (𝓤 : URA M) (H : Heap 𝓤) (A : Atoms 𝓤) (W : Given
           -- [the token; the way back; the rest of the array; _7; …]
           land ! (from ! (stop !)) (init ! 16 refl (LL.lawful S.the-type S′.the-laws 𝓤 H A W .typed r _ is .0)) $
           split ! $ lft-end ! tt $ move ! (0 ∷ 2 ∷ []) $ lent-back ! tt $ move ! (0 ∷ 2 ∷ []) $
-          use2 W (‵ (froom sheet l₄ 0)) (together 𝓤 H A W l₄ k ps ps-length) $
+          use2 W (‵ (froom presses l₄ 0)) (together 𝓤 H A W l₄ k ps ps-length) $
           -- [room for _4; true; _7; …; _6; …; _5; …; that _4 dies; _3; …; _2; …; _1; …; _0; …]
           returns ! (look ! 15 refl) $ forget ! 2 refl $ forget ! 4 refl $ forget ! 6 refl $ forget ! 9 refl $ forget ! 11 refl $ forget ! 13 refl $
           forget ! 15 refl $
@@ -266,7 +266,7 @@ module _ {M : Type 1} (𝓤 : URA M) (H : Heap 𝓤) (A : Atoms 𝓤) (W : Given
 
       starts : Sq W Start (runs C Λ En mir.t-1 (atRet En Post))
       starts =
-          assigns ! (of-opd ! (load ! (from ! (stop !)) (look ! 10 refl))) (from ! (stop !)) (init ! 6 refl sheet-typed) $
+          assigns ! (of-opd ! (load ! (from ! (stop !)) (look ! 10 refl))) (from ! (stop !)) (init ! 6 refl presses-typed) $
           use0 W (raw (LentOf 𝓤 H A mem run .pre (to-lent-of 𝓤 H A mem run cnt))) (goes-lent-of 𝓤 H A mem run W cnt fits) $
           calls-at ! fm (LentOf 𝓤 H A mem run) known-lent-of (to-lent-of 𝓤 H A mem run cnt)
           (and-then ! (load ! (from ! (stop !)) (look ! 9 refl)) (no-more !)) (λ u.
@@ -278,15 +278,15 @@ module _ {M : Type 1} (𝓤 : URA M) (H : Heap 𝓤) (A : Atoms 𝓤) (W : Given
           land ! (from ! (stop !)) (init ! 4 refl (uint-lawful 𝓤 H A W w64 .typed k _ is .0)) $
           rewrite ! 4 (λ (w : Val). ‵ (fat fullShare word l₅ 0 w)) (ap only (is .0)) refl $ lends k e))))
 
-    walk : ent 𝓤 (onEntry 𝓤 H A pressed.signature tt tt (bd, (ps, (cnt, tt))) (of-board bd ∷ [], (of-sheet ps ∷ [], (vint w64 cnt ∷ [], tt))))
-        (WpFn 𝓤 H C Λ code.function (of-board bd ∷ of-sheet ps ∷ vint w64 cnt ∷ []) Post)
+    walk : ent 𝓤 (onEntry 𝓤 H A pressed.signature tt tt (bd, (ps, (cnt, tt))) (of-board bd ∷ [], (of-presses ps ∷ [], (vint w64 cnt ∷ [], tt))))
+        (WpFn 𝓤 H C Λ code.function (of-board bd ∷ of-presses ps ∷ vint w64 cnt ∷ []) Post)
     walk =
         qed W (raw (onEntry 𝓤 H A pressed.signature tt tt (bd, (ps, (cnt, tt)))
-        (of-board bd ∷ [], (of-sheet ps ∷ [], (vint w64 cnt ∷ [], tt)))) ∷ []) ∵ drop ! $
-        enter ! C Λ code.function (of-board bd ∷ of-sheet ps ∷ vint w64 cnt ∷ []) _ $
+        (of-board bd ∷ [], (of-presses ps ∷ [], (vint w64 cnt ∷ [], tt)))) ∷ []) ∵ drop ! $
+        enter ! C Λ code.function (of-board bd ∷ of-presses ps ∷ vint w64 cnt ∷ []) _ $
         alloc1 ! (λ l₀. alloc1 ! (λ l₁. alloc1 ! (λ l₂. alloc1 ! (λ l₃. alloc1 ! (λ l₄. alloc1 ! (λ l₅. alloc1 ! (λ l₆. alloc1 ! (λ l₇. alloc0 ! $
         params1 ! $
-        pass1 ! (init ! 12 refl (LL.lawful B.the-type B′.the-laws 𝓤 H A W .typed bd _ bd-is .0)) $ pass1 ! (init ! 10 refl sheet-typed) $
+        pass1 ! (init ! 12 refl (LL.lawful B.the-type B′.the-laws 𝓤 H A W .typed bd _ bd-is .0)) $ pass1 ! (init ! 10 refl presses-typed) $
         pass1 ! (init ! 8 refl (tt, record { fits = fits })) $ pass0 ! $
         starts l₀ l₁ l₂ l₃ l₄ l₅ l₆ l₇))))))))
 

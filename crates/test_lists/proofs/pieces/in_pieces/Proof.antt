@@ -8,7 +8,7 @@ abbrev Inv-loop : tie.InvT-loop
 Inv-loop list k p₀ step₀ p step = Unit
 
 abbrev μ-loop : tie.MeasureT-loop
-μ-loop list k p₀ step₀ p step = 60 - step
+μ-loop list k p₀ step₀ p step = 500 - step
 
 pub in-pieces-spec : {M : Type 1} → statement M
 in-pieces-spec =

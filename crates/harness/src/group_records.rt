@@ -1,12 +1,12 @@
 // Records of group presses, written by hand: sound ones with any marks, and any bits at the heads that they do not
 // name; and such a record with one thing wrong. "a group record naming a non-link, or nothing, is damage (15)" (02,
 // A5).
+use crate::boards;
 use crate::damage;
 use crate::damage::Damaged;
+use crate::records;
 use board::Board;
 use board::UndoRecord;
-use harness::boards;
-use harness::records;
 use reference::access;
 use reference::group;
 use reference::log::RECORDS;

@@ -1,7 +1,7 @@
 // A board with one field changed: document 01's list for 15, and places that nobody may look at.
+use crate::records;
 use board::Board;
 use board::UndoRecord;
-use harness::records;
 use reference::access;
 use reference::log::RECORDS;
 use reference::problem;

@@ -1,8 +1,8 @@
--- `test_calls::group_records::some_marks` is safe and ends.
+-- `harness::group_records::some_marks` is safe and ends.
 use Prim.Native.Nat.{_-_}
 use borrow.Author.Needs.{needs}
-use Rattle.test_calls.proofs.group_records.some_marks.Statement.{statement}
-use Rattle.test_calls.proofs.group_records.some_marks.Tie as tie
+use Rattle.harness.proofs.group_records.some_marks.Statement.{statement}
+use Rattle.harness.proofs.group_records.some_marks.Tie as tie
 
 abbrev Inv-loop : tie.InvT-loop
 Inv-loop heads marks₀ g₀ head₀ marks g head = Unit

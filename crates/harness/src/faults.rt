@@ -1,9 +1,9 @@
 // A board that the planner gave, with one fault planted in it: a comparison of boards has to report each of them. And
 // what a comparison has to pass over.
+use crate::records;
 use board::Board;
 use board::Replaced;
 use board::UndoRecord;
-use harness::records;
 use reference::access;
 use reference::group;
 use reference::log::RECORDS;
@@ -93,6 +93,18 @@ fn with_record_fault(b: Board, kind: u32, head: u32) -> Board {
     let at = (latest(c.count) % RECORDS as u32) as usize;
     let r = c.records[at];
     c.records[at] = record_changed(r, kind, head);
+    c
+}
+
+// The board with another tail in the record that stands first past the count, or with no change where all places are
+// in use. Nobody may look there, but a list and its single calls leave the same.
+pub fn with_fault_past(b: Board, head: u32) -> Board {
+    let mut c = b;
+    if c.count < RECORDS {
+        let at = c.count;
+        let r = c.records[at];
+        c.records[at] = record_changed(r, TAIL, head);
+    }
     c
 }
 

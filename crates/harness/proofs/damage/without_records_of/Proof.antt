@@ -1,8 +1,8 @@
--- `test_calls::damage::without_records_of` is safe and ends.
+-- `harness::damage::without_records_of` is safe and ends.
 use Prim.Native.Nat.{_-_}
 use borrow.Author.Needs.{needs}
-use Rattle.test_calls.proofs.damage.without_records_of.Statement.{statement}
-use Rattle.test_calls.proofs.damage.without_records_of.Tie as tie
+use Rattle.harness.proofs.damage.without_records_of.Statement.{statement}
+use Rattle.harness.proofs.damage.without_records_of.Tie as tie
 
 abbrev Inv-loop : tie.InvT-loop
 Inv-loop tail head b c₀ k₀ c k = Unit

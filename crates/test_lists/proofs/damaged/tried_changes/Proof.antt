@@ -1,17 +1,17 @@
--- `test_lists::damaged::tried_damages` is safe and ends.
+-- `test_lists::damaged::tried_changes` is safe and ends.
 use Prim.Native.Nat.{_-_}
 use borrow.Author.Needs.{needs}
-use Rattle.test_lists.proofs.damaged.tried_damages.Statement.{statement}
-use Rattle.test_lists.proofs.damaged.tried_damages.Tie as tie
+use Rattle.test_lists.proofs.damaged.tried_changes.Statement.{statement}
+use Rattle.test_lists.proofs.damaged.tried_changes.Tie as tie
 
 abbrev Inv-loop : tie.InvT-loop
 Inv-loop s list count due g b t₀ kind₀ t kind = Unit
 
 abbrev μ-loop : tie.MeasureT-loop
-μ-loop s list count due g b t₀ kind₀ t kind = 12 - kind
+μ-loop s list count due g b t₀ kind₀ t kind = 39 - kind
 
-pub tried-damages-spec : {M : Type 1} → statement M
-tried-damages-spec =
+pub tried-changes-spec : {M : Type 1} → statement M
+tried-changes-spec =
     tie.close
     (tie.spec
     Inv-loop
