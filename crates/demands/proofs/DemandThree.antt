@@ -27,7 +27,8 @@ use Rattle.demands.proofs.Runs.{Run, run-follows}
 -- is lent, gives 14 exactly when one is too short; otherwise the n times n states are those of 'Link states', over the
 -- feed trees of the card's positions, root and prices under the standing marks, within the standing budget." The last
 -- words are amended: "The claim about presses and the rule on reduced prices now use the larger of the budget and the
--- cheapest total" (02, A2).
+-- cheapest total" (02, A2). A list of presses is answered by "how many were applied and the refusal number, or 0" (02,
+-- A1), and the book has both from the presses themselves.
 pub record Demand-3 (ws : List ℕ) (is : List Input) (xs : List ℕ) (old new : Buffers) (v : View) : Type 0 where
   pub answers : xs ≡ input-answers is (new-log (instance-in ws))
   pub last-look : Looks-at true (short-for (instance-in ws .n) old) (effective (input-after is (new-log (instance-in ws)))) old new v
