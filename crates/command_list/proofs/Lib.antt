@@ -8,4 +8,4 @@ pub mod WorkedLists
 pub mod LoopLaws
 pub mod Callees
 mod Standing
-pub mod Pressed
+pub mod ListCalled

@@ -53,7 +53,7 @@ list-result-of r = record { applied = r .applied; answer = r .answer; board = co
 
 -- What `press_list` promises of the list ps, which holds ps′ afterwards, on the board b: the whole result, every record
 -- place too, is an equation.
-pub record Presses (ps ps′ : List Press) (b : Board) (r : ListAnswered) : Type 0 where
+pub record Answers-list (ps ps′ : List Press) (b : Board) (r : ListAnswered) : Type 0 where
   pub result : list-result-of r ≡ list-answered (commands-in ps) (contents-of b)
   pub list-kept : ps′ ≡ ps
 

@@ -6,7 +6,7 @@ ghost use mathlib.Core.List.{[], _∷_};
 ghost use Prim.Native.Nat.{_<_, _^_, _+_};
 ghost use Rattle.board.specs.ModelOf.{command-of};
 ghost use Rattle.board.specs.Contents.{contents-of};
-ghost use Rattle.command_list.specs.CommandList.{list-answered, list-result-of, Presses, continued, next-place};
+ghost use Rattle.command_list.specs.CommandList.{list-answered, list-result-of, Answers-list, continued, next-place};
 use board::Board;
 use board::Command;
 use board::calls::execute;
@@ -85,7 +85,7 @@ fn following(answer: u32, i: usize, count: usize) -> usize
 
 // Makes the presses of a list in order, up to the first refused one.
 pub fn press_list(b: Board, list: &[Press]) -> ListAnswered
-    ensures { λ r. ⌜ Presses (now (list .entry)) (now (list .exit)) b r ⌝ }
+    ensures { λ r. ⌜ Answers-list (now (list .entry)) (now (list .exit)) b r ⌝ }
 {
     let mut result = begin(b);
     let mut i = 0;

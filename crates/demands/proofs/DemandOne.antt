@@ -29,7 +29,7 @@ use Rattle.board.specs.Contents.{contents-of}
 use Rattle.command_list.specs.CommandList.{ListResult, list-answered, list-numbers, commands-in, list-result-of}
 use Rattle.command_list.proofs.AppliedLaws.{Singly, list-valid, list-accepted}
 use Rattle.command_list.proofs.ListNumberLaws.{list-listed}
-use Rattle.command_list.proofs.Pressed.{Pressed, pressed}
+use Rattle.command_list.proofs.ListCalled.{List-called, list-called}
 use Rattle.report_text.specs.Whole.{max-text}
 use Rattle.report.specs.declared.Reported.{Reported}
 use Rattle.report.specs.Reports.{Reports}
@@ -41,13 +41,13 @@ use Rattle.planner.proofs.Learnt.{Opened-by, opened-by, Looked, looked, Wrote, 
 use Rattle.planner.proofs.WritingLaws.{write-cases}
 use Rattle.planner.proofs.OpeningLaws.{opened-answer, opened-starts}
 use Rattle.demands.proofs.CallNumbers.{card-numbers, buffer-numbers, check-numbers, among, Reports-before, card-among, opened-as-before, looks-at-among, looks-at-as-before, looks-at-valid, writes-among, writes-as-before, writes-valid, check-among, check-valid, reports-among, reports-before, reports-opened, replays-among, replays-as-before, replays-opened}
-use Rattle.demands.proofs.Runs.{pressed-singly}
+use Rattle.demands.proofs.Runs.{list-called-singly}
 
 -- AN ANSWER that some public call gave
 pub data Given : ℕ → Type 0 where
   by-opening : {ws : List ℕ} {o : Answered} → Opened-by ws o → Given (o .answer)
   by-command : {c : Command} {b : Board} {r : Answered} → Called c b r → Given (r .answer)
-  by-list : {ps ps′ : List Press} {b : Board} {r : ListAnswered} → Pressed ps ps′ b r → Given (r .answer)
+  by-list : {ps ps′ : List Press} {b : Board} {r : ListAnswered} → List-called ps ps′ b r → Given (r .answer)
   by-looking : {b : Board} {v : View} {old new : Buffers} → Looked b old new v → Given (answer-of v)
   by-writing : {b : Board} {r : Written} {out out′ : List ℕ} → Wrote b out out′ r → Given (r .answer)
   by-checking : {b : Board} {ps ps′ : List ℕ} {v k : ℕ} {ws ws′ : List ℕ} {r : ℕ} → Checked b ps ps′ v k ws ws′ r → Given r
@@ -120,12 +120,12 @@ demand-1 (by-command {c = c} {b = b} {r = r} p) =
 demand-1 (by-list {ps = ps} {b = b} {r = r} p) =
     let cs = commands-in ps in
     let w = contents-of b in
-    let e : list-result-of r ≡ list-answered cs w = pressed p .result in
+    let e : list-result-of r ≡ list-answered cs w = list-called p .result in
     let a : r .answer ≡ list-answered cs w .answer = ap (λ (d : ListResult). d .answer) e in
     let g : valid (model-of b) ≡ true → valid (model-of (r .board)) ≡ true = λ v. ap (λ (d : ListResult). valid (d .board .model)) e ∙ list-valid cs w v in
     record {
       own-number = rw a (list-listed cs w);
-      as-before = λ _. record { list-kept = pressed p .list-kept; singly = pressed-singly p; still-valid = g };
+      as-before = λ _. record { list-kept = list-called p .list-kept; singly = list-called-singly p; still-valid = g };
       leaves-valid = λ z. g (list-accepted cs w (sym a ∙ z));
     }
 demand-1 (by-looking {b = b} {v = v} {old = old} {new = new} p) =

@@ -23,7 +23,7 @@ use Rattle.command_list.specs.declared.ListAnswered.{ListAnswered}
 use Rattle.command_list.specs.CommandList.{ListResult, list-answered, commands-in, list-result-of}
 use Rattle.command_list.proofs.AppliedLaws.{Singly, list-singly, list-valid}
 use Rattle.command_list.proofs.FollowLaws.{List-tied, list-tied}
-use Rattle.command_list.proofs.Pressed.{Pressed, pressed}
+use Rattle.command_list.proofs.ListCalled.{List-called, list-called}
 use Rattle.planner.specs.declared.View.{View}
 use Rattle.planner.specs.Looking.{Buffers}
 use Rattle.planner.proofs.Learnt.{Looked, Wrote, Checked}
@@ -38,7 +38,7 @@ pub data Run : List Input → Board → (answers : List ℕ) → (last : Board) 
       {c : Command} {is : List Input} {b : Board} {r : Answered} {xs : List ℕ} {e : Board} → Called c b r → Run is (r .board) xs e →
       Run (single c ∷ is) b (r .answer ∷ xs) e
   then-list :
-      {ps ps′ : List Press} {is : List Input} {b : Board} {r : ListAnswered} {xs : List ℕ} {e : Board} → Pressed ps ps′ b r → Run is (r .board) xs e →
+      {ps ps′ : List Press} {is : List Input} {b : Board} {r : ListAnswered} {xs : List ℕ} {e : Board} → List-called ps ps′ b r → Run is (r .board) xs e →
       Run (list (commands-in ps) ∷ is) b (r .applied ∷ r .answer ∷ xs) e
   then-look :
       {is : List Input} {b : Board} {xs : List ℕ} {e : Board} {v : View} {old new : Buffers} → Looked b old new v → Run is b xs e → Run is b xs e
@@ -49,18 +49,18 @@ pub data Run : List Input → Board → (answers : List ℕ) → (last : Board) 
       Run is b xs e
 
 -- A LIST THAT WAS HANDED OVER is the single commands that it applied
-pub pressed-singly : {ps ps′ : List Press} {b : Board} {r : ListAnswered} → Pressed ps ps′ b r → Singly (commands-in ps) (contents-of b) (list-result-of r)
-pressed-singly {ps} {b = b} l = subst (Singly (commands-in ps) (contents-of b)) (sym (pressed l .result)) (list-singly (commands-in ps) (contents-of b))
+pub list-called-singly : {ps ps′ : List Press} {b : Board} {r : ListAnswered} → List-called ps ps′ b r → Singly (commands-in ps) (contents-of b) (list-result-of r)
+list-called-singly {ps} {b = b} l = subst (Singly (commands-in ps) (contents-of b)) (sym (list-called l .result)) (list-singly (commands-in ps) (contents-of b))
 
 n-kept : (cs : List Command) (b : Model) → board-after answered cs b .instance .n ≡ b .instance .n
 unfolding board-after
 n-kept [] b = refl
 n-kept (c ∷ cs) b = n-kept cs (answered c b .board) ∙ answered-changes c b .n
 
-pressed-n : {ps ps′ : List Press} {b : Board} {r : ListAnswered} → Pressed ps ps′ b r → r .board .n ≡ b .n
-pressed-n {ps} {b = b} {r = r} l =
+list-called-n : {ps ps′ : List Press} {b : Board} {r : ListAnswered} → List-called ps ps′ b r → r .board .n ≡ b .n
+list-called-n {ps} {b = b} {r = r} l =
     let cs = take (r .applied) (commands-in ps) in
-    ap (λ (w : Contents). w .model .instance .n) (sym (pressed-singly l .board)) ∙ ap (λ (m : Model). m .instance .n) (contents-model cs (contents-of b))
+    ap (λ (w : Contents). w .model .instance .n) (sym (list-called-singly l .board)) ∙ ap (λ (m : Model). m .instance .n) (contents-model cs (contents-of b))
     ∙ n-kept cs (model-of b)
 
 -- A RUN FOLLOWS THE LOG
@@ -76,10 +76,10 @@ pub record List-follows (cs : List Command) (k : Log) (r : ListAnswered) : Type 
   pub follows : Follows (r .board) (note-list cs k .log)
 
 pub list-follows :
-    {ps ps′ : List Press} {b : Board} {r : ListAnswered} → Pressed ps ps′ b r → (k : Log) → Follows b k → List-follows (commands-in ps) k r
+    {ps ps′ : List Press} {b : Board} {r : ListAnswered} → List-called ps ps′ b r → (k : Log) → Follows b k → List-follows (commands-in ps) k r
 list-follows {ps} {b = b} {r = r} l k f =
     let cs = commands-in ps in
-    let e = pressed l .result in
+    let e = list-called l .result in
     let t : List-tied (list-result-of r) (note-list cs k) =
     subst (λ (d : ListResult). List-tied d (note-list cs k)) (sym e) (list-tied cs (contents-of b) k (f .is-valid) (f .tied)) in
     record {
@@ -110,7 +110,7 @@ run-follows (then-list {ps = ps} l rest) k f =
     record {
       same-answers = λ i. s .same-applied i ∷ s .same-answer i ∷ n .same-answers i;
       follows = n .follows;
-      same-n = n .same-n ∙ pressed-n l;
+      same-n = n .same-n ∙ list-called-n l;
     }
 run-follows (then-look l rest) k f = run-follows rest k f
 run-follows (then-write l rest) k f = run-follows rest k f
@@ -143,7 +143,7 @@ run-gives (then-command {c = c} {is = is} {b = b} {r = r} l rest) =
       same-contents = n .same-contents ∙ ap (contents-left is) w;
     }
 run-gives (then-list {is = is} {r = r} l rest) =
-    let e = pressed l .result in
+    let e = list-called l .result in
     let n = run-gives rest in
     let w = ap (λ (d : ListResult). d .board) e in
     record {
