@@ -12,7 +12,8 @@ card-short = 1
 abbrev pub bad-count : ℕ
 bad-count = 2
 
--- "card length not the needed one"
+-- "card length not the needed one"; of a card with records 02, A8: "3 now meaning that the old bits run past the end",
+-- "3 where it runs past the end" of the count and each record, "3 if whole bytes remain"
 abbrev pub bad-length : ℕ
 bad-length = 3
 
@@ -90,3 +91,14 @@ overcharged = 24
 -- "amounts not adding up"
 abbrev pub wrong-values : ℕ
 wrong-values = 25
+
+-- cards with records (02, A8)
+
+-- "27 for a count above 200, kind 3 (two bits long), or a record naming a non-link, an empty group or a value out of
+-- range"; A9: "27 use the new limits"
+abbrev pub bad-record : ℕ
+bad-record = 27
+
+-- "28 for a move to old with records"
+abbrev pub has-records : ℕ
+has-records = 28
