@@ -1,0 +1,1 @@
+-- Laws that the proofs of reading and writing cite. Assumes nothing.
