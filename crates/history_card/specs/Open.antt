@@ -1,6 +1,7 @@
 -- What opening a history card gives, as equations. Assumes nothing: these are definitions.
 use mathlib.Core.Bool.{cond}
 use mathlib.Core.List.{List}
+use Prim.Native.Nat.{ℕ}
 use lib.Dec.{eqb}
 use Rattle.card_format.specs.Card.{n-in, root-in, budget-in}
 use Rattle.card.specs.Read.{no-header, header-with}
