@@ -1,1 +1,4 @@
 -- Laws of history cards. Assumes nothing.
+pub mod FirstBits
+pub mod HeaderSteps
+pub mod OldConsole
