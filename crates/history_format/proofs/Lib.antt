@@ -3,3 +3,4 @@ pub mod FirstBits
 pub mod HeaderSteps
 pub mod InnerCard
 pub mod OldConsole
+pub mod HistoryNumbers
