@@ -1,1 +1,6 @@
 -- Laws of history cards. Assumes nothing.
+pub mod MemberMarks
+pub mod RecordFits
+pub mod RecordLaws
+pub mod RecordLength
+pub mod HistoryLaws
