@@ -11,3 +11,4 @@ pub mod RecordLength
 pub mod HistoryLaws
 pub mod FirstRecords
 pub mod LongHistory
+pub mod WorkedHistory
