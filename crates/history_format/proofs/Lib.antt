@@ -4,3 +4,4 @@ pub mod RecordFits
 pub mod RecordLaws
 pub mod RecordLength
 pub mod HistoryLaws
+pub mod WorkedRecords

@@ -1,5 +1,5 @@
--- One record on a card, both ways: one that fits its fields is read as it was written, whatever follows it, and one that
--- was read is written as the bits it was read from. Assumes nothing.
+-- One record on a card, both ways: one that fits its fields is read as it was written, whatever follows it, and one
+-- that was read is written as the bits it was read from. Assumes nothing.
 --
 -- The kind says how the rest is read, so each law is three: for an arc, for a budget, for several arcs of a tail, whose
 -- marks are told of in MemberMarks.
@@ -229,9 +229,9 @@ module _ (bs : List ℕ) (e : are-bits bs ≡ true) (l : record-length bs ≤ le
       let b = field-written kind-width budget-width bs e (omega arith) in
       rw (budget-in bs q, n) (simp append-assoc (rw b a))
 
-  group-again : kind-in bs ≡ 2 → record-bits (replaced-in bs) ++ drop (record-length bs) bs ≡ bs
+  arcs-again : kind-in bs ≡ 2 → record-bits (replaced-in bs) ++ drop (record-length bs) bs ≡ bs
   unfolding record-bits
-  group-again q =
+  arcs-again q =
       let n = marks-length bs q in
       let a = kind-again 2 q (omega arith) in
       let b = tail-again (omega arith) in
@@ -248,5 +248,5 @@ record-again bs e f = go (kind-in bs) refl (w .known)
     go : (k : ℕ) → kind-in bs ≡ k → k < 3 → record-bits (replaced-in bs) ++ drop (record-length bs) bs ≡ bs
     go zero q b = mark-again bs e (w .within) q
     go (suc zero) q b = budget-again bs e (w .within) q
-    go (suc (suc zero)) q b = group-again bs e (w .within) q
+    go (suc (suc zero)) q b = arcs-again bs e (w .within) q
     go (suc (suc (suc k))) q b = absurd (omega arith)
