@@ -12,3 +12,4 @@ pub mod HistoryLaws
 pub mod FirstRecords
 pub mod LongHistory
 pub mod WorkedHistory
+pub mod WorkedRecords
