@@ -11,20 +11,19 @@ use mathlib.Core.Logic.{⊎-elim}
 use Prim.Native.Nat.{ℕ, suc, _+_, _*_, _-_, _≤_, _<_}
 use native.Mathlib.Omega.{arith}
 use native.Mathlib.Nat.{mul-le-mul}
-use lib.Dec.{ltb, leb, eqb}
+use lib.Dec.{ltb, eqb}
 use lib.ListN.{length, take, drop, length-append, length-take, length-drop, take-append-drop}
 use lib.Seq.{drop-append-le}
 use borrow.Author.Tests.{ltb-false, le-ltb}
-use Rattle.base.specs.Lists.{all-of}
 use Rattle.base.proofs.BoolLaws.{or-false-right, test}
 use Rattle.base.proofs.AllOfLaws.{all-of-drop}
 use Rattle.bits.specs.Bits.{bits-in, are-bits}
 use Rattle.bits.proofs.ByteLaws.{length-bits-in, bits-in-append}
-use Rattle.instance.specs.Limits.{max-vertices, max-budget, max-records}
+use Rattle.instance.specs.Limits.{max-vertices, max-records}
 use Rattle.instance.specs.Refusals.{bad-count, bad-length}
 use Rattle.instance.specs.Instance.{Instance}
 use Rattle.card_format.specs.Widths.{n-width, root-width, budget-width}
-use Rattle.card_format.specs.Card.{n-in, root-in, budget-in, bits-needed, min-card, instance-from, cells-refusal, card-refusal}
+use Rattle.card_format.specs.Card.{n-in, bits-needed, min-card, instance-from, cells-refusal}
 use Rattle.card_format.proofs.TooLong.{too-long-refused as old-refused, too-long-by-part as old-by-part}
 use Rattle.history_format.specs.RecordWidths.{marker-width, count-width}
 use Rattle.history_format.specs.HistoryCard.{is-history, old-bits, behind-cells, count-in, max-history-card, behind-refusal, history-header-refusal, history-refusal, open-refusal}
