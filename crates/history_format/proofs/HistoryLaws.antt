@@ -1,5 +1,5 @@
--- Lists of records on a card, both ways: a history is read as it was written, whatever follows it, and one that was read
--- is written as the bits it was read from. Assumes nothing.
+-- Lists of records on a card, both ways: a history is read as it was written, whatever follows it, and one that was
+-- read is written as the bits it was read from. Assumes nothing.
 --
 -- The latest record is first in a history and last on a card. So a history is read by induction with more records to
 -- come behind it: when the earlier ones have been read, the latest is the next.

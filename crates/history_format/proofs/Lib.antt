@@ -11,4 +11,5 @@ pub mod RecordLength
 pub mod HistoryLaws
 pub mod FirstRecords
 pub mod LongHistory
+pub mod WorkedRecords
 pub mod WorkedHistory

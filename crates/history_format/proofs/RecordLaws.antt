@@ -1,5 +1,5 @@
--- One record on a card, both ways: one that fits its fields is read as it was written, whatever follows it, and one that
--- was read is written as the bits it was read from. Assumes nothing.
+-- One record on a card, both ways: one that fits its fields is read as it was written, whatever follows it, and one
+-- that was read is written as the bits it was read from. Assumes nothing.
 --
 -- The kind says how the rest is read, so each law is three: for an arc, for a budget, for several arcs of a tail, whose
 -- marks are told of in MemberMarks.
@@ -41,29 +41,29 @@ length-marks t c ms = simp (length-append, length-bits-of, length-mark-bits) (om
 
 -- BY KIND
 module _ (bs : List ℕ) where
-  pub mark-length : kind-in bs ≡ 0 → record-length bs ≡ mark-record-width
+  pub read-mark-length : kind-in bs ≡ 0 → record-length bs ≡ mark-record-width
   unfolding record-length
-  mark-length e = rw e
+  read-mark-length e = rw e
 
-  pub budget-length : kind-in bs ≡ 1 → record-length bs ≡ budget-record-width
+  pub read-budget-length : kind-in bs ≡ 1 → record-length bs ≡ budget-record-width
   unfolding record-length
-  budget-length e = rw e
+  read-budget-length e = rw e
 
-  pub marks-length : kind-in bs ≡ 2 → record-length bs ≡ marks-start + mark-offset (heads-in bs) max-vertices
+  pub read-marks-length : kind-in bs ≡ 2 → record-length bs ≡ marks-start + mark-offset (heads-in bs) max-vertices
   unfolding record-length
-  marks-length e = rw e
+  read-marks-length e = rw e
 
-  pub mark-in : kind-in bs ≡ 0 → replaced-in bs ≡ old-mark (tail-in bs) (field head-start vertex-width bs) (field mark-start mark-width bs)
+  pub read-mark : kind-in bs ≡ 0 → replaced-in bs ≡ old-mark (tail-in bs) (field head-start vertex-width bs) (field mark-start mark-width bs)
   unfolding replaced-in
-  mark-in e = rw e
+  read-mark e = rw e
 
-  pub budget-in : kind-in bs ≡ 1 → replaced-in bs ≡ old-budget (field kind-width budget-width bs)
+  pub read-budget : kind-in bs ≡ 1 → replaced-in bs ≡ old-budget (field kind-width budget-width bs)
   unfolding replaced-in
-  budget-in e = rw e
+  read-budget e = rw e
 
-  pub marks-in : kind-in bs ≡ 2 → replaced-in bs ≡ old-marks (tail-in bs) (heads-in bs) (member-marks (heads-in bs) bs)
+  pub read-marks : kind-in bs ≡ 2 → replaced-in bs ≡ old-marks (tail-in bs) (heads-in bs) (member-marks (heads-in bs) bs)
   unfolding replaced-in
-  marks-in e = rw e
+  read-marks e = rw e
 
   -- what is known of a record that is whole, of a kind that there is
   pub record Whole : Type 0 where
@@ -148,8 +148,8 @@ module _ (t h m : ℕ) (zs : List ℕ) (w : Mark-fits t h m) where
   mark-reads : Reads (old-mark t h m) (record-bits (old-mark t h m) ++ zs) zs
   mark-reads =
       let bs = record-bits (old-mark t h m) ++ zs in
-      reads (old-mark t h m) zs 0 mark-kind (omega arith) (mark-length bs mark-kind ∙ sym (length-mark t h m))
-      (mark-in bs mark-kind ∙ rw (mark-tail, mark-head, mark-mark))
+      reads (old-mark t h m) zs 0 mark-kind (omega arith) (read-mark-length bs mark-kind ∙ sym (length-mark t h m))
+      (read-mark bs mark-kind ∙ rw (mark-tail, mark-head, mark-mark))
 
 module _ (v : ℕ) (zs : List ℕ) (w : v < 2 ^ budget-width) where
   budget-all : record-bits (old-budget v) ++ zs ≡ bits-of kind-width 1 ++ (bits-of budget-width v ++ zs)
@@ -165,7 +165,7 @@ module _ (v : ℕ) (zs : List ℕ) (w : v < 2 ^ budget-width) where
   budget-reads : Reads (old-budget v) (record-bits (old-budget v) ++ zs) zs
   budget-reads =
       let bs = record-bits (old-budget v) ++ zs in
-      reads (old-budget v) zs 1 budget-kind (omega arith) (budget-length bs budget-kind ∙ sym (length-budget v)) (budget-in bs budget-kind ∙ rw budget-budget)
+      reads (old-budget v) zs 1 budget-kind (omega arith) (read-budget-length bs budget-kind ∙ sym (length-budget v)) (read-budget bs budget-kind ∙ rw budget-budget)
 
 module _ (t c : ℕ) (ms zs : List ℕ) (w : Marks-fit t c ms) where
   marks-all : record-bits (old-marks t c ms) ++ zs ≡ front 2 t (bits-of heads-width c ++ (mark-bits max-vertices c ms ++ zs))
@@ -195,8 +195,8 @@ module _ (t c : ℕ) (ms zs : List ℕ) (w : Marks-fit t c ms) where
   marks-reads =
       let bs = record-bits (old-marks t c ms) ++ zs in
       reads (old-marks t c ms) zs 2 marks-kind (omega arith)
-      (marks-length bs marks-kind ∙ rw marks-heads (sym (length-marks t c ms)))
-      (marks-in bs marks-kind ∙ rw (marks-heads, marks-tail, marks-marks))
+      (read-marks-length bs marks-kind ∙ rw marks-heads (sym (length-marks t c ms)))
+      (read-marks bs marks-kind ∙ rw (marks-heads, marks-tail, marks-marks))
 
 pub record-read : (o : Replaced) (zs : List ℕ) → Writable o → Reads o (record-bits o ++ zs) zs
 record-read (old-mark t h m) zs w = mark-reads t h m zs w
@@ -214,30 +214,30 @@ module _ (bs : List ℕ) (e : are-bits bs ≡ true) (l : record-length bs ≤ le
   mark-again : kind-in bs ≡ 0 → record-bits (replaced-in bs) ++ drop (record-length bs) bs ≡ bs
   unfolding record-bits
   mark-again q =
-      let n = mark-length bs q in
+      let n = read-mark-length bs q in
       let a = kind-again 0 q (omega arith) in
       let b = tail-again (omega arith) in
       let c = field-written head-start vertex-width bs e (omega arith) in
       let d = field-written mark-start mark-width bs e (omega arith) in
-      rw (mark-in bs q, n) (simp append-assoc (rw (d, c, b) a))
+      rw (read-mark bs q, n) (simp append-assoc (rw (d, c, b) a))
 
   budget-again : kind-in bs ≡ 1 → record-bits (replaced-in bs) ++ drop (record-length bs) bs ≡ bs
   unfolding record-bits
   budget-again q =
-      let n = budget-length bs q in
+      let n = read-budget-length bs q in
       let a = kind-again 1 q (omega arith) in
       let b = field-written kind-width budget-width bs e (omega arith) in
-      rw (budget-in bs q, n) (simp append-assoc (rw b a))
+      rw (read-budget bs q, n) (simp append-assoc (rw b a))
 
-  group-again : kind-in bs ≡ 2 → record-bits (replaced-in bs) ++ drop (record-length bs) bs ≡ bs
+  arcs-again : kind-in bs ≡ 2 → record-bits (replaced-in bs) ++ drop (record-length bs) bs ≡ bs
   unfolding record-bits
-  group-again q =
-      let n = marks-length bs q in
+  arcs-again q =
+      let n = read-marks-length bs q in
       let a = kind-again 2 q (omega arith) in
       let b = tail-again (omega arith) in
       let c = field-written head-start heads-width bs e (omega arith) in
       let d = marks-again bs e (heads-in bs) max-vertices (omega arith) (omega arith) in
-      rw (marks-in bs q, n) (simp append-assoc (rw (d, c, b) a))
+      rw (read-marks bs q, n) (simp append-assoc (rw (d, c, b) a))
 
 pub record-again : (bs : List ℕ) → are-bits bs ≡ true → form-refusal bs ≡ 0 → record-bits (replaced-in bs) ++ drop (record-length bs) bs ≡ bs
 record-again bs e f = go (kind-in bs) refl (w .known)
@@ -248,5 +248,5 @@ record-again bs e f = go (kind-in bs) refl (w .known)
     go : (k : ℕ) → kind-in bs ≡ k → k < 3 → record-bits (replaced-in bs) ++ drop (record-length bs) bs ≡ bs
     go zero q b = mark-again bs e (w .within) q
     go (suc zero) q b = budget-again bs e (w .within) q
-    go (suc (suc zero)) q b = group-again bs e (w .within) q
+    go (suc (suc zero)) q b = arcs-again bs e (w .within) q
     go (suc (suc (suc k))) q b = absurd (omega arith)

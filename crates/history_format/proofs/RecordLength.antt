@@ -1,4 +1,5 @@
--- How long a record on a card can be: 103 bits, and 101 where it is a record of a valid board or passes. Assumes nothing.
+-- How long a record on a card can be: 103 bits, and 101 where it is a record of a valid board or passes. Assumes
+-- nothing.
 --
 -- The heads of a record that passes are those of arcs from its tail, so the tail is not among them: 31 heads at most,
 -- of two bits each.
