@@ -6,11 +6,11 @@ use mathlib.Core.Bool.{Bool, true, false, cond}
 use mathlib.Core.List.{List, _++_}
 use Prim.Native.Nat.{ℕ, zero, suc, _+_, _*_, _≤_, _<_}
 use native.Mathlib.Omega.{arith}
-use lib.Dec.{ltb, leb, eqb}
+use lib.Dec.{ltb, eqb}
 use lib.ListN.{length, drop, length-append, length-drop}
 use lib.Seq.{drop-append-le}
 use borrow.Author.Tests.{ltb-false, le-ltb, le-leb, ne-eqb}
-use Rattle.base.specs.Lists.{all-of, tabulate}
+use Rattle.base.specs.Lists.{tabulate}
 use Rattle.base.proofs.AllOfLaws.{all-of-drop}
 use Rattle.base.proofs.ListLaws.{length-tabulate, getD-tabulate, tabulate-is}
 use Rattle.bits.specs.Bits.{field, are-bits}
@@ -21,7 +21,7 @@ use Rattle.instance.specs.Cuts.{inside}
 use Rattle.card_format.specs.Widths.{budget-width, mark-width}
 use Rattle.card_format.proofs.CellLaws.{first-passes}
 use Rattle.history_format.specs.RecordWidths.{count-width, kind-width, vertex-width, head-start, mark-start, heads-width, marks-start}
-use Rattle.history_format.specs.RecordBits.{kind-in, tail-in, heads-in, mark-offset, member-marks, record-length, replaced-in, form-refusal, record-refusal}
+use Rattle.history_format.specs.RecordBits.{kind-in, heads-in, mark-offset, member-marks, record-length, replaced-in, form-refusal, record-refusal}
 use Rattle.history_format.specs.HistoryCard.{count-in, end-refusal, records-refusal, behind-refusal}
 use Rattle.history_format.proofs.FirstBits.{field-front}
 use Rattle.history_format.proofs.MemberMarks.{offset-most}
@@ -35,9 +35,9 @@ module _ (ts zs : List ℕ) (long : longest-record ≤ length ts) where
   heads-front : heads-in (ts ++ zs) ≡ heads-in ts
   heads-front = field-front head-start heads-width ts zs (omega arith)
 
-  pub length-front : record-length (ts ++ zs) ≡ record-length ts
+  pub record-length-front : record-length (ts ++ zs) ≡ record-length ts
   unfolding record-length
-  length-front = rw (kind-front, heads-front)
+  record-length-front = rw (kind-front, heads-front)
 
   mark-front : (c h : ℕ) → h < max-vertices → (b : Bool) →
       cond b (field (marks-start + mark-offset c h) mark-width (ts ++ zs)) free ≡ cond b (field (marks-start + mark-offset c h) mark-width ts) free
@@ -69,7 +69,7 @@ module _ (ts zs : List ℕ) (long : longest-record ≤ length ts) where
   form-front =
       let most = length-known ts in
       let longer : record-length ts ≤ length (ts ++ zs) = omega (arith, length-append ts zs) in
-      rw (length-front, kind-front, le-ltb (length (ts ++ zs)) (record-length ts) longer, le-ltb (length ts) (record-length ts) (omega arith))
+      rw (record-length-front, kind-front, le-ltb (length (ts ++ zs)) (record-length ts) longer, le-ltb (length ts) (record-length ts) (omega arith))
 
   pub record-front : (s : Instance) → record-refusal s (ts ++ zs) ≡ record-refusal s ts
   unfolding record-refusal
@@ -103,7 +103,7 @@ module _ (s : Instance) (few : s .n ≤ max-vertices) where
   unfolding records-refusal
   records-front zero ts zs b h = rw (left-over ts (omega arith)) (left-over (ts ++ zs) (rw (length-append ts zs) (omega arith)))
   records-front (suc k) ts zs b h =
-      rw (record-front ts zs (omega arith) s, length-front ts zs (omega arith))
+      rw (record-front ts zs (omega arith) s, record-length-front ts zs (omega arith))
       (first-alike (record-refusal s ts) _ _
       (λ e. let r = room-left k ts b h e in
       rw (drop-append-le (record-length ts) ts zs (r .0))

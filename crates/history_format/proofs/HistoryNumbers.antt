@@ -1,7 +1,7 @@
 -- A history card is refused by 1 to 5, 7, 8 or 27 and by no other number, so 6 is retired there too; opening a card of
 -- either kind answers one of these, and a move to an old card 28 besides. Nothing is asked of the card: its numbers
 -- need not be bytes. Assumes nothing.
-use mathlib.Core.Path.{_≡_, refl, ap, sym, _∙_}
+use mathlib.Core.Path.{_≡_, refl, sym, _∙_}
 use mathlib.Core.Bool.{Bool, true, false, _||_, not, cond, true≢false}
 use mathlib.Core.List.{List, [], _∷_}
 use mathlib.Core.Logic.{⊎-elim}

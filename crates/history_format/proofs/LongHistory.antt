@@ -2,8 +2,9 @@
 -- alike, so the first bytes of a long input answer for all of it. Assumes nothing.
 --
 -- The bits of the first bytes are followed by those of the others. Header and cells lie within the first bits, which
--- are 41,400: they are read alike, and so is the count. Behind it there are 20,208 bits, which is what 200 records can
--- take and a byte: so the records are judged alike, and where they pass, whole bytes remain on either side.
+-- are 41,400 at least: they are read alike, and so is the count. Behind it there are 20,208 bits at least, which is what
+-- 200 records can take and a byte: so the records are judged alike, and where they pass, whole bytes remain on either
+-- side.
 use mathlib.Core.Path.{_≡_, refl, sym, ap, _∙_}
 use mathlib.Core.Bool.{Bool, true, false, _||_, not, cond}
 use mathlib.Core.List.{List, _++_}
@@ -11,20 +12,19 @@ use mathlib.Core.Logic.{⊎-elim}
 use Prim.Native.Nat.{ℕ, suc, _+_, _*_, _-_, _≤_, _<_}
 use native.Mathlib.Omega.{arith}
 use native.Mathlib.Nat.{mul-le-mul}
-use lib.Dec.{ltb, leb, eqb}
+use lib.Dec.{ltb, eqb}
 use lib.ListN.{length, take, drop, length-append, length-take, length-drop, take-append-drop}
 use lib.Seq.{drop-append-le}
 use borrow.Author.Tests.{ltb-false, le-ltb}
-use Rattle.base.specs.Lists.{all-of}
 use Rattle.base.proofs.BoolLaws.{or-false-right, test}
 use Rattle.base.proofs.AllOfLaws.{all-of-drop}
 use Rattle.bits.specs.Bits.{bits-in, are-bits}
 use Rattle.bits.proofs.ByteLaws.{length-bits-in, bits-in-append}
-use Rattle.instance.specs.Limits.{max-vertices, max-budget, max-records}
+use Rattle.instance.specs.Limits.{max-vertices, max-records}
 use Rattle.instance.specs.Refusals.{bad-count, bad-length}
 use Rattle.instance.specs.Instance.{Instance}
 use Rattle.card_format.specs.Widths.{n-width, root-width, budget-width}
-use Rattle.card_format.specs.Card.{n-in, root-in, budget-in, bits-needed, min-card, instance-from, cells-refusal, card-refusal}
+use Rattle.card_format.specs.Card.{n-in, bits-needed, min-card, instance-from, cells-refusal}
 use Rattle.card_format.proofs.TooLong.{too-long-refused as old-refused, too-long-by-part as old-by-part}
 use Rattle.history_format.specs.RecordWidths.{marker-width, count-width}
 use Rattle.history_format.specs.HistoryCard.{is-history, old-bits, behind-cells, count-in, max-history-card, behind-refusal, history-header-refusal, history-refusal, open-refusal}

@@ -1,12 +1,10 @@
 -- "An old console refuses every new card by 2": the six bits 63 stand where an old card has its positions. The other
 -- way round, what does not begin with them is no history card, and is refused by 2 as one. Under five bytes both kinds
 -- are refused by 1. Assumes nothing.
-use mathlib.Core.Path.{_≡_, refl, ap}
-use mathlib.Core.Bool.{Bool, true, false, not, cond}
+use mathlib.Core.Path.{_≡_, refl}
+use mathlib.Core.Bool.{Bool, true, false, cond}
 use mathlib.Core.List.{List}
 use Prim.Native.Nat.{ℕ, _≤_, _<_}
-use native.Mathlib.Omega.{arith}
-use lib.Dec.{eqb}
 use lib.ListN.{length}
 use borrow.Author.Tests.{eqb-true, lt-ltb, le-ltb}
 use Rattle.bits.specs.Bits.{bits-in}

@@ -4,7 +4,7 @@
 use mathlib.Core.Path.{_≡_, refl}
 use mathlib.Core.List.{List, [], _∷_, map}
 use Prim.Native.Nat.{ℕ}
-use Rattle.base.specs.Bounded.{sum-below, count-below, any-below, all-below}
+use Rattle.base.specs.Bounded.{sum-below, count-below}
 use Rattle.base.specs.Lists.{all-of, tabulate, tabulate-from}
 use Rattle.bits.specs.Bits.{bits-of, bits-in, number-from, field, packed}
 use Rattle.instance.specs.Limits.{pinned}
@@ -15,11 +15,12 @@ use Rattle.card_format.specs.Card.{on-card, bits-needed, bytes-needed, cell-fie
 use Rattle.card_format.proofs.WorkedCards.{p9, p9-card}
 use Rattle.card_format.proofs.WorkedRefusals.{Card}
 use Rattle.commands.specs.Model.{old-mark, old-budget, Model, opened}
-use Rattle.commands.specs.Valid.{head-ok, record-ok}
-use Rattle.history_format.specs.RecordBits.{member-marks, record-length, replaced-in, form-refusal, record-refusal, mark-bits, record-bits}
-use Rattle.history_format.specs.HistoryCard.{is-history, history-in, history-model, end-refusal, records-refusal, behind-refusal, history-header-refusal, history-refusal, open-refusal, model-in, plain-refusal, records-bits, history-bits, history-bytes, history-card-of}
+use Rattle.commands.specs.Valid.{record-ok}
+use Rattle.history_format.specs.RecordBits.{member-marks, record-length, replaced-in, form-refusal, record-refusal, record-bits}
+use Rattle.history_format.specs.HistoryCard.{is-history, history-in, history-model, end-refusal, records-refusal, behind-refusal, history-header-refusal, history-refusal, open-refusal, plain-refusal, records-bits, history-bits, history-bytes, history-card-of}
 
--- ONE CARD: P9, where the budget was 7 before, and then the link 0→1 was pinned. The history has the latest first.
+-- ONE CARD: P9, whose budget was 7 until it was set, and whose link 0→1 was pinned until it was cleared after that. The
+-- history has the latest first.
 unfoldable pub p9-model : Model
 p9-model = record { instance = p9; history = old-mark 0 1 pinned ∷ old-budget 7 ∷ [] }
 
@@ -97,14 +98,14 @@ history-cards =
     ∷ card bad-record (0xfc ∷ 0x10 ∷ 0x00 ∷ 0x00 ∷ 0x00 ∷ 0x3f ∷ 0xc0 ∷ [])
     ∷ card bad-record (0xfc ∷ 0x10 ∷ 0x00 ∷ 0x00 ∷ 0x00 ∷ 0x32 ∷ 0x40 ∷ 0x00 ∷ [])
     ∷ card bad-length (0xfc ∷ 0x10 ∷ 0x00 ∷ 0x00 ∷ 0x00 ∷ 0x32 ∷ 0x00 ∷ [])
-    -- "3 where it runs past the end": the record of a link and that of a budget, whole and a byte shorter; no second one
+    -- "3 where it runs past the end": the record of a link and that of a budget, whole and a byte shorter; one of two
     ∷ card 0 (0xfc ∷ 0x20 ∷ 0x00 ∷ 0x00 ∷ 0x01 ∷ 0x40 ∷ 0x00 ∷ 0x14 ∷ 0x01 ∷ 0x00 ∷ 0x14 ∷ [])
     ∷ card bad-length (0xfc ∷ 0x20 ∷ 0x00 ∷ 0x00 ∷ 0x01 ∷ 0x40 ∷ 0x00 ∷ 0x14 ∷ 0x01 ∷ 0x00 ∷ [])
     ∷ card 0 (0xfc ∷ 0x20 ∷ 0x00 ∷ 0x00 ∷ 0x01 ∷ 0x40 ∷ 0x00 ∷ 0x14 ∷ 0x01 ∷ 0x40 ∷ 0x00 ∷ 0x00 ∷ 0xe0 ∷ [])
     ∷ card bad-length (0xfc ∷ 0x20 ∷ 0x00 ∷ 0x00 ∷ 0x01 ∷ 0x40 ∷ 0x00 ∷ 0x14 ∷ 0x01 ∷ 0x40 ∷ 0x00 ∷ 0x00 ∷ [])
     ∷ card bad-length (0xfc ∷ 0x20 ∷ 0x00 ∷ 0x00 ∷ 0x01 ∷ 0x40 ∷ 0x00 ∷ 0x14 ∷ 0x02 ∷ 0x40 ∷ 0x00 ∷ 0x00 ∷ 0xe0 ∷ [])
-    -- "each whole record in turn": the link 1→0, which there is none, before a second record that runs past the end, and
-    -- before whole bytes that remain; mark 3 behind a budget that passes; "kind 3 (two bits long)"
+    -- "each whole record in turn": 1→0, which is no link, before a second record that runs past the end, and before
+    -- whole bytes that remain; mark 3 behind a budget that passes; "kind 3 (two bits long)"
     ∷ card bad-record (0xfc ∷ 0x20 ∷ 0x00 ∷ 0x00 ∷ 0x01 ∷ 0x40 ∷ 0x00 ∷ 0x14 ∷ 0x02 ∷ 0x02 ∷ 0x00 ∷ [])
     ∷ card bad-record (0xfc ∷ 0x20 ∷ 0x00 ∷ 0x00 ∷ 0x01 ∷ 0x40 ∷ 0x00 ∷ 0x14 ∷ 0x01 ∷ 0x02 ∷ 0x00 ∷ 0x00 ∷ [])
     ∷ card bad-record (0xfc ∷ 0x20 ∷ 0x00 ∷ 0x00 ∷ 0x01 ∷ 0x40 ∷ 0x00 ∷ 0x14 ∷ 0x02 ∷ 0x40 ∷ 0x00 ∷ 0x00 ∷ 0xe0 ∷ 0x03 ∷ 0x80 ∷ [])
@@ -142,20 +143,21 @@ unfolding
     bits-in bits-of field number-from bits-needed all-of count-below sum-below inside
 p9-both-open = refl
 
--- "new to old only without records": no record; an old card; two records; and these with a faulty one and with a
--- filling bit, as 28 comes "after these"
-pub moves :
-    map plain-refusal (
-      (0xfc ∷ 0x20 ∷ 0x00 ∷ 0x00 ∷ 0x01 ∷ 0x40 ∷ 0x00 ∷ 0x14 ∷ 0x00 ∷ [])
-      ∷ p9-card
-      ∷ p9-history-card
-      ∷ (0xfc ∷ 0x20 ∷ 0x00 ∷ 0x00 ∷ 0x01 ∷ 0x40 ∷ 0x00 ∷ 0x14 ∷ 0x02 ∷ 0x40 ∷ 0x00 ∷ 0x00 ∷ 0xe0 ∷ 0x03 ∷ 0x80 ∷ [])
-      ∷ (0xfc ∷ 0x20 ∷ 0x00 ∷ 0x00 ∷ 0x01 ∷ 0x40 ∷ 0x00 ∷ 0x14 ∷ 0x02 ∷ 0x40 ∷ 0x00 ∷ 0x00 ∷ 0xe0 ∷ 0x02 ∷ 0x81 ∷ [])
-      ∷ []
-    )
-    ≡ (0 ∷ bad-count ∷ has-records ∷ bad-record ∷ bad-filling ∷ [])
+-- MOVES to an old card, 0 for one that is made: "new to old only without records"
+unfoldable pub moved-cards : List Card
+moved-cards =
+    -- no record; an old card; two records
+    card 0 (0xfc ∷ 0x20 ∷ 0x00 ∷ 0x00 ∷ 0x01 ∷ 0x40 ∷ 0x00 ∷ 0x14 ∷ 0x00 ∷ [])
+    ∷ card bad-count p9-card
+    ∷ card has-records p9-history-card
+    -- "after these, 28": two records with a faulty one, and with a filling bit
+    ∷ card bad-record (0xfc ∷ 0x20 ∷ 0x00 ∷ 0x00 ∷ 0x01 ∷ 0x40 ∷ 0x00 ∷ 0x14 ∷ 0x02 ∷ 0x40 ∷ 0x00 ∷ 0x00 ∷ 0xe0 ∷ 0x03 ∷ 0x80 ∷ [])
+    ∷ card bad-filling (0xfc ∷ 0x20 ∷ 0x00 ∷ 0x00 ∷ 0x01 ∷ 0x40 ∷ 0x00 ∷ 0x14 ∷ 0x02 ∷ 0x40 ∷ 0x00 ∷ 0x00 ∷ 0xe0 ∷ 0x02 ∷ 0x81 ∷ [])
+    ∷ []
+
+pub moves : map (λ c. plain-refusal (c .bytes)) moved-cards ≡ map (λ c. c .answer) moved-cards
 unfolding
-    plain-refusal history-model history-in history-refusal history-header-refusal is-history behind-refusal records-refusal end-refusal record-refusal
-    form-refusal record-length replaced-in record-ok is-arc weight cells-refusal cell-refusal cell-fields on-card can-be-arc bits-in bits-of field
-    number-from bits-needed all-of count-below sum-below inside
+    moved-cards plain-refusal history-model history-in history-refusal history-header-refusal is-history behind-refusal records-refusal end-refusal
+    record-refusal form-refusal record-length replaced-in record-ok is-arc weight cells-refusal cell-refusal cell-fields on-card can-be-arc bits-in bits-of
+    field number-from bits-needed all-of count-below sum-below inside
 moves = refl

@@ -1,39 +1,41 @@
+-- `read_budget_record` meets its contract: the laws of its kind. Assumes nothing.
+use mathlib.Core.Path.{_∙_, sym}
+use native.Mathlib.Omega.{arith}
+use borrow.Author.Tests.{ltb-false}
+use Rattle.history_format.specs.RecordWidths.{budget-record-width}
+use Rattle.history_format.proofs.RecordLaws.{read-budget-length}
+use Rattle.history_card.proofs.RecordReadLaws.{past-read, budget-read}
 use borrow.Author.Needs.{needs}
 use Rattle.history_card.proofs.record.read_budget_record.Statement.{statement}
 use Rattle.history_card.proofs.record.read_budget_record.Tie as tie
-use Rattle.history_card.proofs.record.read_budget_record.Reads as reads
-use Rattle.history_card.proofs.record.read_budget_record.Lts as lts
-use Rattle.bits.proofs.read_bits.Reads as read-bits-reads
-use Rattle.history_card.proofs.record.no_record.Reads as no-record-reads
-use Rattle.history_card.proofs.record.runs_past.Reads as runs-past-reads
 
--- src/record.rt:83:16
 add-next : tie.Need-add-next
 add-next c = search needs
 
--- src/record.rt:84:8
 runs-past-requires : tie.Need-runs-past-requires
 runs-past-requires c κs = search needs
 
--- src/record.rt:85:9
 no-record-requires : tie.Need-no-record-requires
 no-record-requires c κs = search needs
 
--- src/record.rt:85:9
 returns : tie.Need-returns
-returns c = ?
+returns c =
+    let s = @Start in
+    rw (@After-no-record .no-record .ensures)
+    (past-read (s .args .card .now) (s .args .at) budget-record-width (omega arith) (omega (arith, read-budget-length _ (s .pre .0)))
+    (sym (@After-runs-past .runs-past .ensures) ∙ @Then1 .if1 .taken))
 
--- src/record.rt:87:40
 add-read-bits : tie.Need-add-read-bits
 add-read-bits c = search needs
 
--- src/record.rt:87:9
 read-bits-requires : tie.Need-read-bits-requires
-read-bits-requires c κs = ?
+read-bits-requires c κs = omega (arith, ltb-false _ _ (sym (@After-runs-past .runs-past .ensures) ∙ @Else1 .if1 .left))
 
--- src/record.rt:79:1
 returns-2 : tie.Need-returns-2
-returns-2 c = ?
+returns-2 c =
+    let s = @Start in
+    rw (@After-read-bits .read-bits .ensures)
+    (budget-read (s .args .card .now) (s .args .at) (s .pre .0) (sym (@After-runs-past .runs-past .ensures) ∙ @Else1 .if1 .left))
 
 pub read-budget-record-spec : {M : Type 1} → statement M
 read-budget-record-spec =

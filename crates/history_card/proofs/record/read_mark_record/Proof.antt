@@ -1,67 +1,73 @@
+-- `read_mark_record` meets its contract: the laws of its kind. Assumes nothing.
+use mathlib.Core.Path.{_∙_, sym}
+use Prim.Native.Nat.{_+_}
+use native.Mathlib.Omega.{arith}
+use borrow.Author.Tests.{ltb-false}
+use Rattle.bits.specs.Bits.{bits-in}
+use Rattle.bits.proofs.ByteLaws.{bits-in-are-bits}
+use Rattle.bits.proofs.FieldLaws.{field-below}
+use Rattle.card_format.specs.Widths.{mark-width}
+use Rattle.history_format.specs.RecordWidths.{kind-width, vertex-width, head-start, mark-start, mark-record-width}
+use Rattle.history_format.proofs.RecordLaws.{read-mark-length}
+use Rattle.history_card.proofs.RecordReadLaws.{past-read, mark-read}
 use borrow.Author.Needs.{needs}
 use Rattle.history_card.proofs.record.read_mark_record.Statement.{statement}
 use Rattle.history_card.proofs.record.read_mark_record.Tie as tie
-use Rattle.history_card.proofs.record.read_mark_record.Reads as reads
-use Rattle.history_card.proofs.record.read_mark_record.Lts as lts
-use Rattle.bits.proofs.read_bits.Reads as read-bits-reads
-use Rattle.history_card.proofs.record.no_record.Reads as no-record-reads
-use Rattle.history_card.proofs.record.runs_past.Reads as runs-past-reads
 
--- src/record.rt:64:16
 add-next : tie.Need-add-next
 add-next c = search needs
 
--- src/record.rt:65:8
 runs-past-requires : tie.Need-runs-past-requires
 runs-past-requires c κs = search needs
 
--- src/record.rt:66:9
 no-record-requires : tie.Need-no-record-requires
 no-record-requires c κs = search needs
 
--- src/record.rt:66:9
 returns : tie.Need-returns
-returns c = ?
+returns c =
+    let s = @Start in
+    rw (@After-no-record .no-record .ensures)
+    (past-read (s .args .card .now) (s .args .at) mark-record-width (omega arith) (omega (arith, read-mark-length _ (s .pre .0)))
+    (sym (@After-runs-past .runs-past .ensures) ∙ @Then1 .if1 .taken))
 
--- src/record.rt:68:38
 add-read-bits : tie.Need-add-read-bits
 add-read-bits c = search needs
 
--- src/record.rt:68:9
 read-bits-requires : tie.Need-read-bits-requires
-read-bits-requires c κs = ?
+read-bits-requires c κs = omega (arith, ltb-false _ _ (sym (@After-runs-past .runs-past .ensures) ∙ @Else1 .if1 .left))
 
--- src/record.rt:69:38
 add-read-bits-2 : tie.Need-add-read-bits-2
 add-read-bits-2 c = search needs
 
--- src/record.rt:69:9
 read-bits-requires-2 : tie.Need-read-bits-requires-2
-read-bits-requires-2 c κs = ?
+read-bits-requires-2 c κs = omega (arith, ltb-false _ _ (sym (@After-runs-past .runs-past .ensures) ∙ @Else1 .if1 .left))
 
--- src/record.rt:70:38
 add-read-bits-3 : tie.Need-add-read-bits-3
 add-read-bits-3 c = search needs
 
--- src/record.rt:70:9
 read-bits-requires-3 : tie.Need-read-bits-requires-3
-read-bits-requires-3 c κs = ?
+read-bits-requires-3 c κs = omega (arith, ltb-false _ _ (sym (@After-runs-past .runs-past .ensures) ∙ @Else1 .if1 .left))
 
--- src/record.rt:73:37
 cast-t9 : tie.Need-cast-t9
-cast-t9 c = ?
+cast-t9 c =
+    let a = @Start .args in
+    omega (arith, @After-read-bits .read-bits .ensures, field-below (a .at + kind-width) vertex-width (bits-in (a .card .now)) (bits-in-are-bits (a .card .now)))
 
--- src/record.rt:73:49
 cast-t10 : tie.Need-cast-t10
-cast-t10 c = ?
+cast-t10 c =
+    let a = @Start .args in
+    omega (arith, @After-read-bits2 .read-bits2 .ensures, field-below (a .at + head-start) vertex-width (bits-in (a .card .now)) (bits-in-are-bits (a .card .now)))
 
--- src/record.rt:73:61
 cast-t11 : tie.Need-cast-t11
-cast-t11 c = ?
+cast-t11 c =
+    let a = @Start .args in
+    omega (arith, @After-read-bits3 .read-bits3 .ensures, field-below (a .at + mark-start) mark-width (bits-in (a .card .now)) (bits-in-are-bits (a .card .now)))
 
--- src/record.rt:60:1
 returns-2 : tie.Need-returns-2
-returns-2 c = ?
+returns-2 c =
+    let s = @Start in
+    rw (@After-read-bits .read-bits .ensures, @After-read-bits2 .read-bits2 .ensures, @After-read-bits3 .read-bits3 .ensures)
+    (mark-read (s .args .card .now) (s .args .at) (s .pre .0) (sym (@After-runs-past .runs-past .ensures) ∙ @Else1 .if1 .left))
 
 pub read-mark-record-spec : {M : Type 1} → statement M
 read-mark-record-spec =

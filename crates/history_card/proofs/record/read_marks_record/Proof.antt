@@ -1,77 +1,88 @@
+-- `read_marks_record` meets its contract: the laws of its kind. Assumes nothing.
+use mathlib.Core.Path.{_∙_, sym}
+use Prim.Native.Nat.{_+_}
+use native.Mathlib.Omega.{arith}
+use borrow.Author.Tests.{ltb-false}
+use Rattle.bits.specs.Bits.{bits-in}
+use Rattle.bits.proofs.ByteLaws.{bits-in-are-bits}
+use Rattle.bits.proofs.FieldLaws.{field-below}
+use Rattle.instance.specs.Limits.{max-vertices}
+use Rattle.history_format.specs.RecordWidths.{kind-width, vertex-width, marks-start}
+use Rattle.history_format.specs.RecordBits.{mark-offset}
+use Rattle.history_format.proofs.MemberMarks.{offset-most}
+use Rattle.history_format.proofs.RecordLaws.{read-marks-length}
+use Rattle.history_card.proofs.RecordReadLaws.{past-read, marks-long, marks-read}
 use borrow.Author.Needs.{needs}
 use Rattle.history_card.proofs.record.read_marks_record.Statement.{statement}
 use Rattle.history_card.proofs.record.read_marks_record.Tie as tie
-use Rattle.history_card.proofs.record.read_marks_record.Reads as reads
-use Rattle.history_card.proofs.record.read_marks_record.Lts as lts
-use Rattle.bits.proofs.read_bits.Reads as read-bits-reads
-use Rattle.history_card.proofs.marks.marks_width.Reads as marks-width-reads
-use Rattle.history_card.proofs.marks.read_marks.Reads as read-marks-reads
-use Rattle.history_card.proofs.record.no_record.Reads as no-record-reads
-use Rattle.history_card.proofs.record.runs_past.Reads as runs-past-reads
 
--- src/record.rt:100:17
 add-start : tie.Need-add-start
 add-start c = search needs
 
--- src/record.rt:101:8
 runs-past-requires : tie.Need-runs-past-requires
 runs-past-requires c κs = search needs
 
--- src/record.rt:102:9
 no-record-requires : tie.Need-no-record-requires
 no-record-requires c κs = search needs
 
--- src/record.rt:102:9
 returns : tie.Need-returns
-returns c = ?
+returns c =
+    let s = @Start in
+    rw (@After-no-record .no-record .ensures)
+    (past-read (s .args .card .now) (s .args .at) marks-start (omega arith) (omega (arith, read-marks-length _ (s .pre .0)))
+    (sym (@After-runs-past .runs-past .ensures) ∙ @Then1 .if1 .taken))
 
--- src/record.rt:104:39
 add-read-bits : tie.Need-add-read-bits
 add-read-bits c = search needs
 
--- src/record.rt:104:9
 read-bits-requires : tie.Need-read-bits-requires
-read-bits-requires c κs = ?
+read-bits-requires c κs = omega (arith, ltb-false _ _ (sym (@After-runs-past .runs-past .ensures) ∙ @Else1 .if1 .left))
 
--- src/record.rt:105:24
 marks-width-requires : tie.Need-marks-width-requires
 marks-width-requires c κs = search needs
 
--- src/record.rt:105:16
 add-next : tie.Need-add-next
-add-next c = ?
+add-next c = omega (arith, @After-marks-width .marks-width .ensures, offset-most (@After-read-bits .read-bits .result) max-vertices)
 
--- src/record.rt:106:8
 runs-past-requires-2 : tie.Need-runs-past-requires-2
-runs-past-requires-2 c κs = ?
+runs-past-requires-2 c κs = omega (arith, @After-marks-width .marks-width .ensures, offset-most (@After-read-bits .read-bits .result) max-vertices)
 
--- src/record.rt:107:9
 no-record-requires-2 : tie.Need-no-record-requires-2
 no-record-requires-2 c κs = search needs
 
--- src/record.rt:107:9
 returns-2 : tie.Need-returns-2
-returns-2 c = ?
+returns-2 c =
+    let s = @Start in
+    let a = s .args in
+    let heads = @After-read-bits .read-bits .result in
+    let w = @After-marks-width .marks-width .ensures in
+    let e : a .at + marks-start + @After-marks-width .marks-width .result ≡ a .at + (marks-start + mark-offset heads max-vertices) = omega arith in
+    rw (@After-no-record2 .no-record2 .ensures)
+    (past-read (a .card .now) (a .at) (marks-start + mark-offset heads max-vertices) (omega arith)
+    (omega (arith, marks-long (a .card .now) (a .at) (s .pre .0) heads (@After-read-bits .read-bits .ensures)))
+    (rw e at (sym (@After-runs-past2 .runs-past2 .ensures) ∙ @Then2 .if2 .taken)))
 
--- src/record.rt:109:38
 add-read-bits-2 : tie.Need-add-read-bits-2
 add-read-bits-2 c = search needs
 
--- src/record.rt:109:9
 read-bits-requires-2 : tie.Need-read-bits-requires-2
-read-bits-requires-2 c κs = ?
+read-bits-requires-2 c κs = omega (arith, ltb-false _ _ (sym (@After-runs-past .runs-past .ensures) ∙ @Else1 .if1 .left))
 
--- src/record.rt:110:9
 read-marks-requires : tie.Need-read-marks-requires
-read-marks-requires c κs = ?
+read-marks-requires c κs = omega (arith, @After-marks-width .marks-width .ensures, ltb-false _ _ (sym (@After-runs-past2 .runs-past2 .ensures) ∙ @Else2 .if2 .left))
 
--- src/record.rt:113:38
 cast-t11 : tie.Need-cast-t11
-cast-t11 c = ?
+cast-t11 c =
+    let a = @Start .args in
+    omega (arith, @After-read-bits2 .read-bits2 .ensures, field-below (a .at + kind-width) vertex-width (bits-in (a .card .now)) (bits-in-are-bits (a .card .now)))
 
--- src/record.rt:96:1
 returns-3 : tie.Need-returns-3
-returns-3 c = ?
+returns-3 c =
+    let s = @Start in
+    let a = s .args in
+    rw (@After-read-bits2 .read-bits2 .ensures, @After-marks-width .marks-width .ensures)
+    (marks-read (a .card .now) (a .at) (s .pre .0) _ (@After-read-bits .read-bits .ensures) _ (@After-read-marks .read-marks .ensures)
+    (rw (@After-marks-width .marks-width .ensures) at (sym (@After-runs-past2 .runs-past2 .ensures) ∙ @Else2 .if2 .left)))
 
 pub read-marks-record-spec : {M : Type 1} → statement M
 read-marks-record-spec =
