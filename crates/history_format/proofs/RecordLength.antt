@@ -41,6 +41,17 @@ length-known bs =
     cond-most (eqb (kind-in bs) 0) mark-record-width _ longest-record (omega arith)
     (cond-most (eqb (kind-in bs) 1) budget-record-width _ longest-record (omega arith) (cond-most (eqb (kind-in bs) 2) _ kind-width longest-record m (omega arith)))
 
+pub length-least : (bs : List ℕ) → kind-width ≤ record-length bs
+unfolding record-length
+length-least bs =
+    least (eqb (kind-in bs) 0) mark-record-width _ (omega arith)
+    (least (eqb (kind-in bs) 1) budget-record-width _ (omega arith)
+    (least (eqb (kind-in bs) 2) (marks-start + mark-offset (heads-in bs) max-vertices) kind-width (omega arith) (omega arith)))
+  where
+    least : (b : Bool) (x y : ℕ) → kind-width ≤ x → kind-width ≤ y → kind-width ≤ cond b x y
+    least true x y p q = p
+    least false x y p q = q
+
 -- of a record that passes
 abbrev pub longest-valid : ℕ
 longest-valid = 101

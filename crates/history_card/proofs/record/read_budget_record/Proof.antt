@@ -20,22 +20,22 @@ no-record-requires c κs = search needs
 
 returns : tie.Need-returns
 returns c =
-    let s = @Start in
-    rw (@After-no-record .no-record .ensures)
+    let s = c .before .before .before .before in
+    rw (c .no-record .ensures)
     (past-read (s .args .card .now) (s .args .at) budget-record-width (omega arith) (omega (arith, read-budget-length _ (s .pre .0)))
-    (sym (@After-runs-past .runs-past .ensures) ∙ @Then1 .if1 .taken))
+    (sym (c .before .before .runs-past .ensures) ∙ c .before .if1 .taken))
 
 add-read-bits : tie.Need-add-read-bits
 add-read-bits c = search needs
 
 read-bits-requires : tie.Need-read-bits-requires
-read-bits-requires c κs = omega (arith, ltb-false _ _ (sym (@After-runs-past .runs-past .ensures) ∙ @Else1 .if1 .left))
+read-bits-requires c κs = omega (arith, ltb-false _ _ (sym (c .before .runs-past .ensures) ∙ c .if1 .left))
 
 returns-2 : tie.Need-returns-2
 returns-2 c =
-    let s = @Start in
-    rw (@After-read-bits .read-bits .ensures)
-    (budget-read (s .args .card .now) (s .args .at) (s .pre .0) (sym (@After-runs-past .runs-past .ensures) ∙ @Else1 .if1 .left))
+    let s = c .before .before .before .before in
+    rw (c .read-bits .ensures)
+    (budget-read (s .args .card .now) (s .args .at) (s .pre .0) (sym (c .before .before .runs-past .ensures) ∙ c .before .if1 .left))
 
 pub read-budget-record-spec : {M : Type 1} → statement M
 read-budget-record-spec =

@@ -25,49 +25,49 @@ no-record-requires c κs = search needs
 
 returns : tie.Need-returns
 returns c =
-    let s = @Start in
-    rw (@After-no-record .no-record .ensures)
+    let s = c .before .before .before .before in
+    rw (c .no-record .ensures)
     (past-read (s .args .card .now) (s .args .at) mark-record-width (omega arith) (omega (arith, read-mark-length _ (s .pre .0)))
-    (sym (@After-runs-past .runs-past .ensures) ∙ @Then1 .if1 .taken))
+    (sym (c .before .before .runs-past .ensures) ∙ c .before .if1 .taken))
 
 add-read-bits : tie.Need-add-read-bits
 add-read-bits c = search needs
 
 read-bits-requires : tie.Need-read-bits-requires
-read-bits-requires c κs = omega (arith, ltb-false _ _ (sym (@After-runs-past .runs-past .ensures) ∙ @Else1 .if1 .left))
+read-bits-requires c κs = omega (arith, ltb-false _ _ (sym (c .before .runs-past .ensures) ∙ c .if1 .left))
 
 add-read-bits-2 : tie.Need-add-read-bits-2
 add-read-bits-2 c = search needs
 
 read-bits-requires-2 : tie.Need-read-bits-requires-2
-read-bits-requires-2 c κs = omega (arith, ltb-false _ _ (sym (@After-runs-past .runs-past .ensures) ∙ @Else1 .if1 .left))
+read-bits-requires-2 c κs = omega (arith, ltb-false _ _ (sym (c .before .before .runs-past .ensures) ∙ c .before .if1 .left))
 
 add-read-bits-3 : tie.Need-add-read-bits-3
 add-read-bits-3 c = search needs
 
 read-bits-requires-3 : tie.Need-read-bits-requires-3
-read-bits-requires-3 c κs = omega (arith, ltb-false _ _ (sym (@After-runs-past .runs-past .ensures) ∙ @Else1 .if1 .left))
+read-bits-requires-3 c κs = omega (arith, ltb-false _ _ (sym (c .before .before .before .runs-past .ensures) ∙ c .before .before .if1 .left))
 
 cast-t9 : tie.Need-cast-t9
 cast-t9 c =
-    let a = @Start .args in
-    omega (arith, @After-read-bits .read-bits .ensures, field-below (a .at + kind-width) vertex-width (bits-in (a .card .now)) (bits-in-are-bits (a .card .now)))
+    let a = c .before .before .before .before .before .before .args in
+    omega (arith, c .before .before .read-bits .ensures, field-below (a .at + kind-width) vertex-width (bits-in (a .card .now)) (bits-in-are-bits (a .card .now)))
 
 cast-t10 : tie.Need-cast-t10
 cast-t10 c =
-    let a = @Start .args in
-    omega (arith, @After-read-bits2 .read-bits2 .ensures, field-below (a .at + head-start) vertex-width (bits-in (a .card .now)) (bits-in-are-bits (a .card .now)))
+    let a = c .before .before .before .before .before .before .args in
+    omega (arith, c .before .read-bits2 .ensures, field-below (a .at + head-start) vertex-width (bits-in (a .card .now)) (bits-in-are-bits (a .card .now)))
 
 cast-t11 : tie.Need-cast-t11
 cast-t11 c =
-    let a = @Start .args in
-    omega (arith, @After-read-bits3 .read-bits3 .ensures, field-below (a .at + mark-start) mark-width (bits-in (a .card .now)) (bits-in-are-bits (a .card .now)))
+    let a = c .before .before .before .before .before .before .args in
+    omega (arith, c .read-bits3 .ensures, field-below (a .at + mark-start) mark-width (bits-in (a .card .now)) (bits-in-are-bits (a .card .now)))
 
 returns-2 : tie.Need-returns-2
 returns-2 c =
-    let s = @Start in
-    rw (@After-read-bits .read-bits .ensures, @After-read-bits2 .read-bits2 .ensures, @After-read-bits3 .read-bits3 .ensures)
-    (mark-read (s .args .card .now) (s .args .at) (s .pre .0) (sym (@After-runs-past .runs-past .ensures) ∙ @Else1 .if1 .left))
+    let s = c .before .before .before .before .before .before in
+    rw (c .before .before .read-bits .ensures, c .before .read-bits2 .ensures, c .read-bits3 .ensures)
+    (mark-read (s .args .card .now) (s .args .at) (s .pre .0) (sym (c .before .before .before .before .runs-past .ensures) ∙ c .before .before .before .if1 .left))
 
 pub read-mark-record-spec : {M : Type 1} → statement M
 read-mark-record-spec =

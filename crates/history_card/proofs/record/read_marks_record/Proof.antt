@@ -27,62 +27,62 @@ no-record-requires c κs = search needs
 
 returns : tie.Need-returns
 returns c =
-    let s = @Start in
-    rw (@After-no-record .no-record .ensures)
+    let s = c .before .before .before .before in
+    rw (c .no-record .ensures)
     (past-read (s .args .card .now) (s .args .at) marks-start (omega arith) (omega (arith, read-marks-length _ (s .pre .0)))
-    (sym (@After-runs-past .runs-past .ensures) ∙ @Then1 .if1 .taken))
+    (sym (c .before .before .runs-past .ensures) ∙ c .before .if1 .taken))
 
 add-read-bits : tie.Need-add-read-bits
 add-read-bits c = search needs
 
 read-bits-requires : tie.Need-read-bits-requires
-read-bits-requires c κs = omega (arith, ltb-false _ _ (sym (@After-runs-past .runs-past .ensures) ∙ @Else1 .if1 .left))
+read-bits-requires c κs = omega (arith, ltb-false _ _ (sym (c .before .runs-past .ensures) ∙ c .if1 .left))
 
 marks-width-requires : tie.Need-marks-width-requires
 marks-width-requires c κs = search needs
 
 add-next : tie.Need-add-next
-add-next c = omega (arith, @After-marks-width .marks-width .ensures, offset-most (@After-read-bits .read-bits .result) max-vertices)
+add-next c = omega (arith, c .marks-width .ensures, offset-most (c .before .read-bits .result) max-vertices)
 
 runs-past-requires-2 : tie.Need-runs-past-requires-2
-runs-past-requires-2 c κs = omega (arith, @After-marks-width .marks-width .ensures, offset-most (@After-read-bits .read-bits .result) max-vertices)
+runs-past-requires-2 c κs = omega (arith, c .marks-width .ensures, offset-most (c .before .read-bits .result) max-vertices)
 
 no-record-requires-2 : tie.Need-no-record-requires-2
 no-record-requires-2 c κs = search needs
 
 returns-2 : tie.Need-returns-2
 returns-2 c =
-    let s = @Start in
+    let s = c .before .before .before .before .before .before .before .before in
     let a = s .args in
-    let heads = @After-read-bits .read-bits .result in
-    let w = @After-marks-width .marks-width .ensures in
-    let e : a .at + marks-start + @After-marks-width .marks-width .result ≡ a .at + (marks-start + mark-offset heads max-vertices) = omega arith in
-    rw (@After-no-record2 .no-record2 .ensures)
+    let heads = c .before .before .before .before .read-bits .result in
+    let w = c .before .before .before .marks-width .ensures in
+    let e : a .at + marks-start + c .before .before .before .marks-width .result ≡ a .at + (marks-start + mark-offset heads max-vertices) = omega arith in
+    rw (c .no-record2 .ensures)
     (past-read (a .card .now) (a .at) (marks-start + mark-offset heads max-vertices) (omega arith)
-    (omega (arith, marks-long (a .card .now) (a .at) (s .pre .0) heads (@After-read-bits .read-bits .ensures)))
-    (rw e at (sym (@After-runs-past2 .runs-past2 .ensures) ∙ @Then2 .if2 .taken)))
+    (omega (arith, marks-long (a .card .now) (a .at) (s .pre .0) heads (c .before .before .before .before .read-bits .ensures)))
+    (rw e at (sym (c .before .before .runs-past2 .ensures) ∙ c .before .if2 .taken)))
 
 add-read-bits-2 : tie.Need-add-read-bits-2
 add-read-bits-2 c = search needs
 
 read-bits-requires-2 : tie.Need-read-bits-requires-2
-read-bits-requires-2 c κs = omega (arith, ltb-false _ _ (sym (@After-runs-past .runs-past .ensures) ∙ @Else1 .if1 .left))
+read-bits-requires-2 c κs = omega (arith, ltb-false _ _ (sym (c .before .before .before .before .before .runs-past .ensures) ∙ c .before .before .before .before .if1 .left))
 
 read-marks-requires : tie.Need-read-marks-requires
-read-marks-requires c κs = omega (arith, @After-marks-width .marks-width .ensures, ltb-false _ _ (sym (@After-runs-past2 .runs-past2 .ensures) ∙ @Else2 .if2 .left))
+read-marks-requires c κs = omega (arith, c .before .before .before .marks-width .ensures, ltb-false _ _ (sym (c .before .before .runs-past2 .ensures) ∙ c .before .if2 .left))
 
 cast-t11 : tie.Need-cast-t11
 cast-t11 c =
-    let a = @Start .args in
-    omega (arith, @After-read-bits2 .read-bits2 .ensures, field-below (a .at + kind-width) vertex-width (bits-in (a .card .now)) (bits-in-are-bits (a .card .now)))
+    let a = c .before .before .before .before .before .before .before .before .before .args in
+    omega (arith, c .before .read-bits2 .ensures, field-below (a .at + kind-width) vertex-width (bits-in (a .card .now)) (bits-in-are-bits (a .card .now)))
 
 returns-3 : tie.Need-returns-3
 returns-3 c =
-    let s = @Start in
+    let s = c .before .before .before .before .before .before .before .before .before in
     let a = s .args in
-    rw (@After-read-bits2 .read-bits2 .ensures, @After-marks-width .marks-width .ensures)
-    (marks-read (a .card .now) (a .at) (s .pre .0) _ (@After-read-bits .read-bits .ensures) _ (@After-read-marks .read-marks .ensures)
-    (rw (@After-marks-width .marks-width .ensures) at (sym (@After-runs-past2 .runs-past2 .ensures) ∙ @Else2 .if2 .left)))
+    rw (c .before .read-bits2 .ensures, c .before .before .before .before .marks-width .ensures)
+    (marks-read (a .card .now) (a .at) (s .pre .0) _ (c .before .before .before .before .before .read-bits .ensures) _ (c .read-marks .ensures)
+    (rw (c .before .before .before .before .marks-width .ensures) at (sym (c .before .before .before .runs-past2 .ensures) ∙ c .before .before .if2 .left)))
 
 pub read-marks-record-spec : {M : Type 1} → statement M
 read-marks-record-spec =

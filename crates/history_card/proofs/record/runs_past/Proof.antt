@@ -1,4 +1,5 @@
 -- `runs_past` counts in bytes. Assumes nothing.
+use lib.ListN.{length}
 use borrow.Author.Needs.{needs}
 use Rattle.history_card.proofs.RecordReadLaws.{past-bytes}
 use Rattle.history_card.proofs.record.runs_past.Statement.{statement}
@@ -8,7 +9,9 @@ add-result : tie.Need-add-result
 add-result c = search needs
 
 returns : tie.Need-returns
-returns c = past-bytes _ _
+returns c =
+    let a = c .before .args in
+    past-bytes (length (a .card .now)) (a .end)
 
 pub runs-past-spec : {M : Type 1} → statement M
 runs-past-spec = tie.close (tie.spec add-result returns)
