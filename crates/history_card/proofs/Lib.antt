@@ -1,1 +1,2 @@
 -- Laws that the proofs of reading and writing cite. Assumes nothing.
+pub mod PutLaws
