@@ -3,9 +3,9 @@
 --
 -- Marks and records are put one behind the other: what is put of the first k of them and then the next are the first
 -- k + 1, and these are not more than all.
-use mathlib.Core.Path.{_≡_, refl, ap}
+use mathlib.Core.Path.{_≡_, refl, sym, ap}
 use mathlib.Core.Bool.{Bool, true, false, cond}
-use mathlib.Core.List.{List, [], _++_}
+use mathlib.Core.List.{List, [], _++_, append-assoc}
 use mathlib.Core.Logic.{⊎-elim}
 use Prim.Native.Nat.{ℕ, zero, suc, _+_, _*_, _/_, _%_, _^_, _≤_, _<_}
 use native.Mathlib.Omega.{arith}
@@ -20,12 +20,13 @@ use Rattle.bits.specs.declared.BitWriter.{BitWriter}
 use Rattle.bits.proofs.NumberLaws.{length-bits-of}
 use Rattle.instance.specs.Limits.{max-vertices, free}
 use Rattle.instance.specs.Cuts.{inside}
-use Rattle.card_format.specs.Widths.{mark-width}
+use Rattle.card_format.specs.Widths.{budget-width, mark-width}
 use Rattle.heads.specs.RecordMarks.{record-marks}
 use Rattle.heads.proofs.LoopLaws.{four-pow}
 use Rattle.commands.specs.Model.{Replaced, old-mark, old-marks, old-budget}
 use Rattle.board.specs.declared.UndoRecord.{UndoRecord}
 use Rattle.board.specs.ModelOf.{replaced-of, blank-record, history-of}
+use Rattle.history_format.specs.RecordWidths.{kind-width, vertex-width, heads-width}
 use Rattle.history_format.specs.RecordBits.{mark-offset, mark-bits, record-bits}
 use Rattle.history_format.specs.HistoryCard.{records-bits}
 use Rattle.history_format.proofs.MemberMarks.{offset-more, offset-most, length-mark-bits}
@@ -96,6 +97,25 @@ pub mark-room : (xs ys : List ℕ) (p q : BitWriter) (c v h : ℕ) → h < max-v
 mark-room xs ys p q c v h l u r =
     next-room xs ys p q (mark-bits h c (record-marks c v)) (one-mark c v h) (mark-offset c max-vertices) u
     (omega (arith, length-mark-bits h c (record-marks c v), mark-within c v h l)) r
+
+-- ONE RECORD: the kind and one field, then the rest
+pub length-two : (j k x y : ℕ) → length (bits-of j x ++ bits-of k y) ≡ j + k
+length-two j k x y = simp (length-append, length-bits-of)
+
+pub mark-record-bits : (t h m : ℕ) →
+    record-bits (old-mark t h m) ≡ (bits-of kind-width 0 ++ bits-of vertex-width t) ++ (bits-of vertex-width h ++ bits-of mark-width m)
+unfolding record-bits
+mark-record-bits t h m = sym (append-assoc (bits-of kind-width 0) (bits-of vertex-width t) (bits-of vertex-width h ++ bits-of mark-width m))
+
+pub budget-record-bits : (v : ℕ) → record-bits (old-budget v) ≡ bits-of kind-width 1 ++ bits-of budget-width v
+unfolding record-bits
+budget-record-bits v = refl
+
+pub marks-record-bits : (t c : ℕ) (ms : List ℕ) →
+    record-bits (old-marks t c ms) ≡ (bits-of kind-width 2 ++ bits-of vertex-width t) ++ (bits-of heads-width c ++ mark-bits max-vertices c ms)
+unfolding record-bits
+marks-record-bits t c ms =
+    sym (append-assoc (bits-of kind-width 2) (bits-of vertex-width t) (bits-of heads-width c ++ mark-bits max-vertices c ms))
 
 -- THE RECORDS
 record-most : (o : Replaced) → length (record-bits o) ≤ longest-record
