@@ -1,3 +1,4 @@
 -- Laws that the proofs of reading and writing cite. Assumes nothing.
 pub mod RecordReadLaws
 pub mod RecordsReadLaws
+pub mod PutLaws

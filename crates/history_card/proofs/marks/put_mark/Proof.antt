@@ -1,46 +1,54 @@
+-- `put_mark` meets its contract: the bits of one mark, or nothing. Assumes nothing.
+use mathlib.Core.Path.{_≡_, sym, _∙_}
+use mathlib.Core.Bool.{true, false}
+use native.Mathlib.Omega.{arith}
 use borrow.Author.Needs.{needs}
+use Rattle.bits.proofs.NumberLaws.{length-bits-of}
+use Rattle.bits.proofs.WriterLaws.{put-none}
+use Rattle.instance.specs.Cuts.{inside}
+use Rattle.card_format.specs.Widths.{mark-width}
+use Rattle.history_card.proofs.PutLaws.{shifted-digit, mark-put, mark-left-out}
 use Rattle.history_card.proofs.marks.put_mark.Statement.{statement}
 use Rattle.history_card.proofs.marks.put_mark.Tie as tie
-use Rattle.history_card.proofs.marks.put_mark.Reads as reads
-use Rattle.history_card.proofs.marks.put_mark.Lts as lts
-use Rattle.bits.proofs.put_bits.Reads as put-bits-reads
-use Rattle.checks.proofs.sets.is_inside.Reads as is-inside-reads
 
--- src/marks.rt:61:8
 is-inside-requires : tie.Need-is-inside-requires
 is-inside-requires c κs = search needs
 
--- src/marks.rt:62:43
 mul-put-bits : tie.Need-mul-put-bits
 mul-put-bits c = search needs
 
--- src/marks.rt:62:43
 cast-put-bits : tie.Need-cast-put-bits
 cast-put-bits c = search needs
 
--- src/marks.rt:62:33
 shr-put-bits : tie.Need-shr-put-bits
 shr-put-bits c = search needs
 
--- src/marks.rt:62:31
 cast-put-bits-2 : tie.Need-cast-put-bits-2
 cast-put-bits-2 c = search needs
 
--- src/marks.rt:62:9
 put-bits-requires : tie.Need-put-bits-requires
-put-bits-requires c κs = ?
+put-bits-requires c κs =
+    let s = c .before .before .before .before in
+    let a = s .args in
+    let t : inside (a .heads) (a .head) ≡ true = sym (c .before .before .is-inside .ensures) ∙ c .before .if1 .taken in
+    (rw (mark-put (a .heads) (a .marks) (a .head) t, length-bits-of mark-width _) at (s .pre .1), omega arith)
 
--- src/marks.rt:62:9
 same-length : tie.Need-same-length
 same-length c = search needs
 
--- src/marks.rt:62:9
 returns : tie.Need-returns
-returns c = ?
+returns c =
+    let s = c .before .before .before .before .before .before .before in
+    let a = s .args in
+    let t : inside (a .heads) (a .head) ≡ true = sym (c .before .before .before .before .before .is-inside .ensures) ∙ c .before .before .before .before .if1 .taken in
+    rw (mark-put (a .heads) (a .marks) (a .head) t, ← shifted-digit (a .marks) (a .head)) (c .before .before .put-bits .ensures)
 
--- src/marks.rt:57:1
 returns-2 : tie.Need-returns-2
-returns-2 c = ?
+returns-2 c =
+    let s = c .before .before .before in
+    let a = s .args in
+    let t : inside (a .heads) (a .head) ≡ false = sym (c .before .is-inside .ensures) ∙ c .if1 .left in
+    rw (mark-left-out (a .heads) (a .marks) (a .head) t) (put-none (a .out .now) (a .w) (s .pre .1 .few))
 
 pub put-mark-spec : {M : Type 1} → statement M
 put-mark-spec =

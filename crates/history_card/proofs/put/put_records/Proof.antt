@@ -1,50 +1,51 @@
+-- `put_records` has put the first k records. Assumes nothing.
+use mathlib.Core.Path.{_≡_}
+use Prim.Native.Nat.{_-_, _≤_}
+use native.Mathlib.Omega.{arith}
+use Rattle.bits.specs.Writer.{Put}
+use Rattle.bits.proofs.WriterLaws.{put-none, put-then}
+use Rattle.history_card.proofs.PutLaws.{records-to, records-none, next-record, record-room}
 use Rattle.history_card.proofs.put.put_records.Statement.{statement}
 use Rattle.history_card.proofs.put.put_records.Tie as tie
-use Rattle.history_card.proofs.put.put_records.Reads as reads
-use Rattle.history_card.proofs.put.put_records.Lts as lts
-use Rattle.history_card.proofs.put.put_record.Reads as put-record-reads
 
 abbrev Inv-loop : tie.InvT-loop
-Inv-loop count out₀ records w₀ k₀ out w k = ?
+Inv-loop count out₀ records w₀ k₀ out w k = (k ≤ count) × Put (records-to records k) w₀ out₀ out w
 
 abbrev μ-loop : tie.MeasureT-loop
-μ-loop count out₀ records w₀ k₀ out w k = ?
+μ-loop count out₀ records w₀ k₀ out w k = count - k
 
--- src/put.rt:122:5
 loop-holds : tie.Need-loop-holds Inv-loop μ-loop
-loop-holds c = ?
+loop-holds c = (omega arith, rw (records-none (c .before .args .t1)) (put-none _ _ (c .before .pre .1 .few)))
 
--- src/put.rt:123:22
 mul-record : tie.Need-mul-record Inv-loop μ-loop
-mul-record c = ?
+mul-record c = omega arith
 
--- src/put.rt:123:22
 array-copy-out-record : tie.Need-array-copy-out-record Inv-loop μ-loop
-array-copy-out-record c = ?
+array-copy-out-record c = omega arith
 
--- src/put.rt:125:9
 put-record-requires : tie.Need-put-record-requires Inv-loop μ-loop
-put-record-requires c κs = ?
+put-record-requires c κs =
+    let l = c .before .before .before .loop in
+    let s = c .before .before .before .before .before in
+    record-room (s .args .t1) _ _ _ _ (l .k) (s .args .count) (omega arith) (l .inv .1) (s .pre .1)
 
--- src/put.rt:126:9
 add-k : tie.Need-add-k Inv-loop μ-loop
-add-k c = ?
+add-k c = omega arith
 
--- src/put.rt:122:5
 loop-less : tie.Need-loop-less Inv-loop μ-loop
-loop-less c = ?
+loop-less c = omega arith
 
--- src/put.rt:122:5
 loop-again : tie.Need-loop-again Inv-loop μ-loop
-loop-again c = ?
+loop-again c =
+    let l = c .before .before .before .before .before .before .loop in
+    let rs = c .before .before .before .before .before .before .before .before .args .t1 in
+    (omega arith, rw (next-record rs (l .k)) (put-then _ _ _ _ _ _ _ _ (l .inv .1) (c .before .before .put-record .ensures)))
 
--- src/put.rt:111:1
 same-length : tie.Need-same-length Inv-loop μ-loop
-same-length c = ?
+same-length c = c .before .loop .inv .1 .long
 
--- src/put.rt:111:1
 returns : tie.Need-returns Inv-loop μ-loop
-returns c = ?
+returns c = let e : c .before .loop .k ≡ c .before .before .before .args .count = omega arith in rw e at (c .before .loop .inv .1)
 
 pub put-records-spec : {M : Type 1} → statement M
 put-records-spec =

@@ -1,41 +1,40 @@
+-- `record_width` meets its contract, by what was replaced. Assumes nothing.
+use mathlib.Core.Path.{sym}
+use native.Mathlib.Omega.{arith}
 use borrow.Author.Needs.{needs}
+use Rattle.instance.specs.Limits.{max-vertices}
+use Rattle.history_format.proofs.MemberMarks.{offset-most}
+use Rattle.history_format.proofs.RecordLaws.{length-mark, length-budget, length-marks}
 use Rattle.history_card.proofs.put.record_width.Statement.{statement}
 use Rattle.history_card.proofs.put.record_width.Tie as tie
-use Rattle.history_card.proofs.put.record_width.Reads as reads
-use Rattle.history_card.proofs.put.record_width.Lts as lts
-use Rattle.history_card.proofs.marks.marks_width.Reads as marks-width-reads
 
--- src/put.rt:37:39
 enum-told : tie.Need-enum-told
 enum-told c = search needs
 
--- src/put.rt:38:35
 enum-told-2 : tie.Need-enum-told-2
 enum-told-2 c = search needs
 
--- src/put.rt:39:31
 enum-known-replaced : tie.Need-enum-known-replaced
 enum-known-replaced c = search needs
 
--- src/put.rt:39:58
 marks-width-requires : tie.Need-marks-width-requires
 marks-width-requires c κs = search needs
 
--- src/put.rt:39:44
 add-result : tie.Need-add-result
-add-result c = ?
+add-result c =
+    let g = c .before .before .replaced .given in
+    record { fits = omega (arith, c .marks-width .ensures, offset-most (g .0 .1 .0) max-vertices) }
 
--- src/put.rt:33:1
 returns : tie.Need-returns
-returns c = ?
+returns c = rw (c .enum-told .given .1) (sym (length-mark _ _ _))
 
--- src/put.rt:33:1
 returns-2 : tie.Need-returns-2
-returns-2 c = ?
+returns-2 c = rw (c .enum-told2 .given .1) (sym (length-budget _))
 
--- src/put.rt:33:1
 returns-3 : tie.Need-returns-3
-returns-3 c = ?
+returns-3 c =
+    let g = c .before .before .replaced .given in
+    rw (g .1, c .marks-width .ensures) (sym (length-marks _ _ _))
 
 pub record-width-spec : {M : Type 1} → statement M
 record-width-spec =
