@@ -11,5 +11,6 @@ pub mod RecordLength
 pub mod HistoryLaws
 pub mod FirstRecords
 pub mod LongHistory
+pub mod HistoryBits
 pub mod WorkedHistory
 pub mod WorkedRecords
