@@ -1,14 +1,15 @@
 -- The bits of a history card as it is written: that they are bits, and how many. Its bytes hold them, and behind them
 -- fewer than eight zeros. Assumes nothing.
-use mathlib.Core.Path.{_≡_, _∙_}
+use mathlib.Core.Path.{_≡_, refl, _∙_}
 use mathlib.Core.Bool.{Bool, true, false, cond}
-use mathlib.Core.List.{List, [], _∷_, _++_}
+use mathlib.Core.List.{List, [], _∷_, _++_, append-assoc}
 use Prim.Native.Nat.{ℕ, zero, suc, _+_, _*_, _-_, _≤_, _<_}
 use native.Mathlib.Omega.{arith}
 use lib.ListN.{length, getD, replicate, length-append, length-replicate}
 use Rattle.bits.specs.Bits.{bits-of, bits-in, are-bits}
 use Rattle.bits.proofs.NumberLaws.{length-bits-of, bits-of-are-bits, are-bits-append, zeros-are-bits}
 use Rattle.bits.proofs.ByteLaws.{length-packed, bits-in-packed}
+use Rattle.bits.proofs.FieldLaws.{field-read}
 use Rattle.instance.specs.Limits.{max-vertices, free}
 use Rattle.instance.specs.Cuts.{inside}
 use Rattle.card_format.specs.Widths.{budget-width, mark-width}
@@ -17,7 +18,7 @@ use Rattle.card_format.proofs.WrittenBits.{length-instance-bits, instance-are-b
 use Rattle.commands.specs.Model.{Replaced, old-mark, old-marks, old-budget, Model}
 use Rattle.history_format.specs.RecordWidths.{marker-width, history-marker, count-width, kind-width, vertex-width, heads-width}
 use Rattle.history_format.specs.RecordBits.{mark-bits, record-bits}
-use Rattle.history_format.specs.HistoryCard.{records-bits, history-bits, history-bytes, history-card-of}
+use Rattle.history_format.specs.HistoryCard.{is-history, records-bits, history-bits, history-bytes, history-card-of}
 
 -- ARE BITS
 -- bits behind a number's
@@ -88,3 +89,15 @@ module _ (m : Model) where
       bits-in-packed (history-bytes m) (history-bits m ++ history-filling m)
       (length-append (history-bits m) (history-filling m) ∙ omega (arith, bytes-room, length-replicate {A = ℕ} k 0))
       (are-bits-append (history-bits m) (history-filling m) (history-are-bits m) (zeros-are-bits k))
+
+  -- part by part
+  pub written-bits-in : bits-in (history-card-of m)
+      ≡ bits-of marker-width history-marker
+      ++ (instance-bits (m .instance) ++ (bits-of count-width (length (m .history)) ++ (records-bits (m .history) ++ history-filling m)))
+  unfolding history-bits
+  written-bits-in = history-bits-in ∙ simp append-assoc
+
+  -- of whatever board, it is a history card
+  pub history-kind-again : is-history (history-card-of m) ≡ true
+  unfolding is-history
+  history-kind-again = rw (written-bits-in, field-read [] _ 0 marker-width history-marker refl)

@@ -12,5 +12,6 @@ pub mod HistoryLaws
 pub mod FirstRecords
 pub mod LongHistory
 pub mod HistoryBits
+pub mod ModelAgain
 pub mod WorkedHistory
 pub mod WorkedRecords
