@@ -13,5 +13,6 @@ pub mod FirstRecords
 pub mod LongHistory
 pub mod HistoryBits
 pub mod ModelAgain
+pub mod HistoryAgain
 pub mod WorkedHistory
 pub mod WorkedRecords
