@@ -14,5 +14,6 @@ pub mod LongHistory
 pub mod HistoryBits
 pub mod ModelAgain
 pub mod HistoryAgain
+pub mod Moves
 pub mod WorkedHistory
 pub mod WorkedRecords
