@@ -15,5 +15,6 @@ pub mod HistoryBits
 pub mod ModelAgain
 pub mod HistoryAgain
 pub mod Moves
+pub mod Longest
 pub mod WorkedHistory
 pub mod WorkedRecords
