@@ -110,16 +110,16 @@ module _ (m : Model) (e : valid m ≡ true) (shaped : All-shaped (m .history)) w
   v : Valid m
   v = valid-parts m e
 
-  i : valid-instance s ≡ true
-  i = valid-fields m e
+  s-valid : valid-instance s ≡ true
+  s-valid = valid-fields m e
 
   same : Same-instance t s
-  same = instance-round-trip s i
+  same = instance-round-trip s s-valid
 
   fits : All-writable h
   fits = all-writable s h (v .n-high) (v .records-ok) shaped
 
-  -- THE PARTS OF THE CARD
+  -- THE PARTS OF THE CARD: what stands behind the count, and behind the cells
   abbrev records : List ℕ
   records = records-bits h ++ history-filling m
 
@@ -130,7 +130,7 @@ module _ (m : Model) (e : valid m ≡ true) (shaped : All-shaped (m .history)) w
   old-written = rw (written-bits-in m) (drop-at (bits-of marker-width history-marker) (instance-bits s ++ rest) marker-width (length-bits-of marker-width history-marker))
 
   instance-read : instance-from (old-bits ws) ≡ t
-  instance-read = ap (λ (bs : List ℕ). instance-from bs) old-written ∙ instance-followed s i (v .n-high) (v .root-below) rest
+  instance-read = ap (λ (bs : List ℕ). instance-from bs) old-written ∙ instance-followed s s-valid (v .n-high) (v .root-below) rest
 
   n-read : n-in (old-bits ws) ≡ s .n
   n-read = ap (λ (i : Instance). i .n) instance-read ∙ same .same-n
@@ -188,7 +188,7 @@ module _ (m : Model) (e : valid m ≡ true) (shaped : All-shaped (m .history)) w
 
   cells-pass : cells-refusal (t .weights) (t .marks) ≡ 0
   unfolding instance-in
-  cells-pass = opens (card-of s) (written-opens s i) .cells-pass
+  cells-pass = opens (card-of s) (written-opens s s-valid) .cells-pass
 
   records-ok : all-of (record-ok t) h ≡ true
   records-ok = all-of-eq (record-ok t) (record-ok s) (record-ok-same t s same) h ∙ v .records-ok
@@ -232,5 +232,5 @@ module _ (m : Model) (e : valid m ≡ true) (shaped : All-shaped (m .history)) w
   pub model-back : As-read s → history-model ws ≡ m
   unfolding history-model
   model-back a =
-      let b : instance-from (old-bits ws) ≡ s = instance-read ∙ instance-back s i (a .weights-long) (a .marks-long) (a .elsewhere) in
+      let b : instance-from (old-bits ws) ≡ s = instance-read ∙ instance-back s s-valid (a .weights-long) (a .marks-long) (a .elsewhere) in
       rw (b, history-same)
