@@ -11,5 +11,10 @@ pub mod RecordLength
 pub mod HistoryLaws
 pub mod FirstRecords
 pub mod LongHistory
+pub mod HistoryBits
+pub mod ModelAgain
+pub mod HistoryAgain
+pub mod Moves
+pub mod Longest
 pub mod WorkedHistory
 pub mod WorkedRecords
