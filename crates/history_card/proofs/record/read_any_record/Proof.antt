@@ -1,11 +1,11 @@
 -- `read_any_record` meets its contract: by the kind, if there is a whole one. Assumes nothing.
 use mathlib.Core.Path.{_≡_, _∙_, sym}
-use Prim.Native.Nat.{ℕ}
+use Prim.Native.Nat.{ℕ, _+_, _*_}
 use native.Mathlib.Omega.{arith}
 use native.Mathlib.Nat.{add-zero}
 use borrow.Author.Tests.{ltb-false}
 use mathlib.Core.List.{List}
-use lib.ListN.{drop}
+use lib.ListN.{length, drop}
 use Rattle.bits.specs.Bits.{bits-in, field}
 use Rattle.bits.proofs.FieldLaws.{field-drop}
 use Rattle.history_format.specs.RecordWidths.{kind-width}
@@ -35,7 +35,7 @@ returns c =
     (past-read (a .card .now) (a .at) kind-width (omega arith) (length-least _) (sym (c .before .before .runs-past .ensures) ∙ c .before .if1 .taken))
 
 read-bits-requires : tie.Need-read-bits-requires
-read-bits-requires c κs = omega (arith, ltb-false _ _ (sym (c .before .runs-past .ensures) ∙ c .if1 .left))
+read-bits-requires c κs = omega (arith, ltb-false (8 * length (c .before .before .before .args .card .now)) (c .before .before .before .args .at + kind-width) (sym (c .before .runs-past .ensures) ∙ c .if1 .left))
 
 read-mark-record-requires : tie.Need-read-mark-record-requires
 read-mark-record-requires c κs =

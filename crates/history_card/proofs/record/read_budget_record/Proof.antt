@@ -1,6 +1,8 @@
 -- `read_budget_record` meets its contract: the laws of its kind. Assumes nothing.
 use mathlib.Core.Path.{_∙_, sym}
+use Prim.Native.Nat.{_+_, _*_}
 use native.Mathlib.Omega.{arith}
+use lib.ListN.{length}
 use borrow.Author.Tests.{ltb-false}
 use Rattle.history_format.specs.RecordWidths.{budget-record-width}
 use Rattle.history_format.proofs.RecordLaws.{read-budget-length}
@@ -29,7 +31,7 @@ add-read-bits : tie.Need-add-read-bits
 add-read-bits c = search needs
 
 read-bits-requires : tie.Need-read-bits-requires
-read-bits-requires c κs = omega (arith, ltb-false _ _ (sym (c .before .runs-past .ensures) ∙ c .if1 .left))
+read-bits-requires c κs = omega (arith, ltb-false (8 * length (c .before .before .before .args .card .now)) (c .before .before .before .args .at + budget-record-width) (sym (c .before .runs-past .ensures) ∙ c .if1 .left))
 
 returns-2 : tie.Need-returns-2
 returns-2 c =

@@ -1,6 +1,7 @@
 -- `read_mark_record` meets its contract: the laws of its kind. Assumes nothing.
 use mathlib.Core.Path.{_∙_, sym}
-use Prim.Native.Nat.{_+_}
+use Prim.Native.Nat.{_+_, _*_}
+use lib.ListN.{length}
 use native.Mathlib.Omega.{arith}
 use borrow.Author.Tests.{ltb-false}
 use Rattle.bits.specs.Bits.{bits-in}
@@ -34,19 +35,19 @@ add-read-bits : tie.Need-add-read-bits
 add-read-bits c = search needs
 
 read-bits-requires : tie.Need-read-bits-requires
-read-bits-requires c κs = omega (arith, ltb-false _ _ (sym (c .before .runs-past .ensures) ∙ c .if1 .left))
+read-bits-requires c κs = omega (arith, ltb-false (8 * length (c .before .before .before .args .card .now)) (c .before .before .before .args .at + mark-record-width) (sym (c .before .runs-past .ensures) ∙ c .if1 .left))
 
 add-read-bits-2 : tie.Need-add-read-bits-2
 add-read-bits-2 c = search needs
 
 read-bits-requires-2 : tie.Need-read-bits-requires-2
-read-bits-requires-2 c κs = omega (arith, ltb-false _ _ (sym (c .before .before .runs-past .ensures) ∙ c .before .if1 .left))
+read-bits-requires-2 c κs = omega (arith, ltb-false (8 * length (c .before .before .before .before .args .card .now)) (c .before .before .before .before .args .at + mark-record-width) (sym (c .before .before .runs-past .ensures) ∙ c .before .if1 .left))
 
 add-read-bits-3 : tie.Need-add-read-bits-3
 add-read-bits-3 c = search needs
 
 read-bits-requires-3 : tie.Need-read-bits-requires-3
-read-bits-requires-3 c κs = omega (arith, ltb-false _ _ (sym (c .before .before .before .runs-past .ensures) ∙ c .before .before .if1 .left))
+read-bits-requires-3 c κs = omega (arith, ltb-false (8 * length (c .before .before .before .before .before .args .card .now)) (c .before .before .before .before .before .args .at + mark-record-width) (sym (c .before .before .before .runs-past .ensures) ∙ c .before .before .if1 .left))
 
 cast-t9 : tie.Need-cast-t9
 cast-t9 c =

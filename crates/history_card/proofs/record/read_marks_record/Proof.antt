@@ -1,6 +1,7 @@
 -- `read_marks_record` meets its contract: the laws of its kind. Assumes nothing.
-use mathlib.Core.Path.{_∙_, sym}
-use Prim.Native.Nat.{_+_}
+use mathlib.Core.Path.{_≡_, _∙_, sym}
+use Prim.Native.Nat.{_+_, _*_}
+use lib.ListN.{length}
 use native.Mathlib.Omega.{arith}
 use borrow.Author.Tests.{ltb-false}
 use Rattle.bits.specs.Bits.{bits-in}
@@ -36,7 +37,7 @@ add-read-bits : tie.Need-add-read-bits
 add-read-bits c = search needs
 
 read-bits-requires : tie.Need-read-bits-requires
-read-bits-requires c κs = omega (arith, ltb-false _ _ (sym (c .before .runs-past .ensures) ∙ c .if1 .left))
+read-bits-requires c κs = omega (arith, ltb-false (8 * length (c .before .before .before .args .card .now)) (c .before .before .before .args .at + marks-start) (sym (c .before .runs-past .ensures) ∙ c .if1 .left))
 
 marks-width-requires : tie.Need-marks-width-requires
 marks-width-requires c κs = search needs
@@ -66,10 +67,10 @@ add-read-bits-2 : tie.Need-add-read-bits-2
 add-read-bits-2 c = search needs
 
 read-bits-requires-2 : tie.Need-read-bits-requires-2
-read-bits-requires-2 c κs = omega (arith, ltb-false _ _ (sym (c .before .before .before .before .before .runs-past .ensures) ∙ c .before .before .before .before .if1 .left))
+read-bits-requires-2 c κs = omega (arith, ltb-false (8 * length (c .before .before .before .before .before .before .before .args .card .now)) (c .before .before .before .before .before .before .before .args .at + marks-start) (sym (c .before .before .before .before .before .runs-past .ensures) ∙ c .before .before .before .before .if1 .left))
 
 read-marks-requires : tie.Need-read-marks-requires
-read-marks-requires c κs = omega (arith, c .before .before .before .marks-width .ensures, ltb-false _ _ (sym (c .before .before .runs-past2 .ensures) ∙ c .before .if2 .left))
+read-marks-requires c κs = omega (arith, c .before .before .before .marks-width .ensures, ltb-false (8 * length (c .before .before .before .before .before .before .before .before .args .card .now)) (c .before .before .before .before .before .before .before .before .args .at + marks-start + c .before .before .before .marks-width .result) (sym (c .before .before .runs-past2 .ensures) ∙ c .before .if2 .left))
 
 cast-t11 : tie.Need-cast-t11
 cast-t11 c =

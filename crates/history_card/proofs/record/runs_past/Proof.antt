@@ -10,7 +10,7 @@ add-result c = search needs
 
 returns : tie.Need-returns
 returns c =
-    let a = c .before .args in
+    let a = c .args in
     past-bytes (length (a .card .now)) (a .end)
 
 pub runs-past-spec : {M : Type 1} → statement M
