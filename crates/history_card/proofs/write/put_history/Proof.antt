@@ -53,7 +53,7 @@ put-records-requires c κs =
     let l = length-history (b .count) (b .records) in (
       omega (arith, valid-parts (model-of b) (s .pre .0) .few, l),
       records-room (model-of b) (s .pre .0) (a .out .now) (a .start) (s .pre .1) _ _ (t .put-bits .ensures) _ _ (u .put-instance .ensures)
-      (b .count) l _ _ (v .put-bits2 .ensures),
+          (b .count) l _ _ (v .put-bits2 .ensures),
     )
 
 same-length : tie.Need-same-length
