@@ -2,3 +2,4 @@
 pub mod RecordReadLaws
 pub mod RecordsReadLaws
 pub mod PutLaws
+pub mod WriteLaws

@@ -1,5 +1,4 @@
--- What is put next of a record's marks, of the records and of a whole card with records, and the room for it. Assumes
--- nothing.
+-- What is put next of a record's marks, of a record and of the records, and the room for it. Assumes nothing.
 --
 -- Marks and records are put one behind the other: what is put of the first k of them and then the next are the first
 -- k + 1, and these are not more than all.
@@ -18,6 +17,7 @@ use Rattle.bits.specs.Bits.{bits-of}
 use Rattle.bits.specs.Writer.{Ready, Put}
 use Rattle.bits.specs.declared.BitWriter.{BitWriter}
 use Rattle.bits.proofs.NumberLaws.{length-bits-of}
+use Rattle.bits.proofs.WriterLaws.{put-then}
 use Rattle.instance.specs.Limits.{max-vertices, free}
 use Rattle.instance.specs.Cuts.{inside}
 use Rattle.card_format.specs.Widths.{budget-width, mark-width}
@@ -26,7 +26,7 @@ use Rattle.heads.proofs.LoopLaws.{four-pow}
 use Rattle.commands.specs.Model.{Replaced, old-mark, old-marks, old-budget}
 use Rattle.board.specs.declared.UndoRecord.{UndoRecord}
 use Rattle.board.specs.ModelOf.{replaced-of, blank-record, history-of}
-use Rattle.history_format.specs.RecordWidths.{kind-width, vertex-width, heads-width}
+use Rattle.history_format.specs.RecordWidths.{kind-width, vertex-width, head-start, heads-width}
 use Rattle.history_format.specs.RecordBits.{mark-offset, mark-bits, record-bits}
 use Rattle.history_format.specs.HistoryCard.{records-bits}
 use Rattle.history_format.proofs.MemberMarks.{offset-more, offset-most, length-mark-bits}
@@ -35,7 +35,7 @@ use Rattle.history_format.proofs.RecordLength.{longest-record}
 use Rattle.history_card.specs.Marks.{one-mark}
 
 -- bits were put, and there is room for them and for those that come next
-pub next-room : (xs ys : List ℕ) (p q : BitWriter) (bs cs : List ℕ) (k : ℕ) → Put bs p xs ys q → length bs + length cs ≤ k → Ready k p xs →
+next-room : (xs ys : List ℕ) (p q : BitWriter) (bs cs : List ℕ) (k : ℕ) → Put bs p xs ys q → length bs + length cs ≤ k → Ready k p xs →
     Ready (length cs) q ys
 next-room xs ys p q bs cs k u l r = record { few = u .few; room = omega (arith, u .moved, u .long, r .room) }
 
@@ -111,11 +111,29 @@ pub budget-record-bits : (v : ℕ) → record-bits (old-budget v) ≡ bits-of ki
 unfolding record-bits
 budget-record-bits v = refl
 
-pub marks-record-bits : (t c : ℕ) (ms : List ℕ) →
-    record-bits (old-marks t c ms) ≡ (bits-of kind-width 2 ++ bits-of vertex-width t) ++ (bits-of heads-width c ++ mark-bits max-vertices c ms)
-unfolding record-bits
-marks-record-bits t c ms =
-    sym (append-assoc (bits-of kind-width 2) (bits-of vertex-width t) (bits-of heads-width c ++ mark-bits max-vertices c ms))
+-- the marks of several arcs: kind and tail, the heads, their marks
+module _ (t c : ℕ) (ms : List ℕ) (out : List ℕ) (start : BitWriter) (room : Ready (length (record-bits (old-marks t c ms))) start out) where
+  pub tail-room : Ready head-start start out
+  tail-room = record { few = room .few; room = omega (arith, room .room, length-marks t c ms) }
+
+  module _ (ys : List ℕ) (q : BitWriter) (u : Put (bits-of kind-width 2 ++ bits-of vertex-width t) start out ys q) where
+    pub heads-room : Ready heads-width q ys
+    heads-room = record { few = u .few; room = omega (arith, room .room, length-marks t c ms, u .moved, u .long, length-two kind-width vertex-width 2 t) }
+
+    module _ (zs : List ℕ) (p : BitWriter) (v : Put (bits-of heads-width c) q ys zs p) where
+      pub marks-room : Ready (mark-offset c max-vertices) p zs
+      marks-room =
+          let a = length-two kind-width vertex-width 2 t in
+          let b = length-bits-of heads-width c in
+          record { few = v .few; room = omega (arith, room .room, length-marks t c ms, u .moved, u .long, a, v .moved, v .long, b) }
+
+      pub marks-put : (xs : List ℕ) (o : BitWriter) → Put (mark-bits max-vertices c ms) p zs xs o → Put (record-bits (old-marks t c ms)) start out xs o
+      unfolding record-bits
+      marks-put xs o w =
+          let front = bits-of kind-width 2 ++ bits-of vertex-width t in
+          let rest = bits-of heads-width c ++ mark-bits max-vertices c ms in
+          rw (← append-assoc (bits-of kind-width 2) (bits-of vertex-width t) rest)
+          (put-then out ys xs start q o front rest u (put-then ys zs xs q p o (bits-of heads-width c) (mark-bits max-vertices c ms) v w))
 
 -- THE RECORDS
 record-most : (o : Replaced) → length (record-bits o) ≤ longest-record

@@ -41,15 +41,7 @@ fn put_history(b: Board, start: BitWriter, out: &mut [u8]) -> BitWriter
     let count = b.count;
     let records = b.records;
     let after_marker = bits::put_bits(HISTORY_MARKER, MARKER_WIDTH, start, out);
-    let after_cells = put_instance(
-        &b.weights,
-        &b.marks,
-        n,
-        root,
-        budget,
-        after_marker,
-        out,
-    );
+    let after_cells = put_instance(&b.weights, &b.marks, n, root, budget, after_marker, out);
     let after_count = bits::put_bits(count as u32, COUNT_WIDTH, after_cells, out);
     put_records(records, count, after_count, out)
 }

@@ -20,8 +20,8 @@ put-two-requires c κs = (ready-fewer _ _ mark-record-width head-start (omega ar
 put-two-requires-2 : tie.Need-put-two-requires-2
 put-two-requires-2 c κs =
     let s = c .before .before .before .before .before .before in (
-      ready-next _ _ _ _ _ head-start (mark-width + vertex-width) (c .before .before .before .put-two .ensures)
-      (length-two kind-width vertex-width 0 (s .args .tail)) (all-room s),
+      ready-next _ _ _ _ _ head-start (vertex-width + mark-width) (c .before .before .before .put-two .ensures)
+          (length-two kind-width vertex-width 0 (s .args .tail)) (all-room s),
       omega arith,
       omega arith,
     )
