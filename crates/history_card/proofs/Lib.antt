@@ -3,3 +3,4 @@ pub mod RecordReadLaws
 pub mod RecordsReadLaws
 pub mod PutLaws
 pub mod WriteLaws
+pub mod OpenLaws

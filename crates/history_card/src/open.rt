@@ -87,8 +87,9 @@ pub fn open_history(card: &[u8]) -> Answered
         return refused(bad_records);
     }
     let marks = cells.marks;
+    let records = history.records;
     let mut board = new_board(n, root, header.budget, weights, marks);
-    board.records = history.records;
+    board.records = records;
     board.count = history.count;
     Answered { answer: 0, board }
 }

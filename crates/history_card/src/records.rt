@@ -1,6 +1,6 @@
 // What stands behind the bits of the card: the count, the records and the filling.
 ghost use mathlib.Core.Path.{_≡_};
-ghost use Prim.Native.Nat.{_*_, _≤_};
+ghost use Prim.Native.Nat.{_+_, _*_, _≤_};
 ghost use lib.ListN.{length, drop};
 ghost use Rattle.bits.specs.Bits.{bits-in};
 ghost use Rattle.instance.specs.Limits.{max-vertices, max-records, cells};
@@ -90,13 +90,7 @@ fn read_records(
 }
 
 // The count and the records, behind the bits of the card, which end at `start`.
-pub fn read_history(
-    card: &[u8],
-    weights: &[u32; CELLS],
-    n: u32,
-    root: u32,
-    start: usize,
-) -> History
+pub fn read_history(card: &[u8], weights: &[u32; CELLS], n: u32, root: u32, start: usize) -> History
     requires { ⌜ (n ≤ max-vertices) × (length (now weights) ≡ cells) × (start ≤ 8 * length (now card)) × (start ≤ 8 * max-card + 8) ⌝ }
     ensures { λ r. ⌜ Records-read (behind-refusal (unmarked n root (now (weights .entry))) (drop start (bits-in (now (card .entry))))) (count-in (drop start (bits-in (now (card .entry))))) (drop count-width (drop start (bits-in (now (card .entry))))) r ⌝ }
 {

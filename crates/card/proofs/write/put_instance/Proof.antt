@@ -17,7 +17,7 @@ put-cells-requires c κs =
     let a = s .args in (
       (s .pre .0 .2, s .pre .0 .3),
       cells-room (a .n) (a .root) (a .budget) (a .weights .now) (a .marks .now) (s .pre .0 .0) (s .pre .0 .1) (a .out .now) (a .start) (s .pre .1)
-      _ _ (c .before .before .before .put-header .ensures),
+          _ _ (c .before .before .before .put-header .ensures),
     )
 
 same-length : tie.Need-same-length

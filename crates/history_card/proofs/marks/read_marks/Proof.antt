@@ -25,12 +25,14 @@ use Rattle.history_card.proofs.marks.read_marks.Tie as tie
 
 abbrev mark-at : (card : List ℕ) → (at heads v : ℕ) → ℕ
 mark-at card at c v = cond (inside c v) (field (at + mark-offset c v) mark-width (bits-in card)) free
+
 small : (card : List ℕ) (at c v : ℕ) → v < 32 → mark-at card at c v < 4
 small card at c v l = by (inside c v)
   where
     by : (b : Bool) → cond b (field (at + mark-offset c v) mark-width (bits-in card)) free < 4
     by true = field-below (at + mark-offset c v) mark-width (bits-in card) (bits-in-are-bits card)
     by false = omega arith
+
 -- where the next member's mark ends
 within : (c h : ℕ) → h < max-vertices → inside c h ≡ true → mark-offset c h + mark-width ≤ mark-offset c max-vertices
 within c h l e = omega (arith, offset-in c h e, offset-rises c (h + 1) max-vertices (omega arith))
@@ -90,8 +92,13 @@ loop-again c =
     let g = mark-at (a .card .now) (a .at) (a .heads) in
     let r = sym (c .before .is-inside .ensures) in (
       omega arith,
-      ⊎-elim (λ w. ?) (λ w. ?) (c .if1 .came),
-      ⊎-elim (λ w. ?) (λ w. ?) (c .if1 .came),
+      ⊎-elim (λ w. omega (arith, w .3, l .inv .1, offset-in (a .heads) (l .head) (r ∙ w .0 .taken)))
+          (λ w. omega (arith, w .2, l .inv .1, offset-out (a .heads) (l .head) (r ∙ w .0 .left))) (c .if1 .came),
+      ⊎-elim
+          (λ w.
+          let q : w .1 .result ≡ g (l .head) = w .1 .ensures ∙ rw (l .inv .1, r ∙ w .0 .taken) in
+          rw (w .2, q) (mark-more g (small (a .card .now) (a .at) (a .heads)) (l .head) (l .value) (omega arith) (l .inv .2)))
+          (λ w. rw (w .1) (mark-skip g (small (a .card .now) (a .at) (a .heads)) (l .head) (l .value) (omega arith) (l .inv .2) (rw (r ∙ w .0 .left)))) (c .if1 .came),
     )
 
 returns : tie.Need-returns Inv-loop μ-loop

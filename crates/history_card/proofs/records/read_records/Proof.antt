@@ -50,7 +50,7 @@ mul-t16 : tie.Need-mul-t16 Inv-loop μ-loop
 mul-t16 c = omega arith
 
 element-set-from-history : tie.Need-element-set-from-history Inv-loop μ-loop
-element-set-from-history c = ?
+element-set-from-history c = omega (arith, c .before .before .before .before .before .before .pre .1)
 
 add-k : tie.Need-add-k Inv-loop μ-loop
 add-k c = omega arith
