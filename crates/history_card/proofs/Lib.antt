@@ -4,3 +4,4 @@ pub mod RecordsReadLaws
 pub mod PutLaws
 pub mod WriteLaws
 pub mod OpenLaws
+pub mod BoardOfLaws

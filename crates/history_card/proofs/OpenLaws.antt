@@ -13,7 +13,7 @@ use Rattle.bits.specs.Bits.{bits-in}
 use Rattle.bits.proofs.ByteLaws.{length-bits-in}
 use Rattle.instance.specs.Limits.{max-vertices, max-budget, max-records, cells}
 use Rattle.instance.specs.Refusals.{bad-record}
-use Rattle.instance.specs.Instance.{Instance, weight, is-arc}
+use Rattle.instance.specs.Instance.{Instance}
 use Rattle.instance.specs.Matrix.{unmarked}
 use Rattle.card_format.specs.Card.{n-in, root-in, budget-in, bits-needed, min-card, max-card, instance-from, cells-refusal}
 use Rattle.card_format.specs.Offsets.{offset}
@@ -23,8 +23,9 @@ use Rattle.card.specs.Cells.{Cells-read}
 use Rattle.card.specs.declared.read.Header.{Header}
 use Rattle.card.specs.declared.cells.Cells.{Cells}
 use Rattle.card.proofs.ReadLaws.{by-fields}
-use Rattle.commands.specs.Model.{Replaced, old-mark, old-marks, old-budget}
-use Rattle.commands.specs.Valid.{head-ok, record-ok}
+use Rattle.commands.specs.Model.{Replaced}
+use Rattle.commands.specs.Valid.{record-ok}
+use Rattle.commands.proofs.ValidLaws.{record-ok-of}
 use Rattle.board.specs.ModelOf.{blank-record}
 use Rattle.board.specs.Create.{board-with, blank, stored, board-of, answered-with, opened-by}
 use Rattle.board.specs.declared.Board.{Board}
@@ -58,12 +59,6 @@ header-answer ws = go (eqb (history-header-refusal ws 0) 0) refl
     go false e = refl
 
 -- THE RECORDS are judged by the arcs alone, so the marks and the budget do not matter
-record-unmarked : (n r b : ℕ) (vs ms : List ℕ) (o : Replaced) → record-ok (unmarked n r vs) o ≡ record-ok (record { n = n; root = r; budget = b; weights = vs; marks = ms }) o
-unfolding record-ok head-ok is-arc weight unmarked
-record-unmarked n r b vs ms (old-mark t h m) = refl
-record-unmarked n r b vs ms (old-marks t c ns) = refl
-record-unmarked n r b vs ms (old-budget v) = refl
-
 module _ (s t : Instance) (same : (o : Replaced) → record-ok s o ≡ record-ok t o) where
   records-alike : (k : ℕ) (bs : List ℕ) → records-refusal k s bs ≡ records-refusal k t bs
   unfolding records-refusal record-refusal
@@ -154,7 +149,7 @@ module _ (ws : List ℕ) (h : Header) (q : h ≡ history-header-of ws) where
           records-judged =
               x .judged
               ∙ rw (its-rest, its-fields, same-weights)
-              (behind-alike (unmarked (S .n) (S .root) (S .weights)) S (record-unmarked (S .n) (S .root) (S .budget) (S .weights) (S .marks)) (behind-cells ws))
+              (behind-alike (unmarked (S .n) (S .root) (S .weights)) S (record-ok-of S) (behind-cells ws))
 
           after-cells : history-refusal ws ≡ g .answer
           after-cells = after-header ∙ simp (its-judged, eq-eqb (c .answer) 0 y, ← records-judged)
