@@ -15,7 +15,7 @@ use Rattle.board.specs.declared.UndoRecord.{UndoRecord}
 use Rattle.board.specs.ModelOf.{model-of, blank-record}
 use Rattle.board.specs.Calls.{record-of}
 
--- "A board opened from a card has that card's marks and budget and no recorded press."
+-- of an old card: "A board opened from a card has that card's marks and budget and no recorded press."
 unfoldable pub board-with : (n root budget : ℕ) → (weights marks : List ℕ) → Board
 board-with n r b ws ms =
     record { n = n; root = r; budget = b; weights = ws; marks = ms; records = replicate max-records blank-record; count = 0 }
@@ -54,5 +54,5 @@ abbrev pub answered-with : (answer : ℕ) → Board → Answered
 answered-with a b = record { answer = a; board = b }
 
 -- a card opens as a board, or gets a refusal and "no board", which is the blank one
-unfoldable pub opened-by : (refusal : ℕ) → Model → Answered
-opened-by k m = cond (eqb k 0) (answered-with 0 (board-of m)) (answered-with k blank)
+unfoldable pub opened-as : (refusal : ℕ) → Model → Answered
+opened-as k m = cond (eqb k 0) (answered-with 0 (board-of m)) (answered-with k blank)

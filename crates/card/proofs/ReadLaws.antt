@@ -26,8 +26,8 @@ use Rattle.card.specs.declared.read.Header.{Header}
 use Rattle.card.specs.declared.read.Contents.{Contents}
 
 -- THE HEADER
--- 4 and 5 are what is left to judge once 1, 2 and 3 are passed; `by-fields` is said of any header, so that a card with
--- records has it too
+-- 4 and 5 are what is left to judge once 1, 2 and 3 are passed; `by-fields` is said of any header, so that a history
+-- card has it too
 pub by-fields : (d e : Bool) (n r b : ℕ) → let k = cond d bad-root (cond e bad-card-budget 0) in
     cond d (no-header bad-root) (cond e (no-header bad-card-budget) (header-with n r b)) ≡ cond (eqb k 0) (header-with n r b) (no-header k)
 by-fields true e n r b = refl

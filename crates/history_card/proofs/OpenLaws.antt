@@ -15,7 +15,7 @@ use Rattle.instance.specs.Limits.{max-vertices, max-budget, max-records, cells}
 use Rattle.instance.specs.Refusals.{bad-record}
 use Rattle.instance.specs.Instance.{Instance}
 use Rattle.instance.specs.Matrix.{unmarked}
-use Rattle.card_format.specs.Card.{n-in, root-in, budget-in, bits-needed, min-card, max-card, instance-from, cells-refusal}
+use Rattle.card_format.specs.Card.{n-in, root-in, budget-in, bits-needed, min-card, max-card, instance-of-bits, cells-refusal}
 use Rattle.card_format.specs.Offsets.{offset}
 use Rattle.card_format.proofs.LengthLaws.{length-known}
 use Rattle.card.specs.Read.{no-header, header-with, fields-of}
@@ -27,11 +27,11 @@ use Rattle.commands.specs.Model.{Replaced}
 use Rattle.commands.specs.Valid.{record-ok}
 use Rattle.commands.proofs.ValidLaws.{record-ok-of}
 use Rattle.board.specs.ModelOf.{blank-record}
-use Rattle.board.specs.Create.{board-with, blank, stored, board-of, answered-with, opened-by}
+use Rattle.board.specs.Create.{board-with, blank, stored, board-of, answered-with, opened-as}
 use Rattle.board.specs.declared.Board.{Board}
 use Rattle.history_format.specs.RecordWidths.{marker-width, count-width}
 use Rattle.history_format.specs.RecordBits.{record-length, replaced-in, form-refusal, record-refusal}
-use Rattle.history_format.specs.HistoryCard.{is-history, old-bits, behind-cells, count-in, history-in, history-model, records-refusal, behind-refusal, history-header-refusal, history-refusal}
+use Rattle.history_format.specs.HistoryCard.{is-history, behind-marker, behind-cells, count-in, history-in, history-model, records-refusal, behind-refusal, history-header-refusal, history-refusal}
 use Rattle.history_format.proofs.HeaderSteps.{History-header-known, history-header-known, history-rest, history-by-steps}
 use Rattle.history_format.proofs.InnerCard.{weights-long-from}
 use Rattle.history_format.proofs.HistoryLaws.{history-length}
@@ -40,20 +40,20 @@ use Rattle.history_card.specs.Open.{history-header-of, history-opened}
 use Rattle.history_card.specs.declared.records.History.{History}
 
 -- THE HEADER: 4 and 5 are left to judge
-pub fields-last : (ws : List ℕ) → min-card ≤ length ws → is-history ws ≡ true → (n-in (old-bits ws) ≡ 0 → ⊥) → n-in (old-bits ws) ≤ max-vertices →
-    bits-needed (n-in (old-bits ws)) ≤ length (old-bits ws) → fields-of (n-in (old-bits ws)) (old-bits ws) ≡ history-header-of ws
+pub fields-last : (ws : List ℕ) → min-card ≤ length ws → is-history ws ≡ true → (n-in (behind-marker ws) ≡ 0 → ⊥) → n-in (behind-marker ws) ≤ max-vertices →
+    bits-needed (n-in (behind-marker ws)) ≤ length (behind-marker ws) → fields-of (n-in (behind-marker ws)) (behind-marker ws) ≡ history-header-of ws
 unfolding fields-of history-header-of history-header-refusal
 fields-last ws l kind low high fits =
-    let n = n-in (old-bits ws) in
+    let n = n-in (behind-marker ws) in
     rw (le-ltb _ _ l, kind, ne-eqb _ _ low, le-ltb _ _ high, le-ltb _ _ fits)
-    (by-fields (leb n (root-in (old-bits ws))) (ltb max-budget (budget-in (old-bits ws))) n (root-in (old-bits ws)) (budget-in (old-bits ws)))
+    (by-fields (leb n (root-in (behind-marker ws))) (ltb max-budget (budget-in (behind-marker ws))) n (root-in (behind-marker ws)) (budget-in (behind-marker ws)))
 
 header-answer : (ws : List ℕ) → history-header-of ws .answer ≡ history-header-refusal ws 0
 unfolding history-header-of
 header-answer ws = go (eqb (history-header-refusal ws 0) 0) refl
   where
     go : (b : Bool) → eqb (history-header-refusal ws 0) 0 ≡ b →
-        cond b (header-with (n-in (old-bits ws)) (root-in (old-bits ws)) (budget-in (old-bits ws))) (no-header (history-header-refusal ws 0)) .answer
+        cond b (header-with (n-in (behind-marker ws)) (root-in (behind-marker ws)) (budget-in (behind-marker ws))) (no-header (history-header-refusal ws 0)) .answer
         ≡ history-header-refusal ws 0
     go true e = sym (eqb-true (history-header-refusal ws 0) 0 e)
     go false e = refl
@@ -71,7 +71,7 @@ module _ (s t : Instance) (same : (o : Replaced) → record-ok s o ≡ record-ok
 
 -- REFUSED
 refused : (ws : List ℕ) (k : ℕ) → k ≡ history-refusal ws → (k ≡ 0 → ⊥) → answered-with k blank ≡ history-opened ws
-unfolding history-opened opened-by
+unfolding history-opened opened-as
 refused ws k e n = rw (← e, ne-eqb k 0 n)
 
 module _ (ws : List ℕ) (h : Header) (q : h ≡ history-header-of ws) where
@@ -83,7 +83,7 @@ module _ (ws : List ℕ) (h : Header) (q : h ≡ history-header-of ws) where
 
   module _ (z : h .answer ≡ 0) where
     abbrev S : Instance
-    S = instance-from (old-bits ws)
+    S = instance-of-bits (behind-marker ws)
 
     passes : history-header-refusal ws 0 ≡ 0
     passes = sym its-answer ∙ z
@@ -91,7 +91,7 @@ module _ (ws : List ℕ) (h : Header) (q : h ≡ history-header-of ws) where
     known : History-header-known ws
     known = history-header-known ws passes
 
-    its-fields : h ≡ header-with (n-in (old-bits ws)) (root-in (old-bits ws)) (budget-in (old-bits ws))
+    its-fields : h ≡ header-with (n-in (behind-marker ws)) (root-in (behind-marker ws)) (budget-in (behind-marker ws))
     unfolding history-header-of
     its-fields = q ∙ rw passes
 
@@ -107,9 +107,9 @@ module _ (ws : List ℕ) (h : Header) (q : h ≡ history-header-of ws) where
     pub its-room : Room
     its-room =
         let k = known in
-        let w = length-known (n-in (old-bits ws)) (k .n-high) in
+        let w = length-known (n-in (behind-marker ws)) (k .n-high) in
         let l = length-drop marker-width (bits-in ws) in
-        let e : offset (h .n) (h .root) cells ≡ bits-needed (n-in (old-bits ws)) = rw its-fields (k .end) in
+        let e : offset (h .n) (h .root) cells ≡ bits-needed (n-in (behind-marker ws)) = rw its-fields (k .end) in
         let f = w .header in
         record {
           inside = omega (arith, k .fits, length-bits-in ws);
@@ -130,14 +130,14 @@ module _ (ws : List ℕ) (h : Header) (q : h ≡ history-header-of ws) where
 
         its-rest : drop (c .end) (bits-in ws) ≡ behind-cells ws
         its-rest =
-            let e : c .end ≡ marker-width + bits-needed (n-in (old-bits ws)) = cells-end ∙ rw (its-fields, known .end) in
-            rw e (sym (drop-drop (bits-needed (n-in (old-bits ws))) marker-width (bits-in ws)))
+            let e : c .end ≡ marker-width + bits-needed (n-in (behind-marker ws)) = cells-end ∙ rw (its-fields, known .end) in
+            rw e (sym (drop-drop (bits-needed (n-in (behind-marker ws))) marker-width (bits-in ws)))
 
         same-weights : c .weights ≡ S .weights
         same-weights = k .all-weights y ∙ rw its-fields
 
         pub cells-long : length (c .weights) ≡ cells
-        cells-long = ap length same-weights ∙ weights-long-from (old-bits ws)
+        cells-long = ap length same-weights ∙ weights-long-from (behind-marker ws)
 
         same-marks : c .marks ≡ S .marks
         same-marks = k .all-marks y ∙ rw its-fields
@@ -160,7 +160,7 @@ module _ (ws : List ℕ) (h : Header) (q : h ≡ history-header-of ws) where
           pub all-opened : g .answer ≡ 0 → (b : Board) →
               b ≡ record { n = h .n; root = h .root; budget = h .budget; weights = c .weights; marks = c .marks; records = g .records; count = g .count } →
               answered-with 0 b ≡ history-opened ws
-          unfolding history-opened opened-by board-of history-model
+          unfolding history-opened opened-as board-of history-model
           all-opened o b e =
               let r : g .records ≡ stored (history-model ws .history) (replicate max-records blank-record) = x .all-records o ∙ rw its-rest in
               let m : g .count ≡ length (history-model ws .history) = x .its-count o ∙ rw its-rest (sym (history-length (count-in (behind-cells ws)) (drop count-width (behind-cells ws)) [] ∙ omega arith)) in

@@ -27,7 +27,7 @@ use Rattle.history_format.specs.RecordWidths.{count-width}
 use Rattle.history_format.specs.RecordBits.{record-length, replaced-in, record-refusal}
 use Rattle.history_format.specs.HistoryCard.{count-in, history-in, end-refusal, records-refusal, behind-refusal}
 use Rattle.history_format.proofs.RecordLaws.{whole}
-use Rattle.history_format.proofs.RecordLength.{longest-record, length-known, refusal-passed}
+use Rattle.history_format.proofs.RecordLength.{longest-record, record-length-most, refusal-passed}
 use Rattle.history_card.specs.Record.{Record-read}
 use Rattle.history_card.specs.Records.{no-history, Records-read}
 use Rattle.history_card.specs.declared.record.RecordRead.{RecordRead}
@@ -130,7 +130,7 @@ module _ (ws : List ℕ) (s : Instance) (start count : ℕ) where
             record {
               k-in = omega arith;
               at-in = read-within;
-              near = omega (arith, x .its-end z, g .near, length-known here);
+              near = omega (arith, x .its-end z, g .near, record-length-most here);
               read = replaced-in here ∷ g .read;
               read-many = ap suc (g .read-many) ∙ sym (add-one k);
               in-places = rw (g .in-places, x .said z, g .read-many);

@@ -1,4 +1,4 @@
--- What reading and writing a card with records gives. Assumes nothing.
+-- What reading and writing a history card gives. Assumes nothing.
 pub mod Marks
 pub mod Record
 pub mod Records

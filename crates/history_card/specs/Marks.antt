@@ -8,10 +8,13 @@ use Rattle.instance.specs.Cuts.{inside}
 use Rattle.card_format.specs.Widths.{mark-width}
 use Rattle.history_format.specs.HistoryCard.{max-history-card}
 
--- No record that is read begins behind this place: more than the bits of the longest card with records, so that places
--- can be counted in words.
+-- No record that is read begins behind this place, and no bit that is read is behind the other: more than the longest
+-- history card has, so that places are counted in words.
 abbrev pub last-place : ℕ
 last-place = 16 * max-history-card
+
+abbrev pub last-end : ℕ
+last-end = 32 * max-history-card
 
 -- the bits of the mark of a head, none if it is not in the set
 unfoldable pub one-mark : (heads marks head : ℕ) → List ℕ

@@ -1,4 +1,4 @@
-// Cards with records (02, A8: new cards), read and written: the bits of a card and a board's history. They are held
+// History cards (02, A8: new cards), read and written: the bits of a plain card and a board's history. They are held
 // against the definitions of the crate `history_format`.
 mod marks; // marks.rt: the marks of a record of several arcs, read and put
 pub mod open; // open.rt: a card of any bytes opened as a board, or refused
@@ -8,5 +8,5 @@ mod put; // put.rt: records put into a buffer
 mod widths; // widths.rt: the widths of what a record has
 pub mod write; // write.rt: a board written into the caller's buffer
 
-// The longest of them: 32 positions, and 200 groups fed from the console.
+// The longest of them: 32 vertices, and 200 records of 31 arcs of the root.
 pub const MAX_HISTORY_CARD: usize = 5174;

@@ -23,7 +23,7 @@ use instance::refusals::BAD_COUNT;
 use instance::refusals::BAD_LENGTH;
 use instance::refusals::CARD_SHORT;
 
-// Whether a card says that it has records.
+// Whether a card is a history card.
 pub fn is_history_card(card: &[u8]) -> bool
     ensures { λ r. ⌜ r ≡ is-history (now (card .entry)) ⌝ }
 {
@@ -33,7 +33,7 @@ pub fn is_history_card(card: &[u8]) -> bool
     bits::read_bits(card, 0, MARKER_WIDTH) == HISTORY_MARKER
 }
 
-// Refusals 1 to 5, and 2 for a card without records.
+// Refusals 1 to 5, and 2 for a plain card.
 fn read_header(card: &[u8]) -> Header
     ensures { λ r. ⌜ r ≡ history-header-of (now (card .entry)) ⌝ }
 {
@@ -64,7 +64,7 @@ fn refused(answer: u32) -> Answered
     Answered { answer, board }
 }
 
-// A card with records as a board; one without is refused with 2.
+// A history card as a board; a plain one is refused with 2.
 pub fn open_history(card: &[u8]) -> Answered
     ensures { λ r. ⌜ r ≡ history-opened (now (card .entry)) ⌝ }
 {

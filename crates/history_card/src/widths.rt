@@ -1,10 +1,10 @@
-// The widths of what a card with records has besides the bits of a card, in bits, as the program has them;
+// The widths of what a history card has besides the bits of a plain card, in bits, as the program has them;
 // specs/RecordWidths.antt of history_format has them for the contracts.
 use card::widths::BUDGET_WIDTH;
 use card::widths::MARK_WIDTH;
 use card::widths::N_WIDTH;
 
-// The field that tells such a card from others, and what stands there.
+// The field that tells a history card from a plain one, and what stands there.
 pub const MARKER_WIDTH: usize = N_WIDTH;
 
 pub const HISTORY_MARKER: u32 = 63;

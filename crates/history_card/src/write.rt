@@ -1,4 +1,4 @@
-// A board written as a card with records into the caller's buffer.
+// A board written as a history card into the caller's buffer.
 ghost use mathlib.Core.Path.{_≡_};
 ghost use mathlib.Core.Bool.{true};
 ghost use lib.ListN.{length};

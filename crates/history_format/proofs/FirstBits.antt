@@ -12,7 +12,7 @@ use Rattle.base.proofs.ListLaws.{tabulate-is}
 use Rattle.bits.specs.Bits.{field}
 use Rattle.instance.specs.Limits.{no-arc, free, cells}
 use Rattle.card_format.specs.Widths.{n-width, root-width, budget-width, header-width, weight-width, mark-width, cell-width}
-use Rattle.card_format.specs.Card.{n-in, root-in, on-card, cell-fields, instance-from}
+use Rattle.card_format.specs.Card.{n-in, root-in, on-card, cell-fields, instance-of-bits}
 use Rattle.card_format.specs.Offsets.{offset, cell-field}
 use Rattle.card_format.proofs.OffsetLaws.{offset-within}
 use Rattle.card_format.proofs.CellLaws.{fields-by-index, length-fields, field-at}
@@ -38,7 +38,7 @@ module _ (n r a w o : ℕ) (xs zs : List ℕ) (narrow : a + w ≤ cell-width) (f
       ∙ sym (fields-by-index a w o n r xs)
 
 pub instance-front : (xs zs : List ℕ) → header-width ≤ length xs → offset (n-in xs) (root-in xs) cells ≤ length xs →
-    instance-from (xs ++ zs) ≡ instance-from xs
+    instance-of-bits (xs ++ zs) ≡ instance-of-bits xs
 instance-front xs zs h f =
     rw (
       field-front 0 n-width xs zs (omega arith),

@@ -25,7 +25,7 @@ use Rattle.history_format.specs.RecordBits.{kind-in, heads-in, mark-offs
 use Rattle.history_format.specs.HistoryCard.{count-in, end-refusal, records-refusal, behind-refusal}
 use Rattle.history_format.proofs.FirstBits.{field-front}
 use Rattle.history_format.proofs.MemberMarks.{offset-most}
-use Rattle.history_format.proofs.RecordLength.{longest-record, length-known, longest-valid, read-short}
+use Rattle.history_format.proofs.RecordLength.{longest-record, record-length-most, longest-valid, read-short}
 
 -- ONE RECORD
 module _ (ts zs : List ℕ) (long : longest-record ≤ length ts) where
@@ -67,7 +67,7 @@ module _ (ts zs : List ℕ) (long : longest-record ≤ length ts) where
   form-front : form-refusal (ts ++ zs) ≡ form-refusal ts
   unfolding form-refusal
   form-front =
-      let most = length-known ts in
+      let most = record-length-most ts in
       let longer : record-length ts ≤ length (ts ++ zs) = omega (arith, length-append ts zs) in
       rw (record-length-front, kind-front, le-ltb (length (ts ++ zs)) (record-length ts) longer, le-ltb (length ts) (record-length ts) (omega arith))
 

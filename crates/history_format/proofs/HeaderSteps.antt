@@ -11,28 +11,28 @@ use borrow.Author.Tests.{ltb-false, leb-false, eqb-false, not-false}
 use Rattle.base.proofs.BoolLaws.{or-false-left, or-false-right, passed}
 use Rattle.instance.specs.Limits.{max-vertices, max-budget, max-records, cells}
 use Rattle.instance.specs.Refusals.{card-short, bad-count, bad-length, bad-root, bad-card-budget}
-use Rattle.card_format.specs.Card.{n-in, root-in, budget-in, bits-needed, min-card, instance-from, cells-refusal}
+use Rattle.card_format.specs.Card.{n-in, root-in, budget-in, bits-needed, min-card, instance-of-bits, cells-refusal}
 use Rattle.card_format.specs.Offsets.{offset}
 use Rattle.card_format.proofs.OffsetLaws.{offset-end}
 use Rattle.card_format.proofs.CellLaws.{first-passes}
 use Rattle.history_format.specs.RecordWidths.{count-width}
-use Rattle.history_format.specs.HistoryCard.{is-history, old-bits, behind-cells, count-in, records-refusal, behind-refusal, history-header-refusal, history-refusal}
+use Rattle.history_format.specs.HistoryCard.{is-history, behind-marker, behind-cells, count-in, records-refusal, behind-refusal, history-header-refusal, history-refusal}
 
 -- A HEADER THAT PASSES
 pub record History-header-known (ws : List ℕ) : Type 0 where
   pub long : min-card ≤ length ws
   pub kind : is-history ws ≡ true
-  pub n-low : 1 ≤ n-in (old-bits ws)
-  pub n-high : n-in (old-bits ws) ≤ max-vertices
-  pub fits : bits-needed (n-in (old-bits ws)) ≤ length (old-bits ws)
-  pub root-low : root-in (old-bits ws) < n-in (old-bits ws)
-  pub budget-low : budget-in (old-bits ws) ≤ max-budget
-  pub end : offset (n-in (old-bits ws)) (root-in (old-bits ws)) cells ≡ bits-needed (n-in (old-bits ws))
+  pub n-low : 1 ≤ n-in (behind-marker ws)
+  pub n-high : n-in (behind-marker ws) ≤ max-vertices
+  pub fits : bits-needed (n-in (behind-marker ws)) ≤ length (behind-marker ws)
+  pub root-low : root-in (behind-marker ws) < n-in (behind-marker ws)
+  pub budget-low : budget-in (behind-marker ws) ≤ max-budget
+  pub end : offset (n-in (behind-marker ws)) (root-in (behind-marker ws)) cells ≡ bits-needed (n-in (behind-marker ws))
 
 pub history-header-known : (ws : List ℕ) → history-header-refusal ws 0 ≡ 0 → History-header-known ws
 unfolding history-header-refusal
 history-header-known ws e =
-    let bs = old-bits ws in
+    let bs = behind-marker ws in
     let n = n-in bs in
     let a = passed (ltb (length ws) min-card) 0 _ e in
     let k = passed (not (is-history ws)) 1 _ (a .1) in
@@ -70,7 +70,7 @@ pub history-header-first : (ws : List ℕ) (rest : ℕ) →
     history-header-refusal ws rest ≡ cond (eqb (history-header-refusal ws 0) 0) rest (history-header-refusal ws 0)
 unfolding history-header-refusal
 history-header-first ws rest =
-    let bs = old-bits ws in
+    let bs = behind-marker ws in
     let n = n-in bs in
     steps (ltb (length ws) min-card) (not (is-history ws)) (eqb n 0 || ltb max-vertices n) (ltb (length bs) (bits-needed n)) (leb n (root-in bs))
     (ltb max-budget (budget-in bs)) rest
@@ -78,7 +78,7 @@ history-header-first ws rest =
 -- the refusals of the cells, of the count and of the records, once the header passes
 abbrev pub history-rest : (card : List ℕ) → ℕ
 history-rest ws =
-    let s = instance-from (old-bits ws) in
+    let s = instance-of-bits (behind-marker ws) in
     let c = cells-refusal (s .weights) (s .marks) in
     cond (eqb c 0) (behind-refusal s (behind-cells ws)) c
 
@@ -90,15 +90,15 @@ history-by-steps ws = history-header-first ws (history-rest ws)
 -- A HISTORY CARD THAT OPENS
 pub record History-opens (ws : List ℕ) : Type 0 where
   pub header : History-header-known ws
-  pub cells-pass : cells-refusal (instance-from (old-bits ws) .weights) (instance-from (old-bits ws) .marks) ≡ 0
+  pub cells-pass : cells-refusal (instance-of-bits (behind-marker ws) .weights) (instance-of-bits (behind-marker ws) .marks) ≡ 0
   pub counted : count-width ≤ length (behind-cells ws)
   pub few : count-in (behind-cells ws) ≤ max-records
-  pub records-pass : records-refusal (count-in (behind-cells ws)) (instance-from (old-bits ws)) (drop count-width (behind-cells ws)) ≡ 0
+  pub records-pass : records-refusal (count-in (behind-cells ws)) (instance-of-bits (behind-marker ws)) (drop count-width (behind-cells ws)) ≡ 0
 
 pub history-opens : (ws : List ℕ) → history-refusal ws ≡ 0 → History-opens ws
 unfolding behind-refusal
 history-opens ws e =
-    let s = instance-from (old-bits ws) in
+    let s = instance-of-bits (behind-marker ws) in
     let bs = behind-cells ws in
     let a = first-passes (history-header-refusal ws 0) (history-rest ws) (sym (history-by-steps ws) ∙ e) in
     let b = first-passes (cells-refusal (s .weights) (s .marks)) (behind-refusal s bs) (a .1) in

@@ -26,7 +26,7 @@ use Rattle.instance.specs.Refusals.{bad-filling}
 use Rattle.instance.specs.Instance.{Instance}
 use Rattle.instance.specs.Valid.{valid-instance}
 use Rattle.card_format.specs.Widths.{weight-width, mark-width}
-use Rattle.card_format.specs.Card.{n-in, root-in, bits-needed, instance-from, instance-in, instance-bits}
+use Rattle.card_format.specs.Card.{n-in, root-in, bits-needed, instance-of-bits, instance-in, instance-bits}
 use Rattle.card_format.specs.Offsets.{cell-field}
 use Rattle.card_format.proofs.CellLaws.{length-fields, field-at}
 use Rattle.card_format.proofs.OpensLaws.{card-valid}
@@ -34,7 +34,7 @@ use Rattle.commands.specs.Model.{Replaced, opened}
 use Rattle.commands.specs.Valid.{record-ok, valid}
 use Rattle.commands.proofs.ValidLaws.{opened-valid}
 use Rattle.history_format.specs.RecordWidths.{marker-width, history-marker, count-width}
-use Rattle.history_format.specs.HistoryCard.{is-history, old-bits, behind-cells, count-in, history-in, history-model, end-refusal, history-refusal, open-refusal, model-in, records-bits, history-bits, history-bytes, history-card-of}
+use Rattle.history_format.specs.HistoryCard.{is-history, behind-marker, behind-cells, count-in, history-in, history-model, end-refusal, history-refusal, open-refusal, model-in, records-bits, history-bits, history-bytes, history-card-of}
 use Rattle.history_format.proofs.HeaderSteps.{History-opens, history-opens}
 use Rattle.history_format.proofs.InnerCard.{old-are-bits, inner-valid, inner-written}
 use Rattle.history_format.proofs.HistoryLaws.{All-shaped, rest-in, history-length, history-shaped, rest-passes, history-ok, history-again}
@@ -54,11 +54,11 @@ end-passes bs e =
 behind-are-bits : (ws : List ℕ) → are-bits (drop count-width (behind-cells ws)) ≡ true
 behind-are-bits ws =
     all-of-drop (λ b. ltb b 2) count-width (behind-cells ws)
-    (all-of-drop (λ b. ltb b 2) (bits-needed (n-in (old-bits ws))) (old-bits ws) (old-are-bits ws))
+    (all-of-drop (λ b. ltb b 2) (bits-needed (n-in (behind-marker ws))) (behind-marker ws) (old-are-bits ws))
 
 module _ (ws : List ℕ) (o : History-opens ws) where
   abbrev s : Instance
-  s = instance-from (old-bits ws)
+  s = instance-of-bits (behind-marker ws)
 
   abbrev k : ℕ
   k = count-in (behind-cells ws)
@@ -83,12 +83,12 @@ module _ (ws : List ℕ) (o : History-opens ws) where
   count-again : bits-of count-width (length h) ++ records ≡ behind-cells ws
   count-again =
       rw count-known
-      (field-written 0 count-width (behind-cells ws) (all-of-drop (λ b. ltb b 2) (bits-needed (n-in (old-bits ws))) (old-bits ws) (old-are-bits ws)) (o .counted))
+      (field-written 0 count-width (behind-cells ws) (all-of-drop (λ b. ltb b 2) (bits-needed (n-in (behind-marker ws))) (behind-marker ws) (old-are-bits ws)) (o .counted))
 
-  old-again : instance-bits s ++ behind-cells ws ≡ old-bits ws
-  old-again = rw (inner-written ws (o .header) (o .cells-pass)) (take-append-drop (bits-needed (n-in (old-bits ws))) (old-bits ws))
+  old-again : instance-bits s ++ behind-cells ws ≡ behind-marker ws
+  old-again = rw (inner-written ws (o .header) (o .cells-pass)) (take-append-drop (bits-needed (n-in (behind-marker ws))) (behind-marker ws))
 
-  marker-again : bits-of marker-width history-marker ++ old-bits ws ≡ bits-in ws
+  marker-again : bits-of marker-width history-marker ++ behind-marker ws ≡ bits-in ws
   unfolding is-history
   marker-again =
       let q : field 0 marker-width (bits-in ws) ≡ history-marker = eqb-true (field 0 marker-width (bits-in ws)) history-marker (o .header .kind) in
@@ -143,7 +143,7 @@ pub history-model-shaped : (ws : List ℕ) → All-shaped (history-model ws .his
 unfolding history-model
 history-model-shaped ws = history-shaped (count-in (behind-cells ws)) (drop count-width (behind-cells ws)) [] (behind-are-bits ws) tt
 
-bits-as-read : (bs : List ℕ) → As-read (instance-from bs)
+bits-as-read : (bs : List ℕ) → As-read (instance-of-bits bs)
 unfolding cell-field
 bits-as-read bs =
     let n = n-in bs in
@@ -157,7 +157,7 @@ bits-as-read bs =
 
 pub history-model-as-read : (ws : List ℕ) → As-read (history-model ws .instance)
 unfolding history-model
-history-model-as-read ws = bits-as-read (old-bits ws)
+history-model-as-read ws = bits-as-read (behind-marker ws)
 
 pub card-as-read : (ws : List ℕ) → As-read (instance-in ws)
 unfolding instance-in

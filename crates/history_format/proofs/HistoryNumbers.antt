@@ -20,19 +20,19 @@ use Rattle.instance.specs.Limits.{max-vertices, max-weight, max-budget, no-arc,
 use Rattle.instance.specs.Refusals.{card-short, bad-count, bad-length, bad-root, bad-card-budget, bad-weight, bad-mark, bad-filling, bad-record, has-records}
 use Rattle.instance.specs.Instance.{Instance}
 use Rattle.card_format.specs.Widths.{header-width, weight-width, cell-width}
-use Rattle.card_format.specs.Card.{n-in, root-in, budget-in, on-card, bits-needed, bytes-needed, min-card, unused-mark, cell-fields, instance-from, instance-in, cell-refusal, cells-refusal, header-refusal, card-refusal}
+use Rattle.card_format.specs.Card.{n-in, root-in, budget-in, on-card, bits-needed, bytes-needed, min-card, unused-mark, cell-fields, instance-of-bits, instance-in, cell-refusal, cells-refusal, header-refusal, card-refusal}
 use Rattle.commands.specs.Valid.{record-ok}
 use Rattle.history_format.specs.RecordWidths.{count-width}
 use Rattle.history_format.specs.RecordBits.{kind-in, record-length, replaced-in, form-refusal, record-refusal}
-use Rattle.history_format.specs.HistoryCard.{is-history, old-bits, behind-cells, count-in, history-model, end-refusal, records-refusal, behind-refusal, history-header-refusal, history-refusal, open-refusal, plain-refusal}
+use Rattle.history_format.specs.HistoryCard.{is-history, behind-marker, behind-cells, count-in, history-model, end-refusal, records-refusal, behind-refusal, history-header-refusal, history-refusal, open-refusal, to-plain-refusal}
 use Rattle.history_format.proofs.InnerCard.{old-are-bits}
 
 unfoldable pub history-numbers : List ℕ
 history-numbers = 0 ∷ card-short ∷ bad-count ∷ bad-length ∷ bad-root ∷ bad-card-budget ∷ bad-mark ∷ bad-filling ∷ bad-record ∷ []
 
 -- of a move to an old card
-unfoldable pub plain-numbers : List ℕ
-plain-numbers = has-records ∷ history-numbers
+unfoldable pub to-plain-numbers : List ℕ
+to-plain-numbers = has-records ∷ history-numbers
 
 abbrev pub listed : (answer : ℕ) → Bool
 listed k = any-of (eqb k) history-numbers
@@ -72,7 +72,7 @@ cells-from n r (suc k) i bs (m ∷ ms) b =
     either-listed (eqb (cell-refusal w m) 0) _ (cell-refusal w m) (cells-from n r k (suc i) _ ms (next-are-bits (on-card n r i) bs b))
     (cell-listed w m (weight-below (on-card n r i) bs b))
 
-cells-listed : (bs : List ℕ) → are-bits bs ≡ true → listed (cells-refusal (instance-from bs .weights) (instance-from bs .marks)) ≡ true
+cells-listed : (bs : List ℕ) → are-bits bs ≡ true → listed (cells-refusal (instance-of-bits bs .weights) (instance-of-bits bs .marks)) ≡ true
 cells-listed bs b = cells-from (n-in bs) (root-in bs) cells 0 (drop header-width bs) _ (all-of-drop (λ b. ltb b 2) header-width bs b)
 
 -- RECORDS
@@ -106,9 +106,9 @@ behind-listed s bs =
 pub history-listed : (ws : List ℕ) → any-of (eqb (history-refusal ws)) history-numbers ≡ true
 unfolding history-refusal history-header-refusal history-numbers any-of
 history-listed ws =
-    let bs = old-bits ws in
+    let bs = behind-marker ws in
     let n = n-in bs in
-    let s = instance-from bs in
+    let s = instance-of-bits bs in
     let c = cells-refusal (s .weights) (s .marks) in
     either-listed (ltb (length ws) min-card) card-short _ refl
     (either-listed (not (is-history ws)) bad-count _ refl
@@ -123,7 +123,7 @@ unfolding card-refusal header-refusal instance-in history-numbers any-of
 card-listed ws =
     let bs = bits-in ws in
     let n = n-in bs in
-    let s = instance-from bs in
+    let s = instance-of-bits bs in
     let c = cells-refusal (s .weights) (s .marks) in
     either-listed (ltb (length ws) min-card) card-short _ refl
     (either-listed (eqb n 0 || ltb max-vertices n) bad-count _ refl
@@ -137,18 +137,18 @@ pub open-listed : (ws : List ℕ) → any-of (eqb (open-refusal ws)) history-num
 unfolding open-refusal
 open-listed ws = either-listed (is-history ws) (history-refusal ws) (card-refusal ws) (history-listed ws) (card-listed ws)
 
-plain-either : (b : Bool) (x y : ℕ) → any-of (eqb x) plain-numbers ≡ true → any-of (eqb y) plain-numbers ≡ true →
-    any-of (eqb (cond b x y)) plain-numbers ≡ true
+plain-either : (b : Bool) (x y : ℕ) → any-of (eqb x) to-plain-numbers ≡ true → any-of (eqb y) to-plain-numbers ≡ true →
+    any-of (eqb (cond b x y)) to-plain-numbers ≡ true
 plain-either true x y p q = p
 plain-either false x y p q = q
 
-listed-plain : (k : ℕ) → listed k ≡ true → any-of (eqb k) plain-numbers ≡ true
-unfolding plain-numbers any-of
+listed-plain : (k : ℕ) → listed k ≡ true → any-of (eqb k) to-plain-numbers ≡ true
+unfolding to-plain-numbers any-of
 listed-plain k e = or-right (eqb k has-records) (listed k) e
 
-pub plain-listed : (ws : List ℕ) → any-of (eqb (plain-refusal ws)) plain-numbers ≡ true
-unfolding plain-refusal plain-numbers history-numbers any-of
-plain-listed ws =
+pub to-plain-listed : (ws : List ℕ) → any-of (eqb (to-plain-refusal ws)) to-plain-numbers ≡ true
+unfolding to-plain-refusal to-plain-numbers history-numbers any-of
+to-plain-listed ws =
     plain-either (eqb (history-refusal ws) 0) _ (history-refusal ws)
     (plain-either (eqb (length (history-model ws .history)) 0) 0 has-records refl refl)
     (listed-plain (history-refusal ws) (history-listed ws))
@@ -161,26 +161,26 @@ any-most k most (x ∷ xs) a e =
     ⊎-elim (λ (q : eqb k x ≡ true). let l = leb-true x most (all-of-first (λ y. leb y most) x xs a) in let z = eqb-true k x q in omega arith)
     (λ (q : any-of (eqb k) xs ≡ true). any-most k most xs (all-of-rest (λ y. leb y most) x xs a) q) (or-cases (eqb k x) (any-of (eqb k) xs) e)
 
-numbers-most : all-of (λ x. leb x has-records) plain-numbers ≡ true
-unfolding plain-numbers history-numbers all-of
+numbers-most : all-of (λ x. leb x has-records) to-plain-numbers ≡ true
+unfolding to-plain-numbers history-numbers all-of
 numbers-most = refl
 
-pub plain-refusal-most : (ws : List ℕ) → plain-refusal ws ≤ has-records
-plain-refusal-most ws = any-most (plain-refusal ws) has-records plain-numbers numbers-most (plain-listed ws)
+pub to-plain-refusal-most : (ws : List ℕ) → to-plain-refusal ws ≤ has-records
+to-plain-refusal-most ws = any-most (to-plain-refusal ws) has-records to-plain-numbers numbers-most (to-plain-listed ws)
 
 pub history-refusal-most : (ws : List ℕ) → history-refusal ws ≤ has-records
-history-refusal-most ws = any-most (history-refusal ws) has-records plain-numbers numbers-most (listed-plain (history-refusal ws) (history-listed ws))
+history-refusal-most ws = any-most (history-refusal ws) has-records to-plain-numbers numbers-most (listed-plain (history-refusal ws) (history-listed ws))
 
 pub open-refusal-most : (ws : List ℕ) → open-refusal ws ≤ has-records
-open-refusal-most ws = any-most (open-refusal ws) has-records plain-numbers numbers-most (listed-plain (open-refusal ws) (open-listed ws))
+open-refusal-most ws = any-most (open-refusal ws) has-records to-plain-numbers numbers-most (listed-plain (open-refusal ws) (open-listed ws))
 
 -- "6 is retired" (02, A9)
-no-six : (k : ℕ) → any-of (eqb k) plain-numbers ≡ true → k ≡ 6 → ⊥
-unfolding plain-numbers history-numbers any-of
+no-six : (k : ℕ) → any-of (eqb k) to-plain-numbers ≡ true → k ≡ 6 → ⊥
+unfolding to-plain-numbers history-numbers any-of
 no-six k l e = true≢false (sym l ∙ rw e)
 
 pub open-six-retired : (ws : List ℕ) → open-refusal ws ≡ 6 → ⊥
 open-six-retired ws = no-six (open-refusal ws) (listed-plain (open-refusal ws) (open-listed ws))
 
-pub plain-six-retired : (ws : List ℕ) → plain-refusal ws ≡ 6 → ⊥
-plain-six-retired ws = no-six (plain-refusal ws) (plain-listed ws)
+pub to-plain-six-retired : (ws : List ℕ) → to-plain-refusal ws ≡ 6 → ⊥
+to-plain-six-retired ws = no-six (to-plain-refusal ws) (to-plain-listed ws)

@@ -23,24 +23,24 @@ use Rattle.instance.specs.Limits.{no-arc, free, cells}
 use Rattle.instance.specs.Instance.{Instance}
 use Rattle.instance.specs.Valid.{valid-instance}
 use Rattle.card_format.specs.Widths.{n-width, root-width, budget-width, header-width, weight-width, mark-width}
-use Rattle.card_format.specs.Card.{n-in, root-in, budget-in, bits-needed, bytes-needed, min-card, instance-from, instance-in, cells-refusal, header-refusal, card-refusal, instance-bits, filling-bits, card-of}
+use Rattle.card_format.specs.Card.{n-in, root-in, budget-in, bits-needed, bytes-needed, min-card, instance-of-bits, instance-in, cells-refusal, header-refusal, card-refusal, instance-bits, filling-bits, card-of}
 use Rattle.card_format.proofs.LengthLaws.{length-known}
 use Rattle.card_format.proofs.CellLaws.{length-fields}
 use Rattle.card_format.proofs.OpensLaws.{card-valid}
 use Rattle.card_format.proofs.WrittenBits.{length-instance-bits, instance-are-bits}
 use Rattle.card_format.proofs.CardAgain.{card-round-trip}
 use Rattle.history_format.specs.RecordWidths.{marker-width}
-use Rattle.history_format.specs.HistoryCard.{old-bits}
+use Rattle.history_format.specs.HistoryCard.{behind-marker}
 use Rattle.history_format.proofs.FirstBits.{field-front, instance-front}
 use Rattle.history_format.proofs.HeaderSteps.{History-header-known}
 
 -- the bits of the old card: "the bits of the old card without filling"
 abbrev pub inner-bits : (card : List ℕ) → List ℕ
-inner-bits ws = take (bits-needed (n-in (old-bits ws))) (old-bits ws)
+inner-bits ws = take (bits-needed (n-in (behind-marker ws))) (behind-marker ws)
 
 -- and the old card that has these bits
 unfoldable pub inner-card : (card : List ℕ) → List ℕ
-inner-card ws = let n = n-in (old-bits ws) in packed (bytes-needed n) (inner-bits ws ++ filling-bits n)
+inner-card ws = let n = n-in (behind-marker ws) in packed (bytes-needed n) (inner-bits ws ++ filling-bits n)
 
 -- bits are packed into bytes
 packed-bytes : (k : ℕ) (bs : List ℕ) → are-bits bs ≡ true → are-bytes (packed k bs) ≡ true
@@ -57,30 +57,30 @@ or-zero : (c : ℕ) → cond (not (eqb c 0)) c 0 ≡ c
 or-zero zero = refl
 or-zero (suc c) = rw (ne-eqb (suc c) 0 (λ z. omega arith))
 
-pub old-are-bits : (ws : List ℕ) → are-bits (old-bits ws) ≡ true
+pub old-are-bits : (ws : List ℕ) → are-bits (behind-marker ws) ≡ true
 old-are-bits ws = all-of-drop (λ b. ltb b 2) marker-width (bits-in ws) (bits-in-are-bits ws)
 
 -- lists are as long as the old card's, whatever the bits are
 module _ (bs : List ℕ) where
-  pub weights-long-from : length (instance-from bs .weights) ≡ cells
+  pub weights-long-from : length (instance-of-bits bs .weights) ≡ cells
   weights-long-from = length-fields 0 weight-width no-arc (n-in bs) (root-in bs) bs
 
-  pub marks-long-from : length (instance-from bs .marks) ≡ cells
+  pub marks-long-from : length (instance-of-bits bs .marks) ≡ cells
   marks-long-from = length-fields weight-width mark-width free (n-in bs) (root-in bs) bs
 
 module _ (ws : List ℕ) (h : History-header-known ws) where
   abbrev n : ℕ
-  n = n-in (old-bits ws)
+  n = n-in (behind-marker ws)
 
   abbrev s : Instance
-  s = instance-from (old-bits ws)
+  s = instance-of-bits (behind-marker ws)
 
   -- THE BITS
   pub inner-long : length (inner-bits ws) ≡ bits-needed n
-  inner-long = length-take-le (bits-needed n) (old-bits ws) (h .fits)
+  inner-long = length-take-le (bits-needed n) (behind-marker ws) (h .fits)
 
   inner-are-bits : are-bits (inner-bits ws) ≡ true
-  inner-are-bits = all-of-take (λ b. ltb b 2) (bits-needed n) (old-bits ws) (old-are-bits ws)
+  inner-are-bits = all-of-take (λ b. ltb b 2) (bits-needed n) (behind-marker ws) (old-are-bits ws)
 
   whole-long : (bs : List ℕ) → length bs ≡ bits-needed n → length (bs ++ filling-bits n) ≡ 8 * bytes-needed n
   whole-long bs e =
@@ -102,17 +102,17 @@ module _ (ws : List ℕ) (h : History-header-known ws) where
 
   -- READ ALIKE
   -- the bits that stood on the card, and those that followed them
-  split : inner-bits ws ++ drop (bits-needed n) (old-bits ws) ≡ old-bits ws
-  split = take-append-drop (bits-needed n) (old-bits ws)
+  split : inner-bits ws ++ drop (bits-needed n) (behind-marker ws) ≡ behind-marker ws
+  split = take-append-drop (bits-needed n) (behind-marker ws)
 
   -- a field of the header
-  header-field : (a w : ℕ) → a + w ≤ header-width → field a w (inner-bits ws) ≡ field a w (old-bits ws)
+  header-field : (a w : ℕ) → a + w ≤ header-width → field a w (inner-bits ws) ≡ field a w (behind-marker ws)
   header-field a w l =
       let k = length-known n (h .n-high) in
-      sym (field-front a w (inner-bits ws) (drop (bits-needed n) (old-bits ws)) (omega (arith, inner-long, k .header)))
+      sym (field-front a w (inner-bits ws) (drop (bits-needed n) (behind-marker ws)) (omega (arith, inner-long, k .header)))
       ∙ ap (λ (bs : List ℕ). field a w bs) split
 
-  inner-field : (a w : ℕ) → a + w ≤ header-width → field a w (bits-in (inner-card ws)) ≡ field a w (old-bits ws)
+  inner-field : (a w : ℕ) → a + w ≤ header-width → field a w (bits-in (inner-card ws)) ≡ field a w (behind-marker ws)
   inner-field a w l =
       let k = length-known n (h .n-high) in
       ap (λ (bs : List ℕ). field a w bs) inner-bits-in
@@ -122,14 +122,14 @@ module _ (ws : List ℕ) (h : History-header-known ws) where
   pub inner-n : n-in (bits-in (inner-card ws)) ≡ n
   inner-n = inner-field 0 n-width (omega arith)
 
-  pub inner-root : root-in (bits-in (inner-card ws)) ≡ root-in (old-bits ws)
+  pub inner-root : root-in (bits-in (inner-card ws)) ≡ root-in (behind-marker ws)
   inner-root = inner-field n-width root-width (omega arith)
 
-  pub inner-budget : budget-in (bits-in (inner-card ws)) ≡ budget-in (old-bits ws)
+  pub inner-budget : budget-in (bits-in (inner-card ws)) ≡ budget-in (behind-marker ws)
   inner-budget = inner-field (n-width + root-width) budget-width (omega arith)
 
   -- what the bits say whatever follows them
-  followed : (zs : List ℕ) → instance-from (inner-bits ws ++ zs) ≡ instance-from (inner-bits ws)
+  followed : (zs : List ℕ) → instance-of-bits (inner-bits ws ++ zs) ≡ instance-of-bits (inner-bits ws)
   followed zs =
       let k = length-known n (h .n-high) in
       instance-front (inner-bits ws) zs (omega (arith, inner-long, k .header))
@@ -138,10 +138,10 @@ module _ (ws : List ℕ) (h : History-header-known ws) where
   pub inner-instance : instance-in (inner-card ws) ≡ s
   unfolding instance-in
   inner-instance =
-      ap (λ (bs : List ℕ). instance-from bs) inner-bits-in
+      ap (λ (bs : List ℕ). instance-of-bits bs) inner-bits-in
       ∙ followed (filling-bits n)
-      ∙ sym (followed (drop (bits-needed n) (old-bits ws)))
-      ∙ ap (λ (bs : List ℕ). instance-from bs) split
+      ∙ sym (followed (drop (bits-needed n) (behind-marker ws)))
+      ∙ ap (λ (bs : List ℕ). instance-of-bits bs) split
 
   -- JUDGED ALIKE
   inner-filled : drop (bits-needed n) (bits-in (inner-card ws)) ≡ filling-bits n

@@ -24,10 +24,10 @@ use Rattle.instance.specs.Limits.{max-vertices, max-records}
 use Rattle.instance.specs.Refusals.{bad-count, bad-length}
 use Rattle.instance.specs.Instance.{Instance}
 use Rattle.card_format.specs.Widths.{n-width, root-width, budget-width}
-use Rattle.card_format.specs.Card.{n-in, bits-needed, min-card, instance-from, cells-refusal}
-use Rattle.card_format.proofs.TooLong.{too-long-refused as old-refused, too-long-by-part as old-by-part}
+use Rattle.card_format.specs.Card.{n-in, bits-needed, min-card, instance-of-bits, cells-refusal}
+use Rattle.card_format.proofs.TooLong.{too-long-refused, too-long-by-part}
 use Rattle.history_format.specs.RecordWidths.{marker-width, count-width}
-use Rattle.history_format.specs.HistoryCard.{is-history, old-bits, behind-cells, count-in, max-history-card, behind-refusal, history-header-refusal, history-refusal, open-refusal}
+use Rattle.history_format.specs.HistoryCard.{is-history, behind-marker, behind-cells, count-in, max-history-card, behind-refusal, history-header-refusal, history-refusal, open-refusal}
 use Rattle.history_format.proofs.FirstBits.{field-front, instance-front}
 use Rattle.history_format.proofs.HeaderSteps.{History-header-known, history-header-known, history-rest, history-by-steps, history-opens}
 use Rattle.history_format.proofs.InnerCard.{old-are-bits}
@@ -44,23 +44,23 @@ needed-most n h = let m : (n - 1) * (n - 1) ≤ 31 * 31 = mul-le-mul {n₂ = 31}
 -- WHAT IS LEFT of so many bytes
 module _ (vs : List ℕ) (h : max-history-card < length vs) where
   -- behind the six bits
-  old-long : most-bits + count-width + room max-records ≤ length (old-bits vs)
+  old-long : most-bits + count-width + room max-records ≤ length (behind-marker vs)
   old-long = rw (length-drop marker-width (bits-in vs)) (omega (arith, length-bits-in vs))
 
   -- behind the cells
-  behind-long : n-in (old-bits vs) ≤ max-vertices → count-width + room max-records ≤ length (behind-cells vs)
+  behind-long : n-in (behind-marker vs) ≤ max-vertices → count-width + room max-records ≤ length (behind-cells vs)
   behind-long few =
-      rw (length-drop (bits-needed (n-in (old-bits vs))) (old-bits vs)) (omega (arith, old-long, needed-most (n-in (old-bits vs)) few))
+      rw (length-drop (bits-needed (n-in (behind-marker vs))) (behind-marker vs)) (omega (arith, old-long, needed-most (n-in (behind-marker vs)) few))
 
   behind-are-bits : are-bits (behind-cells vs) ≡ true
-  behind-are-bits = all-of-drop (λ b. ltb b 2) (bits-needed (n-in (old-bits vs))) (old-bits vs) (old-are-bits vs)
+  behind-are-bits = all-of-drop (λ b. ltb b 2) (bits-needed (n-in (behind-marker vs))) (behind-marker vs) (old-are-bits vs)
 
   history-refused : history-refusal vs ≡ 0 → ⊥
   history-refused e =
       let o = history-opens vs e in
       let few = o .few in
       let long = behind-long (o .header .n-high) in
-      records-refused (instance-from (old-bits vs)) (o .header .n-high) (count-in (behind-cells vs)) (drop count-width (behind-cells vs))
+      records-refused (instance-of-bits (behind-marker vs)) (o .header .n-high) (count-in (behind-cells vs)) (drop count-width (behind-cells vs))
       (all-of-drop (λ b. ltb b 2) count-width (behind-cells vs) behind-are-bits) (rw (length-drop count-width (behind-cells vs)) (omega arith)) (o .records-pass)
 
 -- the refusals of the cells and of what is behind them
@@ -79,24 +79,24 @@ module _ (ws vs zs : List ℕ) (e : bits-in ws ≡ bits-in vs ++ zs) (hw : max-h
   unfolding is-history
   kind-alike = rw (e, field-front 0 marker-width (bits-in vs) zs (omega (arith, length-bits-in vs)))
 
-  old-front : old-bits ws ≡ old-bits vs ++ zs
+  old-front : behind-marker ws ≡ behind-marker vs ++ zs
   old-front = rw e (drop-append-le marker-width (bits-in vs) zs (omega (arith, length-bits-in vs)))
 
-  n-front : n-in (old-bits vs ++ zs) ≡ n-in (old-bits vs)
-  n-front = field-front 0 n-width (old-bits vs) zs (omega (arith, old-long vs hv))
+  n-front : n-in (behind-marker vs ++ zs) ≡ n-in (behind-marker vs)
+  n-front = field-front 0 n-width (behind-marker vs) zs (omega (arith, old-long vs hv))
 
-  both-fit : eqb (n-in (old-bits vs)) 0 || ltb max-vertices (n-in (old-bits vs)) ≡ false →
-      ltb (length (old-bits vs ++ zs)) (bits-needed (n-in (old-bits vs))) ≡ ltb (length (old-bits vs)) (bits-needed (n-in (old-bits vs)))
+  both-fit : eqb (n-in (behind-marker vs)) 0 || ltb max-vertices (n-in (behind-marker vs)) ≡ false →
+      ltb (length (behind-marker vs ++ zs)) (bits-needed (n-in (behind-marker vs))) ≡ ltb (length (behind-marker vs)) (bits-needed (n-in (behind-marker vs)))
   both-fit q =
-      let n = n-in (old-bits vs) in
+      let n = n-in (behind-marker vs) in
       let few = needed-most n (ltb-false max-vertices n (or-false-right (eqb n 0) (ltb max-vertices n) q)) in
       let long = old-long vs hv in
-      rw (le-ltb (length (old-bits vs)) (bits-needed n) (omega arith)) (le-ltb (length (old-bits vs ++ zs)) (bits-needed n) (omega (arith, length-append (old-bits vs) zs)))
+      rw (le-ltb (length (behind-marker vs)) (bits-needed n) (omega arith)) (le-ltb (length (behind-marker vs ++ zs)) (bits-needed n) (omega (arith, length-append (behind-marker vs) zs)))
 
   header-alike : history-header-refusal ws 0 ≡ history-header-refusal vs 0
   unfolding history-header-refusal
   header-alike =
-      let bs = old-bits vs in
+      let bs = behind-marker vs in
       let n = n-in bs in
       rw (
         le-ltb (length ws) min-card (omega arith),
@@ -112,14 +112,14 @@ module _ (ws vs zs : List ℕ) (e : bits-in ws ≡ bits-in vs ++ zs) (hw : max-h
   rest-alike : History-header-known vs → history-rest ws ≡ history-rest vs
   unfolding rest-of
   rest-alike h =
-      let bs = old-bits vs in
+      let bs = behind-marker vs in
       let n = n-in bs in
-      let s : instance-from (old-bits ws) ≡ instance-from bs = rw old-front (instance-front bs zs (omega (arith, old-long vs hv)) (omega (arith, h .end, h .fits))) in
+      let s : instance-of-bits (behind-marker ws) ≡ instance-of-bits bs = rw old-front (instance-front bs zs (omega (arith, old-long vs hv)) (omega (arith, h .end, h .fits))) in
       let b : behind-cells ws ≡ behind-cells vs ++ zs = rw (old-front, n-front) (drop-append-le (bits-needed n) bs zs (h .fits)) in
-      let r : behind-refusal (instance-from bs) (behind-cells ws) ≡ behind-refusal (instance-from bs) (behind-cells vs) =
-      rw b (behind-front (instance-from bs) (h .n-high) (behind-cells vs) zs (behind-are-bits vs hv) (behind-long vs hv (h .n-high))) in
+      let r : behind-refusal (instance-of-bits bs) (behind-cells ws) ≡ behind-refusal (instance-of-bits bs) (behind-cells vs) =
+      rw b (behind-front (instance-of-bits bs) (h .n-high) (behind-cells vs) zs (behind-are-bits vs hv) (behind-long vs hv (h .n-high))) in
       ap (λ (i : Instance). rest-of i (behind-cells ws)) s
-      ∙ ap (λ (x : ℕ). let c = cells-refusal (instance-from bs .weights) (instance-from bs .marks) in cond (eqb c 0) x c) r
+      ∙ ap (λ (x : ℕ). let c = cells-refusal (instance-of-bits bs .weights) (instance-of-bits bs .marks) in cond (eqb c 0) x c) r
 
   history-alike : history-refusal ws ≡ history-refusal vs
   history-alike =
@@ -129,19 +129,19 @@ module _ (ws vs zs : List ℕ) (e : bits-in ws ≡ bits-in vs ++ zs) (hw : max-h
       rw (history-by-steps ws, history-by-steps vs, header-alike) r
 
 -- ANY CARD
-pub too-long-refused : (ws : List ℕ) → max-history-card < length ws → open-refusal ws ≡ 0 → ⊥
+pub long-refused : (ws : List ℕ) → max-history-card < length ws → open-refusal ws ≡ 0 → ⊥
 unfolding open-refusal
-too-long-refused ws h e =
-    ⊎-elim (λ (q : is-history ws ≡ true). history-refused ws h (rw q at e)) (λ (q : is-history ws ≡ false). old-refused ws (omega arith) (rw q at e))
+long-refused ws h e =
+    ⊎-elim (λ (q : is-history ws ≡ true). history-refused ws h (rw q at e)) (λ (q : is-history ws ≡ false). too-long-refused ws (omega arith) (rw q at e))
     (test (is-history ws))
 
 -- what is read of it may end anywhere behind the longest card
-pub too-long-by-part : (ws : List ℕ) (k : ℕ) → max-history-card ≤ k → max-history-card < length ws → open-refusal ws ≡ open-refusal (take (suc k) ws)
+pub long-by-part : (ws : List ℕ) (k : ℕ) → max-history-card ≤ k → max-history-card < length ws → open-refusal ws ≡ open-refusal (take (suc k) ws)
 unfolding open-refusal
-too-long-by-part ws k hk h =
+long-by-part ws k hk h =
     let vs = take (suc k) ws in
     let zs = bits-in (drop (suc k) ws) in
     let e : bits-in ws ≡ bits-in vs ++ zs = ap (λ (l : List ℕ). bits-in l) (sym (take-append-drop (suc k) ws)) ∙ bits-in-append vs (drop (suc k) ws) in
     let part = length-take (suc k) ws in
     let hv : max-history-card < length vs = omega arith in
-    rw (kind-alike ws vs zs e h hv, history-alike ws vs zs e h hv, old-by-part ws k (omega arith) (omega arith))
+    rw (kind-alike ws vs zs e h hv, history-alike ws vs zs e h hv, too-long-by-part ws k (omega arith) (omega arith))

@@ -26,7 +26,7 @@ use Rattle.instance.specs.Instance.{Instance, weight-at, mark-at}
 use Rattle.instance.specs.Valid.{valid-instance}
 use Rattle.instance.specs.Same.{Same-instance}
 use Rattle.card_format.specs.Widths.{n-width, root-width}
-use Rattle.card_format.specs.Card.{n-in, root-in, budget-in, on-card, bits-needed, bytes-needed, min-card, instance-from, instance-in, cells-refusal, instance-bits, filling-bits, card-of}
+use Rattle.card_format.specs.Card.{n-in, root-in, budget-in, on-card, bits-needed, bytes-needed, min-card, instance-of-bits, instance-in, cells-refusal, instance-bits, filling-bits, card-of}
 use Rattle.card_format.proofs.LengthLaws.{length-known}
 use Rattle.card_format.proofs.OffsetLaws.{offset-end}
 use Rattle.card_format.proofs.WrittenBits.{length-instance-bits, instance-are-bits}
@@ -38,7 +38,7 @@ use Rattle.commands.specs.SameBoard.{Same-board}
 use Rattle.commands.proofs.ValidLaws.{Valid, valid-fields, valid-parts}
 use Rattle.commands.proofs.SameBoardLaws.{record-ok-same}
 use Rattle.history_format.specs.RecordWidths.{marker-width, history-marker, count-width}
-use Rattle.history_format.specs.HistoryCard.{old-bits, behind-cells, count-in, history-in, history-model, end-refusal, records-refusal, behind-refusal, history-header-refusal, history-refusal, records-bits, history-bits, history-bytes, history-card-of}
+use Rattle.history_format.specs.HistoryCard.{behind-marker, behind-cells, count-in, history-in, history-model, end-refusal, records-refusal, behind-refusal, history-header-refusal, history-refusal, records-bits, history-bits, history-bytes, history-card-of}
 use Rattle.history_format.proofs.FirstBits.{field-front, instance-front}
 use Rattle.history_format.proofs.HistoryLaws.{All-writable, All-shaped, all-writable, history-read, refusal-read}
 use Rattle.history_format.proofs.HistoryBits.{length-history-bits, history-filling, bytes-room, filling-short, length-history-card, written-bits-in, history-kind-again}
@@ -54,9 +54,9 @@ module _ (s : Instance) (e : valid-instance s ≡ true) (few : s .n ≤ max-vert
       (length-append (instance-bits s) (filling-bits (s .n)) ∙ omega (arith, length-instance-bits s few inner, length-replicate {A = ℕ} z 0, k .whole))
       (are-bits-append (instance-bits s) (filling-bits (s .n)) (instance-are-bits s) (zeros-are-bits z))
 
-  card-instance : instance-in (card-of s) ≡ instance-from (instance-bits s ++ filling-bits (s .n))
+  card-instance : instance-in (card-of s) ≡ instance-of-bits (instance-bits s ++ filling-bits (s .n))
   unfolding instance-in
-  card-instance = ap (λ (bs : List ℕ). instance-from bs) card-bits-in
+  card-instance = ap (λ (bs : List ℕ). instance-of-bits bs) card-bits-in
 
   n-written : n-in (instance-bits s) ≡ s .n
   n-written =
@@ -72,13 +72,13 @@ module _ (s : Instance) (e : valid-instance s ≡ true) (few : s .n ≤ max-vert
       ∙ sym (ap (λ (i : Instance). i .root) card-instance)
       ∙ instance-round-trip s e .same-root
 
-  followed : (zs : List ℕ) → instance-from (instance-bits s ++ zs) ≡ instance-from (instance-bits s)
+  followed : (zs : List ℕ) → instance-of-bits (instance-bits s ++ zs) ≡ instance-of-bits (instance-bits s)
   followed zs =
       let k = length-known (s .n) few in
       instance-front (instance-bits s) zs (omega (arith, length-instance-bits s few inner, k .header))
       (rw (n-written, root-written) (omega (arith, length-instance-bits s few inner, offset-end (s .n) (s .root) few inner)))
 
-  pub instance-followed : (zs : List ℕ) → instance-from (instance-bits s ++ zs) ≡ instance-in (card-of s)
+  pub instance-followed : (zs : List ℕ) → instance-of-bits (instance-bits s ++ zs) ≡ instance-in (card-of s)
   instance-followed zs = followed zs ∙ sym (followed (filling-bits (s .n))) ∙ sym card-instance
 
 -- AS A CARD IS READ: lists of 1,024 cells, and no arc and free in each that can never be an arc
@@ -126,19 +126,19 @@ module _ (m : Model) (e : valid m ≡ true) (shaped : All-shaped (m .history)) w
   abbrev rest : List ℕ
   rest = bits-of count-width (length h) ++ records
 
-  old-written : old-bits ws ≡ instance-bits s ++ rest
+  old-written : behind-marker ws ≡ instance-bits s ++ rest
   old-written = rw (written-bits-in m) (drop-at (bits-of marker-width history-marker) (instance-bits s ++ rest) marker-width (length-bits-of marker-width history-marker))
 
-  instance-read : instance-from (old-bits ws) ≡ t
-  instance-read = ap (λ (bs : List ℕ). instance-from bs) old-written ∙ instance-followed s s-valid (v .n-high) (v .root-below) rest
+  instance-read : instance-of-bits (behind-marker ws) ≡ t
+  instance-read = ap (λ (bs : List ℕ). instance-of-bits bs) old-written ∙ instance-followed s s-valid (v .n-high) (v .root-below) rest
 
-  n-read : n-in (old-bits ws) ≡ s .n
+  n-read : n-in (behind-marker ws) ≡ s .n
   n-read = ap (λ (i : Instance). i .n) instance-read ∙ same .same-n
 
-  root-read : root-in (old-bits ws) ≡ s .root
+  root-read : root-in (behind-marker ws) ≡ s .root
   root-read = ap (λ (i : Instance). i .root) instance-read ∙ same .same-root
 
-  budget-read : budget-in (old-bits ws) ≡ s .budget
+  budget-read : budget-in (behind-marker ws) ≡ s .budget
   budget-read = ap (λ (i : Instance). i .budget) instance-read ∙ same .same-budget
 
   behind-written : behind-cells ws ≡ rest
@@ -165,7 +165,7 @@ module _ (m : Model) (e : valid m ≡ true) (shaped : All-shaped (m .history)) w
       let k = length-known (s .n) (v .n-high) in
       omega (arith, length-history-card m, bytes-room m, length-history-bits m (v .n-high) (v .root-below), k .header)
 
-  old-long : bits-needed (s .n) ≤ length (old-bits ws)
+  old-long : bits-needed (s .n) ≤ length (behind-marker ws)
   old-long = rw old-written (omega (arith, length-append (instance-bits s) rest, length-instance-bits s (v .n-high) (v .root-below)))
 
   header-passes : (x : ℕ) → history-header-refusal ws x ≡ x
@@ -181,7 +181,7 @@ module _ (m : Model) (e : valid m ≡ true) (shaped : All-shaped (m .history)) w
         budget-read,
         ne-eqb (s .n) 0 some,
         le-ltb max-vertices (s .n) (v .n-high),
-        le-ltb (length (old-bits ws)) (bits-needed (s .n)) old-long,
+        le-ltb (length (behind-marker ws)) (bits-needed (s .n)) old-long,
         lt-leb (s .n) (s .root) (v .root-below),
         le-ltb max-budget (s .budget) (v .budget-most),
       )
@@ -217,7 +217,7 @@ module _ (m : Model) (e : valid m ≡ true) (shaped : All-shaped (m .history)) w
 
   pub history-opens-again : history-refusal ws ≡ 0
   unfolding history-refusal
-  history-opens-again = header-passes _ ∙ rest-passes (instance-from (old-bits ws)) instance-read
+  history-opens-again = header-passes _ ∙ rest-passes (instance-of-bits (behind-marker ws)) instance-read
 
   -- THE ROUND TRIP
   pub history-round-trip : length (s .marks) ≡ cells → Same-board (history-model ws) m
@@ -232,5 +232,5 @@ module _ (m : Model) (e : valid m ≡ true) (shaped : All-shaped (m .history)) w
   pub model-back : As-read s → history-model ws ≡ m
   unfolding history-model
   model-back a =
-      let b : instance-from (old-bits ws) ≡ s = instance-read ∙ instance-back s s-valid (a .weights-long) (a .marks-long) (a .elsewhere) in
+      let b : instance-of-bits (behind-marker ws) ≡ s = instance-read ∙ instance-back s s-valid (a .weights-long) (a .marks-long) (a .elsewhere) in
       rw (b, history-same)

@@ -25,7 +25,7 @@ use Rattle.commands.specs.Model.{Replaced, Model, opened}
 use Rattle.commands.specs.Valid.{valid}
 use Rattle.commands.proofs.ValidLaws.{valid-fields, opened-valid}
 use Rattle.history_format.specs.RecordWidths.{history-marker}
-use Rattle.history_format.specs.HistoryCard.{is-history, history-model, history-refusal, open-refusal, model-in, plain-refusal, history-card-of}
+use Rattle.history_format.specs.HistoryCard.{is-history, history-model, history-refusal, open-refusal, model-in, to-plain-refusal, history-card-of}
 use Rattle.history_format.proofs.HeaderSteps.{history-opens}
 use Rattle.history_format.proofs.HistoryBits.{history-kind-again}
 use Rattle.history_format.proofs.ModelAgain.{history-opens-again, model-back}
@@ -71,15 +71,15 @@ module _ (ws : List ℕ) (e : card-refusal ws ≡ 0) where
   unfolding opened
   moved-opens = history-opens-again m m-valid tt
 
-  moved-plain : plain-refusal (moved-new ws) ≡ 0
-  unfolding plain-refusal opened
+  moved-plain : to-plain-refusal (moved-new ws) ≡ 0
+  unfolding to-plain-refusal opened
   moved-plain = rw (moved-opens, no-records)
 
   pub same-board-new : model-in (moved-new ws) ≡ model-in ws
   same-board-new =
       model-of-history (moved-new ws) (history-kind-again m) ∙ no-records ∙ sym (model-of-card ws (card-not-history ws e))
 
-pub there-and-back-old : (ws : List ℕ) → are-bytes ws ≡ true → card-refusal ws ≡ 0 → (plain-refusal (moved-new ws) ≡ 0) × (moved-old (moved-new ws) ≡ ws)
+pub there-and-back-old : (ws : List ℕ) → are-bytes ws ≡ true → card-refusal ws ≡ 0 → (to-plain-refusal (moved-new ws) ≡ 0) × (moved-old (moved-new ws) ≡ ws)
 unfolding opened
 there-and-back-old ws b e = (moved-plain ws e, ap (λ (x : Model). card-of (x .instance)) (no-records ws e) ∙ card-round-trip ws b e)
 
@@ -90,8 +90,8 @@ none-left [] e = refl
 none-left (o ∷ os) e =
     let q : has-records ≡ 0 = simp (ne-eqb (suc (length os)) 0 (λ z. omega arith)) at e in absurd (omega arith)
 
-pub plain-passed : (ws : List ℕ) → plain-refusal ws ≡ 0 → (history-refusal ws ≡ 0) × (history-model ws .history ≡ [])
-unfolding plain-refusal
+pub plain-passed : (ws : List ℕ) → to-plain-refusal ws ≡ 0 → (history-refusal ws ≡ 0) × (history-model ws .history ≡ [])
+unfolding to-plain-refusal
 plain-passed ws e =
     let h = history-model ws .history in
     let p = first-passes (history-refusal ws) (cond (eqb (length h) 0) 0 has-records) e in
@@ -101,7 +101,7 @@ without : (m : Model) → m .history ≡ [] → opened (m .instance) ≡ m
 unfolding opened
 without m q = ap (λ (h : List Replaced). record { instance = m .instance; history = h }) (sym q)
 
-module _ (ws : List ℕ) (e : plain-refusal ws ≡ 0) where
+module _ (ws : List ℕ) (e : to-plain-refusal ws ≡ 0) where
   abbrev s : Instance
   s = history-model ws .instance
 
@@ -122,6 +122,6 @@ module _ (ws : List ℕ) (e : plain-refusal ws ≡ 0) where
       model-of-card (moved-old ws) (card-not-history (moved-old ws) old-opens) ∙ board-same
       ∙ sym (model-of-history ws (history-opens ws (plain-passed ws e .0) .header .kind))
 
-pub there-and-back-new : (ws : List ℕ) → are-bytes ws ≡ true → plain-refusal ws ≡ 0 → (card-refusal (moved-old ws) ≡ 0) × (moved-new (moved-old ws) ≡ ws)
+pub there-and-back-new : (ws : List ℕ) → are-bytes ws ≡ true → to-plain-refusal ws ≡ 0 → (card-refusal (moved-old ws) ≡ 0) × (moved-new (moved-old ws) ≡ ws)
 there-and-back-new ws b e =
     (old-opens ws e, ap history-card-of (board-same ws e) ∙ history-card-round-trip ws b (plain-passed ws e .0))

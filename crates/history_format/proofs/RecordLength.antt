@@ -34,16 +34,16 @@ use Rattle.history_format.proofs.RecordLaws.{length-mark, length-budget
 abbrev pub longest-record : ℕ
 longest-record = 103
 
-pub length-known : (bs : List ℕ) → record-length bs ≤ longest-record
+pub record-length-most : (bs : List ℕ) → record-length bs ≤ longest-record
 unfolding record-length
-length-known bs =
+record-length-most bs =
     let m : marks-start + mark-offset (heads-in bs) max-vertices ≤ longest-record = omega (arith, offset-most (heads-in bs) max-vertices) in
     cond-most (eqb (kind-in bs) 0) mark-record-width _ longest-record (omega arith)
     (cond-most (eqb (kind-in bs) 1) budget-record-width _ longest-record (omega arith) (cond-most (eqb (kind-in bs) 2) _ kind-width longest-record m (omega arith)))
 
-pub length-least : (bs : List ℕ) → kind-width ≤ record-length bs
+pub record-length-least : (bs : List ℕ) → kind-width ≤ record-length bs
 unfolding record-length
-length-least bs =
+record-length-least bs =
     least (eqb (kind-in bs) 0) mark-record-width _ (omega arith)
     (least (eqb (kind-in bs) 1) budget-record-width _ (omega arith)
     (least (eqb (kind-in bs) 2) (marks-start + mark-offset (heads-in bs) max-vertices) kind-width (omega arith) (omega arith)))

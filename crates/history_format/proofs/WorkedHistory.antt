@@ -17,7 +17,7 @@ use Rattle.card_format.proofs.WorkedRefusals.{Card}
 use Rattle.commands.specs.Model.{old-mark, old-budget, Model, opened}
 use Rattle.commands.specs.Valid.{record-ok}
 use Rattle.history_format.specs.RecordBits.{member-marks, record-length, replaced-in, form-refusal, record-refusal, record-bits}
-use Rattle.history_format.specs.HistoryCard.{is-history, history-in, history-model, end-refusal, records-refusal, behind-refusal, history-header-refusal, history-refusal, open-refusal, plain-refusal, records-bits, history-bits, history-bytes, history-card-of}
+use Rattle.history_format.specs.HistoryCard.{is-history, history-in, history-model, end-refusal, records-refusal, behind-refusal, history-header-refusal, history-refusal, open-refusal, to-plain-refusal, records-bits, history-bits, history-bytes, history-card-of}
 
 -- ONE CARD: P9, whose budget was 7 until it was set, and whose link 0→1 was pinned until it was cleared after that. The
 -- history has the latest first.
@@ -155,9 +155,9 @@ moved-cards =
     ∷ card bad-filling (0xfc ∷ 0x20 ∷ 0x00 ∷ 0x00 ∷ 0x01 ∷ 0x40 ∷ 0x00 ∷ 0x14 ∷ 0x02 ∷ 0x40 ∷ 0x00 ∷ 0x00 ∷ 0xe0 ∷ 0x02 ∷ 0x81 ∷ [])
     ∷ []
 
-pub moves : map (λ c. plain-refusal (c .bytes)) moved-cards ≡ map (λ c. c .answer) moved-cards
+pub moves : map (λ c. to-plain-refusal (c .bytes)) moved-cards ≡ map (λ c. c .answer) moved-cards
 unfolding
-    moved-cards plain-refusal history-model history-in history-refusal history-header-refusal is-history behind-refusal records-refusal end-refusal
+    moved-cards to-plain-refusal history-model history-in history-refusal history-header-refusal is-history behind-refusal records-refusal end-refusal
     record-refusal form-refusal record-length replaced-in record-ok is-arc weight cells-refusal cell-refusal cell-fields on-card can-be-arc bits-in bits-of
     field number-from bits-needed all-of count-below sum-below inside
 moves = refl

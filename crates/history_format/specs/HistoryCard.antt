@@ -1,5 +1,5 @@
--- The card with records of document 02, A8 (02: a new card; here a history card): layout, refusals, reading and writing.
--- Assumes nothing: these are definitions.
+-- The history card (02, A8: a new card; an old card is a plain card here): layout, refusals, reading and writing. Assumes
+-- nothing: these are definitions.
 use mathlib.Core.Bool.{Bool, _||_, not, cond}
 use mathlib.Core.List.{List, [], _∷_, _++_}
 use Prim.Native.Nat.{ℕ, zero, suc, _+_, _*_, _-_, _/_}
@@ -10,7 +10,7 @@ use Rattle.bits.specs.Bits.{bits-of, bits-in, field, packed}
 use Rattle.instance.specs.Limits.{max-vertices, max-budget, max-records}
 use Rattle.instance.specs.Refusals.{card-short, bad-count, bad-length, bad-root, bad-card-budget, bad-filling, bad-record, has-records}
 use Rattle.instance.specs.Instance.{Instance}
-use Rattle.card_format.specs.Card.{n-in, root-in, budget-in, bits-needed, min-card, instance-from, instance-in, cells-refusal, card-refusal, instance-bits}
+use Rattle.card_format.specs.Card.{n-in, root-in, budget-in, bits-needed, min-card, instance-of-bits, instance-in, cells-refusal, card-refusal, instance-bits}
 use Rattle.commands.specs.Model.{Replaced, Model, opened}
 use Rattle.history_format.specs.RecordWidths.{marker-width, history-marker, count-width}
 use Rattle.history_format.specs.RecordBits.{record-length, replaced-in, record-refusal, record-bits}
@@ -21,13 +21,13 @@ use Rattle.history_format.specs.RecordBits.{record-length, replaced-in, 
 unfoldable pub is-history : (card : List ℕ) → Bool
 is-history ws = eqb (field 0 marker-width (bits-in ws)) history-marker
 
--- "then the bits of the old card without filling": these, and all that follows them
-abbrev pub old-bits : (card : List ℕ) → List ℕ
-old-bits ws = drop marker-width (bits-in ws)
+-- "then the bits of the old card without filling": all that follows the marker begins with them
+abbrev pub behind-marker : (card : List ℕ) → List ℕ
+behind-marker ws = drop marker-width (bits-in ws)
 
 -- "then an 8-bit count of recorded presses, then the records": what follows the bits of the old card
 abbrev pub behind-cells : (card : List ℕ) → List ℕ
-behind-cells ws = drop (bits-needed (n-in (old-bits ws))) (old-bits ws)
+behind-cells ws = drop (bits-needed (n-in (behind-marker ws))) (behind-marker ws)
 
 abbrev pub count-in : (bits : List ℕ) → ℕ
 count-in bs = field 0 count-width bs
@@ -47,7 +47,7 @@ history-in (suc k) bs rs = history-in k (drop (record-length bs) bs) (replaced-i
 unfoldable pub history-model : (card : List ℕ) → Model
 history-model ws =
     let rest = behind-cells ws in
-    record { instance = instance-from (old-bits ws); history = history-in (count-in rest) (drop count-width rest) [] }
+    record { instance = instance-of-bits (behind-marker ws); history = history-in (count-in rest) (drop count-width rest) [] }
 
 -- REFUSALS
 
@@ -71,7 +71,7 @@ behind-refusal s bs =
 -- kind is 2"
 unfoldable pub history-header-refusal : (card : List ℕ) → (rest : ℕ) → ℕ
 history-header-refusal ws rest =
-    let bs = old-bits ws in
+    let bs = behind-marker ws in
     let n = n-in bs in
     cond (ltb (length ws) min-card) card-short
     (cond (not (is-history ws)) bad-count
@@ -83,7 +83,7 @@ history-header-refusal ws rest =
 -- 0 is a history card that opens
 unfoldable pub history-refusal : (card : List ℕ) → ℕ
 history-refusal ws =
-    let s = instance-from (old-bits ws) in
+    let s = instance-of-bits (behind-marker ws) in
     let c = cells-refusal (s .weights) (s .marks) in
     history-header-refusal ws (cond (eqb c 0) (behind-refusal s (behind-cells ws)) c)
 
@@ -94,9 +94,9 @@ open-refusal ws = cond (is-history ws) (history-refusal ws) (card-refusal ws)
 unfoldable pub model-in : (card : List ℕ) → Model
 model-in ws = cond (is-history ws) (history-model ws) (opened (instance-in ws))
 
--- the move to an old card: "new to old only without records"; "after these, 28 for a move to old with records"
-unfoldable pub plain-refusal : (card : List ℕ) → ℕ
-plain-refusal ws = cond (eqb (history-refusal ws) 0) (cond (eqb (length (history-model ws .history)) 0) 0 has-records) (history-refusal ws)
+-- the move of a history card to a plain one: "new to old only without records"; "after these, 28 for a move to old with records"
+unfoldable pub to-plain-refusal : (card : List ℕ) → ℕ
+to-plain-refusal ws = cond (eqb (history-refusal ws) 0) (cond (eqb (length (history-model ws .history)) 0) 0 has-records) (history-refusal ws)
 
 -- WRITING
 

@@ -1,4 +1,4 @@
--- The card with records of document 02, A8, with no program. Assumes nothing.
+-- The history card of document 02, A8, with no program. Assumes nothing.
 pub mod RecordWidths
 pub mod RecordBits
 pub mod HistoryCard

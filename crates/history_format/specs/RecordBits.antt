@@ -40,13 +40,14 @@ member-marks c bs = tabulate max-vertices (λ h. cond (inside c h) (field (marks
 
 -- How many bits the record has: of a group by every member of the set, whether or not there is such a link; "kind 3
 -- (two bits long)". Where there are not so many bits, the record "runs past the end": where there is no whole kind too,
--- since what there is of it is 0 or 1 then, and those records are longer.
+-- since what there is of it is 0 or 1 then, and no record is shorter than a kind (`record-length-least`).
 unfoldable pub record-length : (bits : List ℕ) → ℕ
 record-length bs =
     cond (eqb (kind-in bs) 0) mark-record-width
     (cond (eqb (kind-in bs) 1) budget-record-width
     (cond (eqb (kind-in bs) 2) (marks-start + mark-offset (heads-in bs) max-vertices) kind-width))
 
+-- what it says; kind 3 is refused before this is looked at
 unfoldable pub replaced-in : (bits : List ℕ) → Replaced
 replaced-in bs =
     cond (eqb (kind-in bs) 0) (old-mark (tail-in bs) (field head-start vertex-width bs) (field mark-start mark-width bs))

@@ -1,5 +1,5 @@
--- The widths of what a card with records has besides the bits of a card, in bits, each under one name. Assumes nothing:
--- these are definitions.
+-- The widths of what a history card (02, A8: a new card) has besides the bits of a plain card, in bits, each under one
+-- name. Assumes nothing: these are definitions.
 use Prim.Native.Nat.{ℕ, _+_}
 use Rattle.card_format.specs.Widths.{n-width, budget-width, mark-width}
 

@@ -16,9 +16,9 @@ use Rattle.commands.specs.Model.{Model, opened}
 use Rattle.commands.specs.Valid.{valid}
 use Rattle.commands.proofs.ValidLaws.{opened-valid}
 use Rattle.board.specs.ModelOf.{model-of, instance-of}
-use Rattle.board.specs.Create.{board-of, answered-with, opened-by}
+use Rattle.board.specs.Create.{board-of, answered-with, opened-as}
 use Rattle.board.specs.declared.Answered.{Answered}
-use Rattle.history_format.specs.HistoryCard.{history-refusal, history-model, plain-refusal}
+use Rattle.history_format.specs.HistoryCard.{history-refusal, history-model, to-plain-refusal}
 use Rattle.history_format.proofs.HistoryAgain.{history-model-valid, history-model-shaped}
 use Rattle.history_card.specs.Open.{history-opened}
 use Rattle.history_card.specs.Write.{History-written}
@@ -66,11 +66,11 @@ module _ (ws out : List ℕ) (o : Answered) (e : o ≡ history-opened ws) where
   unfolding history-opened
   history-answer = ap (λ (x : Answered). x .answer) e ∙ answer-by (history-refusal ws) (history-model ws)
 
-  not-moved-by : (k : ℕ) → plain-refusal ws ≡ k → (k ≡ 0 → ⊥) → Moves-to-plain ws out out (not-moved k)
+  not-moved-by : (k : ℕ) → to-plain-refusal ws ≡ k → (k ≡ 0 → ⊥) → Moves-to-plain ws out out (not-moved k)
   not-moved-by k q n = let t = ne-eqb k 0 n in record { result = rw (q, t); buffer = rw (q, t) }
 
   pub history-refused : (o .answer ≡ 0 → ⊥) → Moves-to-plain ws out out (not-moved (o .answer))
-  unfolding plain-refusal
+  unfolding to-plain-refusal
   history-refused n = not-moved-by (o .answer) (rw (← history-answer, ne-eqb (o .answer) 0 n)) n
 
   module _ (z : o .answer ≡ 0) where
@@ -95,12 +95,12 @@ module _ (ws out : List ℕ) (o : Answered) (e : o ≡ history-opened ws) where
         subst (λ (m : Model). valid m ≡ true) (sym (ap model-of holds ∙ model-of-board (history-model ws) v (history-model-shaped ws))) v
 
     pub records-refused : (o .board .count ≡ 0 → ⊥) → Moves-to-plain ws out out (not-moved has-records)
-    unfolding plain-refusal
+    unfolding to-plain-refusal
     records-refused n = not-moved-by has-records (rw (reads, ← its-count, ne-eqb (o .board .count) 0 n)) (λ q. omega arith)
 
     pub history-moved : o .board .count ≡ 0 → (r : Written) (out′ : List ℕ) → Card-written (instance-of (o .board)) out out′ r → Moves-to-plain ws out out′ r
-    unfolding plain-refusal
+    unfolding to-plain-refusal
     history-moved n r out′ w =
-        let q : plain-refusal ws ≡ 0 = rw (reads, ← its-count, eq-eqb (o .board .count) 0 n) in
+        let q : to-plain-refusal ws ≡ 0 = rw (reads, ← its-count, eq-eqb (o .board .count) 0 n) in
         let v = subst (λ (s : Instance). Card-written s out out′ r) same-instance w in
         record { result = rw q (v .result); buffer = rw q (v .buffer) }

@@ -13,7 +13,7 @@ use Rattle.commands.specs.Valid.{valid}
 use Rattle.commands.proofs.LogLaws.{Tied, opened-tied}
 use Rattle.commands.proofs.ValidLaws.{valid-parts}
 use Rattle.board.specs.ModelOf.{model-of, instance-of}
-use Rattle.board.specs.Create.{board-with, blank, stored, board-of, answered-with, opened-by}
+use Rattle.board.specs.Create.{board-with, blank, stored, board-of, answered-with, opened-as}
 use Rattle.board.specs.declared.Board.{Board}
 use Rattle.board.specs.declared.Answered.{Answered}
 use Rattle.history_format.specs.HistoryCard.{is-history, open-refusal, model-in, history-refusal, history-model}
@@ -24,20 +24,20 @@ use Rattle.planner.specs.Opening.{plain-opened, opened-from}
 use Rattle.planner.specs.Replaying.{log-in}
 
 -- BY REFUSAL
-pub answer-by : (k : ℕ) (m : Model) → opened-by k m .answer ≡ k
-unfolding opened-by
+pub answer-by : (k : ℕ) (m : Model) → opened-as k m .answer ≡ k
+unfolding opened-as
 answer-by k m = go (eqb k 0) refl
   where
     go : (b : Bool) → eqb k 0 ≡ b → cond b (answered-with 0 (board-of m)) (answered-with k blank) .answer ≡ k
     go true q = sym (eqb-true k 0 q)
     go false q = refl
 
-pub board-by : (k : ℕ) (m : Model) → k ≡ 0 → opened-by k m ≡ answered-with 0 (board-of m)
-unfolding opened-by
+pub board-by : (k : ℕ) (m : Model) → k ≡ 0 → opened-as k m ≡ answered-with 0 (board-of m)
+unfolding opened-as
 board-by k m z = rw (eq-eqb k 0 z)
 
-pub blank-by : (k : ℕ) (m : Model) → (k ≡ 0 → ⊥) → opened-by k m ≡ answered-with k blank
-unfolding opened-by
+pub blank-by : (k : ℕ) (m : Model) → (k ≡ 0 → ⊥) → opened-as k m ≡ answered-with k blank
+unfolding opened-as
 blank-by k m n = rw (ne-eqb k 0 n)
 
 -- BY KIND
@@ -98,11 +98,11 @@ module _ (ws : List ℕ) (c : Contents) (e : c ≡ contents-of ws) where
   said = ap (λ (x : Contents). x .answer) e ∙ refusal-said ws
 
   pub open-refused : (c .answer ≡ 0 → ⊥) → answered-with (c .answer) blank ≡ plain-opened ws
-  unfolding plain-opened opened-by
+  unfolding plain-opened opened-as
   open-refused n = rw (← said, ne-eqb (c .answer) 0 n)
 
   pub open-accepted : c .answer ≡ 0 → answered-with 0 (board-with (c .n) (c .root) (c .budget) (c .weights) (c .marks)) ≡ plain-opened ws
-  unfolding plain-opened opened-by contents-of board-with board-of opened stored
+  unfolding plain-opened opened-as contents-of board-with board-of opened stored
   open-accepted z =
       let q : eqb (card-refusal ws) 0 ≡ true = eq-eqb (card-refusal ws) 0 (sym said ∙ z) in
       let a : c ≡ contents-with (instance-in ws) = e ∙ rw q in

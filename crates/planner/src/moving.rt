@@ -7,7 +7,7 @@ use history_card::open::open_history;
 use history_card::write::write_history;
 use instance::refusals::HAS_RECORDS;
 
-// A card without records as one with none recorded.
+// A plain card as a history card with no record.
 pub fn to_history_card(card: &[u8], out: &mut [u8]) -> Written
     ensures { λ r. ⌜ Moves-to-history (now (card .entry)) (now (out .entry)) (now (out .exit)) r ⌝ }
 {
@@ -20,7 +20,7 @@ pub fn to_history_card(card: &[u8], out: &mut [u8]) -> Written
     write_history(board, out)
 }
 
-// A card that could have records, and has none, as one that cannot.
+// A history card with no record as a plain card.
 pub fn to_plain_card(card: &[u8], out: &mut [u8]) -> Written
     ensures { λ r. ⌜ Moves-to-plain (now (card .entry)) (now (out .entry)) (now (out .exit)) r ⌝ }
 {

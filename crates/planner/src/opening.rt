@@ -5,7 +5,7 @@ use board::Answered;
 use history_card::open::is_history_card;
 use history_card::open::open_history;
 
-// A card without records as a board with no history; one with records is refused with 2.
+// A plain card as a board with no history; a history card is refused with 2.
 pub fn open_plain(bytes: &[u8]) -> Answered
     ensures { λ r. ⌜ r ≡ plain-opened (now (bytes .entry)) ⌝ }
 {

@@ -12,7 +12,7 @@ use lib.ListN.{length, take}
 use lib.Seq.{take-all}
 use Rattle.base.proofs.BoolLaws.{test}
 use Rattle.history_format.specs.HistoryCard.{max-history-card, open-refusal}
-use Rattle.history_format.proofs.LongHistory.{too-long-refused, too-long-by-part}
+use Rattle.history_format.proofs.LongHistory.{long-refused, long-by-part}
 use Rattle.report.specs.declared.Reported.{Reported}
 use Rattle.report_text.specs.Whole.{max-text}
 use Rattle.report.specs.Reports.{Reports-refusal, Reports-by, Reports}
@@ -26,8 +26,8 @@ module _ (ws : List ℕ) (k : ℕ) (enough : max-history-card ≤ k) (old new : 
   unfolding Reports-by
   of-long h true x = x
   of-long h false x =
-      let e = too-long-by-part ws k enough h in
-      let no-card : open-refusal ws ≡ 0 → ⊥ = too-long-refused ws h in
+      let e = long-by-part ws k enough h in
+      let no-card : open-refusal ws ≡ 0 → ⊥ = long-refused ws h in
       let no-part : open-refusal Part ≡ 0 → ⊥ = λ z. no-card (e ∙ z) in
       let y : Reports-refusal Part old new r = rw (ne-eqb (open-refusal Part) 0 no-part) at x in
       rw (ne-eqb (open-refusal ws) 0 no-card) (record { answer = y .answer ∙ sym e; text = rw (sym e) at (y .text) })

@@ -12,7 +12,7 @@ use Rattle.card_format.specs.Widths.{n-width, header-width}
 use Rattle.card_format.specs.Card.{n-in, bits-needed}
 use Rattle.card_format.proofs.LengthLaws.{length-known}
 use Rattle.history_format.specs.RecordWidths.{marker-width}
-use Rattle.history_format.specs.HistoryCard.{is-history, old-bits, history-header-refusal}
+use Rattle.history_format.specs.HistoryCard.{is-history, behind-marker, history-header-refusal}
 use Rattle.history_card.specs.Open.{history-header-of}
 use Rattle.history_card.proofs.RecordReadLaws.{short-here, whole-here}
 use Rattle.history_card.proofs.OpenLaws.{fields-last}

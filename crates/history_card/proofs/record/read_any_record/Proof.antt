@@ -10,7 +10,7 @@ use Rattle.bits.specs.Bits.{bits-in, field}
 use Rattle.bits.proofs.FieldLaws.{field-drop}
 use Rattle.history_format.specs.RecordWidths.{kind-width}
 use Rattle.history_format.specs.RecordBits.{kind-in}
-use Rattle.history_format.proofs.RecordLength.{length-least}
+use Rattle.history_format.proofs.RecordLength.{record-length-least}
 use Rattle.history_card.proofs.RecordReadLaws.{whole-here, past-read, three-read}
 use borrow.Author.Needs.{needs}
 use Rattle.history_card.proofs.record.read_any_record.Statement.{statement}
@@ -32,7 +32,7 @@ returns : tie.Need-returns
 returns c =
     let a = c .before .before .before .before .args in
     rw (c .no-record .ensures)
-    (past-read (a .card .now) (a .at) kind-width (omega arith) (length-least _) (sym (c .before .before .runs-past .ensures) ∙ c .before .if1 .taken))
+    (past-read (a .card .now) (a .at) kind-width (omega arith) (record-length-least _) (sym (c .before .before .runs-past .ensures) ∙ c .before .if1 .taken))
 
 read-bits-requires : tie.Need-read-bits-requires
 read-bits-requires c κs = omega (arith, ltb-false (8 * length (c .before .before .before .args .card .now)) (c .before .before .before .args .at + kind-width) (sym (c .before .runs-past .ensures) ∙ c .if1 .left))
