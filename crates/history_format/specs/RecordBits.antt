@@ -40,7 +40,7 @@ member-marks c bs = tabulate max-vertices (λ h. cond (inside c h) (field (marks
 
 -- How many bits the record has: of a group by every member of the set, whether or not there is such a link; "kind 3
 -- (two bits long)". Where there are not so many bits, the record "runs past the end": where there is no whole kind too,
--- since what there is of it is 0 or 1 then, and no record is shorter than a kind (`record-length-least`).
+-- since no record is shorter than a kind (`record-length-least`).
 unfoldable pub record-length : (bits : List ℕ) → ℕ
 record-length bs =
     cond (eqb (kind-in bs) 0) mark-record-width
