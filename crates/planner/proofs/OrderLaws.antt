@@ -1,14 +1,14 @@
 -- The order of refusals of the calls that store a card (02, A8): a board written with its records, and the two moves.
 -- What refuses the board or the card is answered before the buffer is looked at, so also where that is empty: 15 before
 -- 14 of a board; of a move all that a card is refused by, and 28 of records, "then 14". Assumes nothing.
-use mathlib.Core.Path.{_≡_, refl, sym, ap}
+use mathlib.Core.Path.{_≡_, refl, ap}
 use mathlib.Core.Bool.{Bool, true, false, cond}
 use mathlib.Core.List.{List}
 use Prim.Native.Nat.{ℕ, _≤_, _<_}
 use native.Mathlib.Omega.{arith}
 use lib.Dec.{ltb, eqb}
 use lib.ListN.{length}
-use borrow.Author.Tests.{eqb-true, eqb-false, ltb-true, ltb-false}
+use borrow.Author.Tests.{eq-eqb, ne-eqb, eqb-true, eqb-false, lt-ltb, le-ltb, ltb-true, ltb-false}
 use Rattle.base.specs.Lists.{in-front}
 use Rattle.instance.specs.Refusals.{buffer-short, invalid-board}
 use Rattle.card_format.specs.Card.{bytes-needed, card-refusal, instance-in, card-of}
@@ -78,3 +78,10 @@ unfolding written-to buffer-after
 to-plain-cases ws out out′ r w =
     let s = history-model ws .instance in
     store-by (to-plain-refusal ws) (bytes-needed (s .n)) (card-of s) out out′ r (length-card-of s) (w .result) (w .buffer)
+
+-- THE ANSWER of each, as one equation: "a lent buffer too short" comes last
+pub store-answer : (k : ℕ) (card out out′ : List ℕ) (r : Written) → Store-case k card out out′ r →
+    r .answer ≡ cond (eqb k 0) (cond (ltb (length out) (length card)) buffer-short 0) k
+store-answer k card out out′ r (refused-by n p q) = rw (ne-eqb k 0 n) (ap (λ (x : Written). x .answer) p)
+store-answer k card out out′ r (no-room z l p q) = rw (eq-eqb k 0 z, lt-ltb (length out) (length card) l) (ap (λ (x : Written). x .answer) p)
+store-answer k card out out′ r (stored z l p q) = rw (eq-eqb k 0 z, le-ltb (length out) (length card) l) (ap (λ (x : Written). x .answer) p)
