@@ -41,8 +41,8 @@ use Rattle.planner.proofs.OrderLaws.{Store-case, refused-by, no-room, stored}
 use Rattle.planner.proofs.OpeningLaws.{blank-by, opened-answer}
 
 -- THE NUMBERS OF EACH CALL, 0 for accepted. An old card: "Cards: 1 to 5 in that order; then the first faulty cell ..;
--- then 8." Of a cell it is 7: "6 is retired" (02, A9). A card of either kind may get 27 too: `history-numbers` (02, A8);
--- a move to an old card 28: `to-plain-numbers`.
+-- then 8." Of a cell it is 7: "6 is retired" (02, A9). A card of either kind may get 27 too: `history-numbers` (02,
+-- A8); a move to an old card 28: `to-plain-numbers`.
 abbrev pub card-numbers : List ℕ
 card-numbers = 0 ∷ card-short ∷ bad-count ∷ bad-length ∷ bad-root ∷ bad-card-budget ∷ bad-mark ∷ bad-filling ∷ []
 

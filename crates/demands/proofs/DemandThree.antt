@@ -28,8 +28,8 @@ use Rattle.demands.proofs.Runs.{Run, run-follows}
 -- feed trees of the card's positions, root and prices under the standing marks, within the standing budget." The last
 -- words are amended: "The claim about presses and the rule on reduced prices now use the larger of the budget and the
 -- cheapest total" (02, A2). A list of presses is answered by "how many were applied and the refusal number, or 0" (02,
--- A1), and the book has both from the presses themselves. "The claim about presses now covers take-backs of records that
--- came on a card" (02, A8): the log of a card, `log-in`, begins with them.
+-- A1), and the book has both from the presses themselves. "The claim about presses now covers take-backs of records
+-- that came on a card" (02, A8): the log of a card, `log-in`, begins with them.
 pub record Demand-3 (ws : List ℕ) (is : List Input) (xs : List ℕ) (old new : Buffers) (v : View) : Type 0 where
   pub answers : xs ≡ input-answers is (log-in ws)
   pub last-look : Looks-at true (short-for (model-in ws .instance .n) old) (effective (input-after is (log-in ws))) old new v

@@ -1,23 +1,20 @@
--- The round trips of history cards (02, A8), of the calls themselves: "A board can be written as a new card, records and
--- all", and opened again it is the same board; a history card that opens is written back byte for byte; "A card moves old
--- to new with no records, and new to old only without records; there and back gives the same bytes"; none is longer than
--- 5,174 bytes. What the request is for: commands made on a card that was written from a run go on with that run's log, so
--- "the next class" can "take back the last class's choices". Assumes nothing.
+-- The round trips of history cards (02, A8), of the calls themselves: "A board can be written as a new card, records
+-- and all", and opened again it is the same board; a history card that opens is written back byte for byte; "A card
+-- moves old to new with no records, and new to old only without records; there and back gives the same bytes"; none is
+-- longer than 5,174 bytes. What the request is for: commands made on a card that was written from a run go on with that
+-- run's log, so "the next class" can "take back the last class's choices". Assumes nothing.
 use mathlib.Core.Path.{_≡_, refl, sym, ap, _∙_, subst}
 use mathlib.Core.Bool.{true, cond}
 use mathlib.Core.List.{List}
 use Prim.Native.Nat.{ℕ, _≤_}
 use native.Mathlib.Omega.{arith}
 use lib.ListN.{length, take}
-use Rattle.base.specs.Lists.{in-front}
 use Rattle.base.proofs.FrontLaws.{front-take}
 use Rattle.bits.specs.Bits.{are-bytes}
 use Rattle.instance.specs.Limits.{cells}
 use Rattle.instance.specs.Refusals.{invalid-board}
-use Rattle.instance.specs.Instance.{Instance}
-use Rattle.card_format.specs.Card.{card-refusal, instance-in, card-of}
 use Rattle.card.specs.declared.write.Written.{Written}
-use Rattle.commands.specs.Model.{Model, opened}
+use Rattle.commands.specs.Model.{Model}
 use Rattle.commands.specs.Valid.{valid}
 use Rattle.commands.specs.LogLists.{Input, input-answers, input-after}
 use Rattle.commands.specs.Effective.{effective}
@@ -28,7 +25,7 @@ use Rattle.board.specs.ModelOf.{model-of, instance-of}
 use Rattle.board.specs.declared.Board.{Board}
 use Rattle.board.specs.declared.Answered.{Answered}
 use Rattle.board.proofs.RunLaws.{Follows}
-use Rattle.history_format.specs.HistoryCard.{is-history, open-refusal, model-in, history-refusal, history-model, to-plain-refusal, history-card-of, max-history-card}
+use Rattle.history_format.specs.HistoryCard.{is-history, open-refusal, history-model, history-card-of, max-history-card}
 use Rattle.history_format.proofs.HistoryBits.{history-kind-again}
 use Rattle.history_format.proofs.HistoryLaws.{All-shaped}
 use Rattle.history_format.proofs.ModelAgain.{As-read, history-opens-again, history-round-trip, model-back}

@@ -2,9 +2,9 @@
 -- alike, so the first bytes of a long input answer for all of it. Assumes nothing.
 --
 -- The bits of the first bytes are followed by those of the others. Header and cells lie within the first bits, which
--- are 41,400 at least: they are read alike, and so is the count. Behind it there are 20,208 bits at least, which is what
--- 200 records can take and a byte: so the records are judged alike, and where they pass, whole bytes remain on either
--- side.
+-- are 41,400 at least: they are read alike, and so is the count. Behind it there are 20,208 bits at least, which is
+-- what 200 records can take and a byte: so the records are judged alike, and where they pass, whole bytes remain on
+-- either side.
 use mathlib.Core.Path.{_≡_, refl, sym, ap, _∙_}
 use mathlib.Core.Bool.{Bool, true, false, _||_, not, cond}
 use mathlib.Core.List.{List, _++_}

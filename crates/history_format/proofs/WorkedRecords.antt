@@ -8,7 +8,7 @@ use Rattle.base.specs.Bounded.{all-below, any-below, sum-below, count-below}
 use Rattle.base.specs.Lists.{tabulate-from, tabulate, all-of}
 use Rattle.bits.specs.Bits.{bits-of, number-from, field}
 use Rattle.instance.specs.Refusals.{bad-length, bad-filling, bad-record}
-use Rattle.instance.specs.Instance.{Instance, weight, can-be-arc, is-arc}
+use Rattle.instance.specs.Instance.{weight, can-be-arc, is-arc}
 use Rattle.instance.specs.Cuts.{inside}
 use Rattle.instance.proofs.WorkedCases.{filled, instance-from, instance-q}
 use Rattle.commands.specs.Model.{Replaced, old-mark, old-marks, old-budget}

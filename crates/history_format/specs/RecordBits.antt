@@ -1,5 +1,5 @@
--- One record on a card (02, A8): its length, what it says, its refusals, and the bits it is written as. A record is read
--- from the bits that begin with it. Assumes nothing: these are definitions.
+-- One record on a card (02, A8): its length, what it says, its refusals, and the bits it is written as. A record is
+-- read from the bits that begin with it. Assumes nothing: these are definitions.
 use mathlib.Core.Bool.{cond}
 use mathlib.Core.List.{List, [], _++_}
 use Prim.Native.Nat.{ℕ, zero, suc, _+_, _*_}

@@ -16,7 +16,7 @@ use Rattle.commands.specs.Model.{Model, opened}
 use Rattle.commands.specs.Valid.{valid}
 use Rattle.commands.proofs.ValidLaws.{opened-valid}
 use Rattle.board.specs.ModelOf.{model-of, instance-of}
-use Rattle.board.specs.Create.{board-of, answered-with, opened-as}
+use Rattle.board.specs.Create.{board-of}
 use Rattle.board.specs.declared.Answered.{Answered}
 use Rattle.history_format.specs.HistoryCard.{history-refusal, history-model, to-plain-refusal}
 use Rattle.history_format.proofs.HistoryAgain.{history-model-valid, history-model-shaped}
