@@ -18,7 +18,7 @@ use Rattle.board.specs.ModelOf.{model-of, instance-of}
 use Rattle.board.specs.Create.{board-with, blank, stored, board-of, answered-with, opened-as}
 use Rattle.board.specs.declared.Board.{Board}
 use Rattle.board.specs.declared.Answered.{Answered}
-use Rattle.history_format.specs.HistoryCard.{is-history, open-refusal, model-in, history-refusal, history-model}
+use Rattle.history_format.specs.HistoryCard.{is-history, open-refusal, model-in, history-refusal}
 use Rattle.history_format.proofs.HistoryAgain.{model-in-valid, model-in-shaped, model-in-long}
 use Rattle.history_format.proofs.OldConsole.{old-console-refuses}
 use Rattle.history_card.specs.Open.{history-opened}
