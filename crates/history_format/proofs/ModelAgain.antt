@@ -17,19 +17,18 @@ use borrow.Author.Tests.{le-ltb, lt-leb, ne-eqb}
 use Rattle.base.specs.Lists.{all-of}
 use Rattle.base.proofs.AllOfLaws.{all-of-eq}
 use Rattle.base.proofs.PartLaws.{all-of-replicate}
-use Rattle.bits.specs.Bits.{bits-of, bits-in}
-use Rattle.bits.proofs.NumberLaws.{length-bits-of, are-bits-append, zeros-are-bits}
-use Rattle.bits.proofs.ByteLaws.{bits-in-packed}
+use Rattle.bits.specs.Bits.{bits-of}
+use Rattle.bits.proofs.NumberLaws.{length-bits-of}
 use Rattle.bits.proofs.FieldLaws.{field-read}
 use Rattle.instance.specs.Limits.{max-vertices, max-budget, no-arc, free, max-records, cells}
 use Rattle.instance.specs.Instance.{Instance, weight-at, mark-at}
 use Rattle.instance.specs.Valid.{valid-instance}
 use Rattle.instance.specs.Same.{Same-instance}
 use Rattle.card_format.specs.Widths.{n-width, root-width}
-use Rattle.card_format.specs.Card.{n-in, root-in, budget-in, on-card, bits-needed, bytes-needed, min-card, instance-of-bits, instance-in, cells-refusal, instance-bits, filling-bits, card-of}
+use Rattle.card_format.specs.Card.{n-in, root-in, budget-in, on-card, bits-needed, min-card, instance-of-bits, instance-in, cells-refusal, instance-bits, filling-bits, card-of}
 use Rattle.card_format.proofs.LengthLaws.{length-known}
 use Rattle.card_format.proofs.OffsetLaws.{offset-end}
-use Rattle.card_format.proofs.WrittenBits.{length-instance-bits, instance-are-bits}
+use Rattle.card_format.proofs.WrittenBits.{length-instance-bits, card-bits-in}
 use Rattle.card_format.proofs.OpensLaws.{opens, marks-long}
 use Rattle.card_format.proofs.InstanceAgain.{written-opens, instance-round-trip, instance-back}
 use Rattle.commands.specs.Model.{Replaced, Model}
@@ -45,18 +44,9 @@ use Rattle.history_format.proofs.HistoryBits.{length-history-bits, hist
 
 -- THE BITS OF AN INSTANCE, whatever follows them, are read as its old card is
 module _ (s : Instance) (e : valid-instance s ≡ true) (few : s .n ≤ max-vertices) (inner : s .root < s .n) where
-  card-bits-in : bits-in (card-of s) ≡ instance-bits s ++ filling-bits (s .n)
-  unfolding card-of
-  card-bits-in =
-      let k = length-known (s .n) few in
-      let z = 8 * bytes-needed (s .n) - bits-needed (s .n) in
-      bits-in-packed (bytes-needed (s .n)) (instance-bits s ++ filling-bits (s .n))
-      (length-append (instance-bits s) (filling-bits (s .n)) ∙ omega (arith, length-instance-bits s few inner, length-replicate {A = ℕ} z 0, k .whole))
-      (are-bits-append (instance-bits s) (filling-bits (s .n)) (instance-are-bits s) (zeros-are-bits z))
-
   card-instance : instance-in (card-of s) ≡ instance-of-bits (instance-bits s ++ filling-bits (s .n))
   unfolding instance-in
-  card-instance = ap (λ (bs : List ℕ). instance-of-bits bs) card-bits-in
+  card-instance = ap (λ (bs : List ℕ). instance-of-bits bs) (card-bits-in s few inner)
 
   n-written : n-in (instance-bits s) ≡ s .n
   n-written =
