@@ -9,6 +9,7 @@ pub mod RecordFits
 pub mod RecordLaws
 pub mod RecordLength
 pub mod HistoryLaws
+pub mod ShapedLaws
 pub mod FirstRecords
 pub mod LongHistory
 pub mod HistoryBits
