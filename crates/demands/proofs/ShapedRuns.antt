@@ -18,7 +18,7 @@ use Rattle.command_list.specs.declared.ListAnswered.{ListAnswered}
 use Rattle.command_list.specs.CommandList.{commands-in}
 use Rattle.command_list.proofs.ListCalled.{List-called}
 use Rattle.history_format.proofs.HistoryLaws.{All-shaped}
-use Rattle.history_format.proofs.ShapedLaws.{answered-shaped, board-after-shaped}
+use Rattle.history_format.proofs.ShapedLaws.{answered-shaped, answered-list-shaped}
 use Rattle.demands.proofs.Runs.{Run, no-call, then-command, then-list, then-look, then-write, then-write-history, then-check, list-called-singly}
 
 -- the board that a list leaves is that of the commands it applied
@@ -36,7 +36,7 @@ run-shaped (then-command {c = c} {b = b} {r = r} l rest) s =
     run-shaped rest (subst (λ (x : Model). All-shaped (x .history)) (sym m) (answered-shaped c (model-of b) s))
 run-shaped (then-list {ps = ps} {b = b} {r = r} l rest) s =
     let cs = take (r .applied) (commands-in ps) in
-    run-shaped rest (subst (λ (x : Model). All-shaped (x .history)) (sym (list-board l)) (board-after-shaped cs (model-of b) s))
+    run-shaped rest (subst (λ (x : Model). All-shaped (x .history)) (sym (list-board l)) (answered-list-shaped cs (model-of b) s))
 run-shaped (then-look l rest) s = run-shaped rest s
 run-shaped (then-write l rest) s = run-shaped rest s
 run-shaped (then-write-history l rest) s = run-shaped rest s

@@ -9,9 +9,8 @@ use mathlib.Core.Path.{_≡_, refl, sym, ap, _∙_}
 use mathlib.Core.Bool.{Bool, true, false, _||_, not, cond}
 use mathlib.Core.List.{List, _++_}
 use mathlib.Core.Logic.{⊎-elim}
-use Prim.Native.Nat.{ℕ, suc, _+_, _*_, _-_, _≤_, _<_}
+use Prim.Native.Nat.{ℕ, suc, _+_, _-_, _≤_, _<_}
 use native.Mathlib.Omega.{arith}
-use native.Mathlib.Nat.{mul-le-mul}
 use lib.Dec.{ltb, eqb}
 use lib.ListN.{length, take, drop, length-append, length-take, length-drop, take-append-drop}
 use lib.Seq.{drop-append-le}
@@ -25,6 +24,7 @@ use Rattle.instance.specs.Refusals.{bad-count, bad-length}
 use Rattle.instance.specs.Instance.{Instance}
 use Rattle.card_format.specs.Widths.{n-width, root-width, budget-width}
 use Rattle.card_format.specs.Card.{n-in, bits-needed, min-card, instance-of-bits, cells-refusal}
+use Rattle.card_format.proofs.LengthLaws.{most-bits, needed-most}
 use Rattle.card_format.proofs.TooLong.{too-long-refused, too-long-by-part}
 use Rattle.history_format.specs.RecordWidths.{marker-width, count-width}
 use Rattle.history_format.specs.HistoryCard.{is-history, behind-marker, behind-cells, count-in, max-history-card, behind-refusal, history-header-refusal, history-refusal, open-refusal}
@@ -32,14 +32,6 @@ use Rattle.history_format.proofs.FirstBits.{field-front, instance-front
 use Rattle.history_format.proofs.HeaderSteps.{History-header-known, history-header-known, history-rest, history-by-steps, history-opens}
 use Rattle.history_format.proofs.InnerCard.{old-are-bits}
 use Rattle.history_format.proofs.FirstRecords.{room, first-alike, records-refused, behind-front}
-
--- "36 + 22 times (n − 1) squared bits", at 32 positions
-abbrev most-bits : ℕ
-most-bits = 21178
-
-needed-most : (n : ℕ) → n ≤ max-vertices → bits-needed n ≤ most-bits
-unfolding bits-needed
-needed-most n h = let m : (n - 1) * (n - 1) ≤ 31 * 31 = mul-le-mul {n₂ = 31} {m₂ = 31} (omega arith) (omega arith) in omega arith
 
 -- WHAT IS LEFT of so many bytes
 module _ (vs : List ℕ) (h : max-history-card < length vs) where

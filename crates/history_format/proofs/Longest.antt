@@ -10,7 +10,6 @@ use mathlib.Core.List.{List}
 use mathlib.Core.Logic.{⊎-elim}
 use Prim.Native.Nat.{ℕ, zero, suc, _*_, _-_, _/_, _%_, _≤_, _<_}
 use native.Mathlib.Omega.{arith}
-use native.Mathlib.Nat.{mul-le-mul}
 use lib.Dec.{ltb}
 use lib.ListN.{length, replicate, length-append, length-replicate, getD-replicate}
 use borrow.Author.Tests.{ltb-true, ltb-false}
@@ -24,6 +23,7 @@ use Rattle.instance.specs.Instance.{Instance, weight, can-be-arc, is-arc}
 use Rattle.instance.specs.Cuts.{inside}
 use Rattle.instance.specs.Valid.{cell-ok, cell-valid}
 use Rattle.card_format.specs.Card.{bits-needed}
+use Rattle.card_format.proofs.LengthLaws.{needed-most}
 use Rattle.commands.specs.Model.{Replaced, old-marks, Model}
 use Rattle.commands.specs.Valid.{head-ok, record-ok, valid}
 use Rattle.commands.proofs.ValidLaws.{valid-parts, parts-valid}
@@ -39,11 +39,6 @@ use Rattle.history_format.proofs.ModelAgain.{history-opens-again}
 use Rattle.history_format.proofs.Moves.{new-opens}
 
 -- NONE IS LONGER
--- "36 + 22 times (n − 1) squared bits", at 32 positions
-needed-most : (n : ℕ) → n ≤ max-vertices → bits-needed n ≤ 21178
-unfolding bits-needed
-needed-most n h = let q : (n - 1) * (n - 1) ≤ 31 * 31 = mul-le-mul {n₂ = 31} {m₂ = 31} (omega arith) (omega arith) in omega arith
-
 pub longest-history : (m : Model) → valid m ≡ true → length (history-card-of m) ≤ max-history-card
 unfolding history-bytes
 longest-history m e =
