@@ -59,14 +59,14 @@ ok-head-below s (old-budget v) few e = tt
 
 -- ARC BY ARC
 module _ (s : Instance) (long : length (s .marks) ≡ cells) (t h : ℕ) (lt : t < max-vertices) (lh : h < max-vertices) where
-  one-mark : (u v m : ℕ) → v < max-vertices → Dec (cell t h ≡ cell u v) →
+  at-arc : (u v m : ℕ) → v < max-vertices → Dec (cell t h ≡ cell u v) →
       getD (set (s .marks) (cell u v) m) (cell t h) free ≡ cond (eqb t u && eqb h v) m (getD (s .marks) (cell t h) free)
-  one-mark u v m lv (yes e) =
+  at-arc u v m lv (yes e) =
       let p : t ≡ u = omega arith in
       let q : h ≡ v = omega arith in
       ap (λ (k : ℕ). getD (set (s .marks) (cell u v) m) k free) e ∙ getD-set-same (s .marks) (cell u v) m free (omega arith)
       ∙ simp (eq-eqb t u p, eq-eqb h v q)
-  one-mark u v m lv (no n) =
+  at-arc u v m lv (no n) =
       getD-set-other (s .marks) (cell u v) (cell t h) m free n
       ∙ simp (and-not (eqb t u) (eqb h v) (λ p q. n (omega (arith, eqb-true t u p, eqb-true h v q))))
 
@@ -82,7 +82,7 @@ pub restored-reads : (r : Replaced) (s : Instance) → length (s .marks) ≡ cel
 unfolding restored mark with-mark with-marks
 restored-reads (old-mark u v m) s long b =
     record {
-      marks = λ t h lt lh. one-mark s long t h lt lh u v m b (ℕ-discrete (cell t h) (cell u v));
+      marks = λ t h lt lh. at-arc s long t h lt lh u v m b (ℕ-discrete (cell t h) (cell u v));
       budget = refl;
       n = refl;
       root = refl;

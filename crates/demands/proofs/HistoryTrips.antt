@@ -30,7 +30,7 @@ use Rattle.history_format.proofs.HistoryBits.{history-kind-again}
 use Rattle.history_format.proofs.HistoryLaws.{All-shaped}
 use Rattle.history_format.proofs.ModelAgain.{As-read, history-opens-again, history-round-trip, model-back}
 use Rattle.history_format.proofs.HistoryAgain.{history-card-round-trip, model-of-history, model-in-shaped}
-use Rattle.history_format.proofs.Moves.{new-opens, there-and-back-old, there-and-back-new}
+use Rattle.history_format.proofs.Moves.{history-card-opens, plain-there-and-back, history-there-and-back}
 use Rattle.history_format.proofs.Longest.{longest-history}
 use Rattle.planner.specs.Replaying.{log-in}
 use Rattle.planner.proofs.Learnt.{Opened-by, opened-by, Wrote-history, wrote-history, Moved-to-history, moved-to-history, Moved-to-plain, moved-to-plain}
@@ -85,7 +85,7 @@ module _ (m : Model) (v : valid m ≡ true) (s : All-shaped (m .history)) where
   card = history-card-of m
 
   again : open-refusal card ≡ 0
-  again = new-opens card (history-opens-again m v s)
+  again = history-card-opens card (history-opens-again m v s)
 
   reopened : (o : Answered) → Opened-by card o → (o .answer ≡ 0) × (model-of (o .board) ≡ history-model card)
   reopened o p =
@@ -144,21 +144,21 @@ module _ {ws : List ℕ} {o : Answered} {is : List Input} {xs : List ℕ} {last 
       record { answers = f .same-answers; instance = f .follows .tied .same-instance }
 
 -- THERE AND BACK
-pub old-new-old :
+pub plain-history-plain :
     {ws out out′ back back′ : List ℕ} {r q : Written} → are-bytes ws ≡ true → Moved-to-history ws out out′ r → r .answer ≡ 0 →
     Moved-to-plain (take (r .length) out′) back back′ q → length ws ≤ length back → Same-card ws back back′ q
-old-new-old {ws} {out} {out′} {back} {back′} {r} {q} y m a n h =
+plain-history-plain {ws} {out} {out′} {back} {back′} {r} {q} y m a n h =
     let c = to-history-cases ws out out′ r (moved-to-history m) in
-    let t = there-and-back-old ws y (stores-passed _ _ out out′ r c a) in
+    let t = plain-there-and-back ws y (stores-passed _ _ out out′ r c a) in
     let d = to-plain-cases _ back back′ q (moved-to-plain (subst (λ (xs : List ℕ). Moved-to-plain xs back back′ q) (in-buffer c a) n)) in
     subst (λ (xs : List ℕ). Same-card xs back back′ q) (t .1) (in-front-of d (t .0) (rw (t .1) h))
 
-pub new-old-new :
+pub history-plain-history :
     {ws out out′ back back′ : List ℕ} {r q : Written} → are-bytes ws ≡ true → Moved-to-plain ws out out′ r → r .answer ≡ 0 →
     Moved-to-history (take (r .length) out′) back back′ q → length ws ≤ length back → Same-card ws back back′ q
-new-old-new {ws} {out} {out′} {back} {back′} {r} {q} y m a n h =
+history-plain-history {ws} {out} {out′} {back} {back′} {r} {q} y m a n h =
     let c = to-plain-cases ws out out′ r (moved-to-plain m) in
-    let t = there-and-back-new ws y (stores-passed _ _ out out′ r c a) in
+    let t = history-there-and-back ws y (stores-passed _ _ out out′ r c a) in
     let d = to-history-cases _ back back′ q (moved-to-history (subst (λ (xs : List ℕ). Moved-to-history xs back back′ q) (in-buffer c a) n)) in
     subst (λ (xs : List ℕ). Same-card xs back back′ q) (t .1) (in-front-of d (t .0) (rw (t .1) h))
 

@@ -44,7 +44,7 @@ use Rattle.board.specs.declared.Answered.{Answered}
 use Rattle.history_format.specs.HistoryCard.{is-history, open-refusal, model-in}
 use Rattle.history_format.proofs.ModelAgain.{As-read}
 use Rattle.history_format.proofs.HistoryAgain.{model-in-valid, model-of-card, model-in-as-read}
-use Rattle.history_format.proofs.Moves.{card-not-history, old-still-opens}
+use Rattle.history_format.proofs.Moves.{card-not-history, plain-card-opens}
 use Rattle.planner.specs.Opening.{opened-from}
 use Rattle.planner.specs.Replaying.{log-in}
 use Rattle.planner.proofs.Learnt.{Opened-by, opened-by, Wrote, wrote}
@@ -102,7 +102,7 @@ stored-card {b} {r} {out} {out′} w z = go (write-cases b r out out′ (wrote w
 reopened : (b : Board) (ws : List ℕ) (o : Answered) → Stored b ws → o ≡ opened-from ws → (o .answer ≡ 0) × (instance-of (o .board) ≡ instance-in (card-of (instance-of b)))
 reopened b ws o c e =
     let z : card-refusal ws ≡ 0 = ap card-refusal (c .card) ∙ written-opens (instance-of b) (c .fields) in
-    let y = old-still-opens ws z in
+    let y = plain-card-opens ws z in
     (opened-answer ws o e ∙ y, opened-instance ws o e y ∙ plain-card ws (card-not-history ws z) .1 ∙ ap instance-in (c .card))
 
 pub record Same-fields (b : Board) (o : Answered) : Type 0 where

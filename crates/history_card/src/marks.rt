@@ -12,7 +12,7 @@ ghost use Rattle.instance.specs.Cuts.{inside};
 ghost use Rattle.card_format.specs.Widths.{mark-width};
 ghost use Rattle.heads.specs.RecordMarks.{record-marks};
 ghost use Rattle.history_format.specs.RecordBits.{mark-offset, mark-bits};
-ghost use Rattle.history_card.specs.Marks.{last-end, one-mark};
+ghost use Rattle.history_card.specs.Marks.{last-bit, one-mark};
 use bits::BitWriter;
 use card::widths::MARK_WIDTH;
 use checks::sets::is_inside;
@@ -35,7 +35,7 @@ pub fn marks_width(heads: u32) -> usize
 
 // The marks of these heads, from the bits at `at` on; 0 at any other head.
 pub fn read_marks(card: &[u8], at: usize, heads: u32) -> u64
-    requires { ⌜ (at + mark-offset heads max-vertices ≤ 8 * length (now card)) × (at ≤ last-end) ⌝ }
+    requires { ⌜ (at + mark-offset heads max-vertices ≤ 8 * length (now card)) × (at ≤ last-bit) ⌝ }
     ensures { λ r. ⌜ r ≡ from-digits 4 max-vertices (λ h. cond (inside heads h) (field (at + mark-offset heads h) mark-width (bits-in (now (card .entry)))) free) ⌝ }
 {
     let mut value: u64 = 0;

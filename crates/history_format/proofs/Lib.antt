@@ -2,7 +2,7 @@
 pub mod FirstBits
 pub mod HeaderSteps
 pub mod InnerCard
-pub mod OldConsole
+pub mod OldReader
 pub mod HistoryNumbers
 pub mod MemberMarks
 pub mod RecordFits

@@ -36,7 +36,7 @@ use Rattle.history_format.proofs.HistoryLaws.{All-shaped, records-short
 use Rattle.history_format.proofs.HistoryBits.{length-history-bits, length-history-card}
 use Rattle.history_format.proofs.LongHistory.{long-refused}
 use Rattle.history_format.proofs.ModelAgain.{history-opens-again}
-use Rattle.history_format.proofs.Moves.{new-opens}
+use Rattle.history_format.proofs.Moves.{history-card-opens}
 
 -- NONE IS LONGER
 pub longest-history : (m : Model) → valid m ≡ true → length (history-card-of m) ≤ max-history-card
@@ -53,7 +53,7 @@ longest-history m e =
 -- of any bytes: a history card that opens is not longer
 pub opened-history-short : (ws : List ℕ) → history-refusal ws ≡ 0 → length ws ≤ max-history-card
 opened-history-short ws e =
-    ⊎-elim (λ (q : ltb max-history-card (length ws) ≡ true). absurd (long-refused ws (ltb-true max-history-card (length ws) q) (new-opens ws e)))
+    ⊎-elim (λ (q : ltb max-history-card (length ws) ≡ true). absurd (long-refused ws (ltb-true max-history-card (length ws) q) (history-card-opens ws e)))
     (λ (q : ltb max-history-card (length ws) ≡ false). ltb-false max-history-card (length ws) q) (test (ltb max-history-card (length ws)))
 
 -- ONE IS AS LONG

@@ -1,8 +1,8 @@
 -- Every valid board, written as a history card and opened again, is the same board, records and all, and its card
 -- opens. One whose instance is as a card is read comes back exactly. Assumes nothing.
 --
--- Behind the six bits the card has the bits of the instance, as the old card of the instance has them. What is read of
--- them does not depend on what follows: so the instance that is read is that of the old card, whose laws are in
+-- Behind the six bits the card has the bits of the instance, as the plain card of the instance has them. What is read
+-- of them does not depend on what follows: so the instance that is read is that of the plain card, whose laws are in
 -- card_format. Behind it the count is read, then the records (HistoryLaws), and fewer than eight zeros are left.
 use mathlib.Core.Path.{_≡_, refl, sym, ap, _∙_}
 use mathlib.Core.Bool.{true, false, cond}
@@ -42,7 +42,7 @@ use Rattle.history_format.proofs.FirstBits.{field-front, instance-front
 use Rattle.history_format.proofs.HistoryLaws.{All-writable, All-shaped, all-writable, history-read, refusal-read}
 use Rattle.history_format.proofs.HistoryBits.{length-history-bits, history-filling, bytes-room, filling-short, length-history-card, written-bits-in, history-kind-again}
 
--- THE BITS OF AN INSTANCE, whatever follows them, are read as its old card is
+-- THE BITS OF AN INSTANCE, whatever follows them, are read as its plain card is
 module _ (s : Instance) (e : valid-instance s ≡ true) (few : s .n ≤ max-vertices) (inner : s .root < s .n) where
   card-instance : instance-in (card-of s) ≡ instance-of-bits (instance-bits s ++ filling-bits (s .n))
   unfolding instance-in
@@ -116,11 +116,11 @@ module _ (m : Model) (e : valid m ≡ true) (shaped : All-shaped (m .history)) w
   abbrev rest : List ℕ
   rest = bits-of count-width (length h) ++ records
 
-  old-written : behind-marker ws ≡ instance-bits s ++ rest
-  old-written = rw (written-bits-in m) (drop-at (bits-of marker-width history-marker) (instance-bits s ++ rest) marker-width (length-bits-of marker-width history-marker))
+  behind-marker-written : behind-marker ws ≡ instance-bits s ++ rest
+  behind-marker-written = rw (written-bits-in m) (drop-at (bits-of marker-width history-marker) (instance-bits s ++ rest) marker-width (length-bits-of marker-width history-marker))
 
   instance-read : instance-of-bits (behind-marker ws) ≡ t
-  instance-read = ap (λ (bs : List ℕ). instance-of-bits bs) old-written ∙ instance-followed s s-valid (v .n-high) (v .root-below) rest
+  instance-read = ap (λ (bs : List ℕ). instance-of-bits bs) behind-marker-written ∙ instance-followed s s-valid (v .n-high) (v .root-below) rest
 
   n-read : n-in (behind-marker ws) ≡ s .n
   n-read = ap (λ (i : Instance). i .n) instance-read ∙ same .same-n
@@ -133,7 +133,7 @@ module _ (m : Model) (e : valid m ≡ true) (shaped : All-shaped (m .history)) w
 
   behind-written : behind-cells ws ≡ rest
   behind-written =
-      rw (n-read, old-written) (drop-at (instance-bits s) rest (bits-needed (s .n)) (length-instance-bits s (v .n-high) (v .root-below)))
+      rw (n-read, behind-marker-written) (drop-at (instance-bits s) rest (bits-needed (s .n)) (length-instance-bits s (v .n-high) (v .root-below)))
 
   count-read : count-in (behind-cells ws) ≡ length h
   count-read =
@@ -155,8 +155,8 @@ module _ (m : Model) (e : valid m ≡ true) (shaped : All-shaped (m .history)) w
       let k = length-known (s .n) (v .n-high) in
       omega (arith, length-history-card m, bytes-room m, length-history-bits m (v .n-high) (v .root-below), k .header)
 
-  old-long : bits-needed (s .n) ≤ length (behind-marker ws)
-  old-long = rw old-written (omega (arith, length-append (instance-bits s) rest, length-instance-bits s (v .n-high) (v .root-below)))
+  behind-marker-long : bits-needed (s .n) ≤ length (behind-marker ws)
+  behind-marker-long = rw behind-marker-written (omega (arith, length-append (instance-bits s) rest, length-instance-bits s (v .n-high) (v .root-below)))
 
   header-passes : (x : ℕ) → history-header-refusal ws x ≡ x
   unfolding history-header-refusal
@@ -171,7 +171,7 @@ module _ (m : Model) (e : valid m ≡ true) (shaped : All-shaped (m .history)) w
         budget-read,
         ne-eqb (s .n) 0 some,
         le-ltb max-vertices (s .n) (v .n-high),
-        le-ltb (length (behind-marker ws)) (bits-needed (s .n)) old-long,
+        le-ltb (length (behind-marker ws)) (bits-needed (s .n)) behind-marker-long,
         lt-leb (s .n) (s .root) (v .root-below),
         le-ltb max-budget (s .budget) (v .budget-most),
       )

@@ -17,7 +17,7 @@ use Rattle.history_format.specs.RecordBits.{member-marks, record-length,
 use Rattle.history_format.specs.HistoryCard.{history-in, end-refusal, records-refusal, records-bits}
 
 -- ONE OF EACH KIND
-pub record Written : Type 0 where
+pub record Written-case : Type 0 where
   pub replaced : Replaced
   pub bits : List ℕ
 
@@ -25,7 +25,7 @@ pub record Written : Type 0 where
 abbrev marks-at : (one three : ℕ) → List ℕ
 marks-at a b = 0 ∷ a ∷ 0 ∷ b ∷ replicate 28 0
 
-unfoldable pub written : List Written
+unfoldable pub written : List Written-case
 written =
     -- "0 a link (feeder 5, fed 5, replaced mark 2)": 2→5, pinned
     record { replaced = old-mark 2 5 1; bits = 0 ∷ 0 ∷ 0 ∷ 0 ∷ 0 ∷ 1 ∷ 0 ∷ 0 ∷ 0 ∷ 1 ∷ 0 ∷ 1 ∷ 0 ∷ 1 ∷ [] } ∷

@@ -25,7 +25,7 @@ is-history ws = eqb (field 0 marker-width (bits-in ws)) history-marker
 abbrev pub behind-marker : (card : List ℕ) → List ℕ
 behind-marker ws = drop marker-width (bits-in ws)
 
--- "then an 8-bit count of recorded presses, then the records": what follows the bits of the old card
+-- "then an 8-bit count of recorded presses, then the records": what follows the bits of the plain card
 abbrev pub behind-cells : (card : List ℕ) → List ℕ
 behind-cells ws = drop (bits-needed (n-in (behind-marker ws))) (behind-marker ws)
 

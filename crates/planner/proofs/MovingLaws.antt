@@ -27,7 +27,7 @@ use Rattle.planner.specs.Opening.{plain-opened}
 use Rattle.planner.specs.Moving.{not-moved, Moves-to-history, Moves-to-plain}
 use Rattle.planner.proofs.OpeningLaws.{answer-by, board-by}
 
--- OLD TO NEW
+-- PLAIN TO HISTORY
 module _ (ws out : List ℕ) (o : Answered) (e : o ≡ plain-opened ws) where
   plain-answer : o .answer ≡ card-refusal ws
   unfolding plain-opened
@@ -60,7 +60,7 @@ module _ (ws out : List ℕ) (o : Answered) (e : o ≡ plain-opened ws) where
         let t = eq-eqb (card-refusal ws) 0 opens in
         record { result = rw t (v .result); buffer = rw t (v .buffer) }
 
--- NEW TO OLD
+-- HISTORY TO PLAIN
 module _ (ws out : List ℕ) (o : Answered) (e : o ≡ history-opened ws) where
   history-answer : o .answer ≡ history-refusal ws
   unfolding history-opened

@@ -20,7 +20,7 @@ use Rattle.board.specs.declared.Board.{Board}
 use Rattle.board.specs.declared.Answered.{Answered}
 use Rattle.history_format.specs.HistoryCard.{is-history, open-refusal, model-in, history-refusal}
 use Rattle.history_format.proofs.HistoryAgain.{model-in-valid, model-in-shaped, model-in-long}
-use Rattle.history_format.proofs.OldConsole.{old-console-refuses}
+use Rattle.history_format.proofs.OldReader.{old-reader-refuses}
 use Rattle.history_card.specs.Open.{history-opened}
 use Rattle.history_card.proofs.BoardOfLaws.{model-of-board}
 use Rattle.planner.specs.Opening.{plain-opened, opened-from}
@@ -53,11 +53,11 @@ pub kind-plain : (ws : List ℕ) → is-history ws ≡ false → plain-opened ws
 unfolding plain-opened opened-from open-refusal model-in
 kind-plain ws e = rw e
 
--- an old console has `plain-opened` for its contract: "An old console refuses every new card by 2", with no board
-pub old-console-opens-none : (ws : List ℕ) → history-refusal ws ≡ 0 → plain-opened ws ≡ answered-with bad-count blank
+-- an old reader has `plain-opened` for its contract: "An old console refuses every new card by 2", with no board
+pub old-reader-opens-none : (ws : List ℕ) → history-refusal ws ≡ 0 → plain-opened ws ≡ answered-with bad-count blank
 unfolding plain-opened
-old-console-opens-none ws e =
-    let r = old-console-refuses ws e in
+old-reader-opens-none ws e =
+    let r = old-reader-refuses ws e in
     blank-by (card-refusal ws) (opened (instance-in ws)) (λ z. omega arith) ∙ ap (λ (k : ℕ). answered-with k blank) r
 
 -- WHAT IS OPENED
@@ -94,7 +94,7 @@ opened-starts ws o e z =
       same-n = ap (λ (x : Model). x .instance .n) m;
     }
 
--- WHAT AN OLD CARD SAYS
+-- WHAT A PLAIN CARD SAYS
 -- contents with the refusal they come with
 refusal-said : (ws : List ℕ) → contents-of ws .answer ≡ card-refusal ws
 unfolding contents-of no-contents

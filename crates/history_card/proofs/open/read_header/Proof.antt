@@ -13,7 +13,7 @@ use Rattle.card_format.proofs.LengthLaws.{length-known}
 use Rattle.history_format.specs.RecordWidths.{marker-width}
 use Rattle.history_format.specs.HistoryCard.{history-header-refusal}
 use Rattle.history_card.specs.Open.{history-header-of}
-use Rattle.history_card.proofs.RecordReadLaws.{short-here, whole-here}
+use Rattle.history_card.proofs.RecordLaws.{short-here, whole-here}
 use Rattle.history_card.proofs.OpenLaws.{fields-last}
 use borrow.Author.Needs.{needs}
 use Rattle.history_card.proofs.open.read_header.Statement.{statement}

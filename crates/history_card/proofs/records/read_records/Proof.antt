@@ -4,7 +4,7 @@ use Prim.Native.Nat.{_-_}
 use native.Mathlib.Omega.{arith}
 use Rattle.instance.specs.Matrix.{unmarked}
 use Rattle.history_card.specs.declared.records.History.{History}
-use Rattle.history_card.proofs.RecordsReadLaws.{Reading, reading-begun, record-stops, record-more, all-read}
+use Rattle.history_card.proofs.RecordsLaws.{Reading, reading-begun, record-stops, record-more, all-read}
 use borrow.Author.Needs.{needs}
 use Rattle.history_card.proofs.records.read_records.Statement.{statement}
 use Rattle.history_card.proofs.records.read_records.Tie as tie

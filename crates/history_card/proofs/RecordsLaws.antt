@@ -30,7 +30,7 @@ use Rattle.history_card.specs.Record.{Record-read}
 use Rattle.history_card.specs.Records.{no-history, Records-read}
 use Rattle.history_card.specs.declared.record.RecordRead.{RecordRead}
 use Rattle.history_card.specs.declared.records.History.{History}
-use Rattle.history_card.proofs.RecordReadLaws.{rest-bits, short-here, whole-here}
+use Rattle.history_card.proofs.RecordLaws.{rest-bits, short-here, whole-here}
 
 -- BEHIND THE LAST RECORD
 module _ (ws : List ℕ) (end : ℕ) (inside : end ≤ 8 * length ws) where
