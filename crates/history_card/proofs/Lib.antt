@@ -3,5 +3,5 @@ pub mod RecordLaws
 pub mod RecordsLaws
 pub mod PutLaws
 pub mod WriteLaws
-pub mod OpenLaws
 pub mod BoardOfLaws
+pub mod OpenLaws
