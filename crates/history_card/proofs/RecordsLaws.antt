@@ -30,7 +30,6 @@ use Rattle.history_card.specs.Record.{Record-read}
 use Rattle.history_card.specs.Records.{no-count, counted-in, no-history, Records-read}
 use Rattle.history_card.specs.declared.records.Counted.{Counted}
 use Rattle.history_card.specs.declared.record.RecordRead.{RecordRead}
-use Rattle.history_card.specs.declared.records.History.{History}
 use Rattle.history_card.proofs.RecordLaws.{rest-bits, short-here, whole-here}
 
 -- BEHIND THE LAST RECORD

@@ -5,8 +5,6 @@ ghost use lib.ListN.{length, drop};
 ghost use Rattle.bits.specs.Bits.{bits-in};
 ghost use Rattle.instance.specs.Limits.{max-vertices, max-records, cells};
 ghost use Rattle.instance.specs.Matrix.{unmarked};
-ghost use Rattle.card_format.specs.Card.{max-card};
-ghost use Rattle.history_format.specs.RecordWidths.{count-width};
 ghost use Rattle.history_format.specs.HistoryCard.{end-refusal, records-refusal, max-history-card};
 ghost use Rattle.history_card.specs.Marks.{last-place};
 ghost use Rattle.history_card.specs.Records.{no-count, counted-in, no-history, Records-read};
