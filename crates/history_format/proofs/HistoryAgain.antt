@@ -8,7 +8,7 @@ use mathlib.Core.Path.{_≡_, refl, sym, ap, _∙_}
 use mathlib.Core.Bool.{Bool, true, false, _&&_, cond}
 use mathlib.Core.List.{List, [], _++_, append-assoc}
 use mathlib.Core.Logic.{⊎-elim}
-use Prim.Native.Nat.{ℕ, _+_, _*_, _-_, _≤_, _<_}
+use Prim.Native.Nat.{ℕ, _+_, _*_, _-_, _<_}
 use native.Mathlib.Omega.{arith}
 use native.Mathlib.Nat.{add-zero}
 use lib.Dec.{ltb, leb, eqb}
@@ -130,20 +130,12 @@ history-card-round-trip ws b e = bytes-same ws (history-opens ws e) b
 pub history-model-valid : (ws : List ℕ) → history-refusal ws ≡ 0 → valid (history-model ws) ≡ true
 history-model-valid ws e = board-valid ws (history-opens ws e)
 
--- as many records as the count says
-pub history-model-count : (ws : List ℕ) → length (history-model ws .history) ≡ count-in (behind-cells ws)
-unfolding history-model
-history-model-count ws = history-length (count-in (behind-cells ws)) (drop count-width (behind-cells ws)) [] ∙ add-zero (count-in (behind-cells ws))
-
-pub history-model-few : (ws : List ℕ) → history-refusal ws ≡ 0 → length (history-model ws .history) ≤ max-records
-history-model-few ws e = omega (arith, history-model-count ws, history-opens ws e .few)
-
 -- the records are of a board's types, and the instance is as a card is read, whatever the bytes
 pub history-model-shaped : (ws : List ℕ) → All-shaped (history-model ws .history)
 unfolding history-model
 history-model-shaped ws = history-shaped (count-in (behind-cells ws)) (drop count-width (behind-cells ws)) [] (behind-are-bits ws) tt
 
-bits-as-read : (bs : List ℕ) → As-read (instance-of-bits bs)
+pub bits-as-read : (bs : List ℕ) → As-read (instance-of-bits bs)
 unfolding cell-field
 bits-as-read bs =
     let n = n-in bs in
