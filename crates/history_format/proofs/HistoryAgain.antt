@@ -5,7 +5,7 @@
 -- (InnerCard), the count's, the records' (HistoryLaws). What is left is fewer than eight zeros, which fill the last
 -- byte.
 use mathlib.Core.Path.{_≡_, refl, sym, ap, _∙_}
-use mathlib.Core.Bool.{Bool, true, false, _&&_, cond}
+use mathlib.Core.Bool.{true, false, _&&_, cond}
 use mathlib.Core.List.{List, [], _++_, append-assoc}
 use mathlib.Core.Logic.{⊎-elim}
 use Prim.Native.Nat.{ℕ, _+_, _*_, _-_, _<_}
@@ -15,7 +15,7 @@ use lib.Dec.{ltb, leb, eqb}
 use lib.ListN.{length, drop, length-append, take-append-drop}
 use borrow.Author.Tests.{leb-false, eqb-true, le-leb}
 use Rattle.base.specs.Lists.{all-of}
-use Rattle.base.proofs.BoolLaws.{and-both, passed, test}
+use Rattle.base.proofs.BoolLaws.{and-both, passed, passes-only, test}
 use Rattle.base.proofs.AllOfLaws.{all-of-drop}
 use Rattle.base.proofs.PartLaws.{zeros-are}
 use Rattle.bits.specs.Bits.{bits-of, bits-in, field, are-bits, are-bytes}
@@ -41,15 +41,11 @@ use Rattle.history_format.proofs.HistoryLaws.{All-shaped, rest-in, hist
 use Rattle.history_format.proofs.ModelAgain.{As-read}
 
 -- what is left behind the records
-some-zeros : (f : Bool) → cond f 0 bad-filling ≡ 0 → f ≡ true
-some-zeros true e = refl
-some-zeros false e = absurd (omega arith)
-
 end-passes : (bs : List ℕ) → end-refusal bs ≡ 0 → (length bs < 8) × (all-of (λ b. eqb b 0) bs ≡ true)
 unfolding end-refusal
 end-passes bs e =
     let p = passed (leb 8 (length bs)) 2 (cond (all-of (λ b. eqb b 0) bs) 0 bad-filling) e in
-    (leb-false 8 (length bs) (p .0), some-zeros (all-of (λ b. eqb b 0) bs) (p .1))
+    (leb-false 8 (length bs) (p .0), passes-only (all-of (λ b. eqb b 0) bs) 7 (p .1))
 
 behind-are-bits : (ws : List ℕ) → are-bits (drop count-width (behind-cells ws)) ≡ true
 behind-are-bits ws =
