@@ -32,8 +32,8 @@ use Rattle.history_format.specs.RecordWidths.{marker-width, count-width}
 use Rattle.history_format.specs.RecordBits.{record-length, replaced-in, record-refusal}
 use Rattle.history_format.specs.HistoryCard.{is-history, behind-marker, behind-cells, count-in, history-model, records-refusal, behind-refusal, history-header-refusal, history-refusal}
 use Rattle.history_format.proofs.HeaderSteps.{History-header-known, history-header-known, history-rest, history-by-steps}
-use Rattle.history_format.proofs.InnerCard.{weights-long-from}
 use Rattle.history_format.proofs.HistoryLaws.{history-length}
+use Rattle.history_format.proofs.HistoryAgain.{bits-as-read}
 use Rattle.history_card.specs.Records.{counted-in, Records-read}
 use Rattle.history_card.specs.declared.records.Counted.{Counted}
 use Rattle.history_card.specs.Open.{history-header-of, history-opened}
@@ -138,7 +138,7 @@ module _ (ws : List ℕ) (h : Header) (q : h ≡ history-header-of ws) where
         same-weights = k .all-weights y ∙ rw its-fields
 
         pub cells-long : length (c .weights) ≡ cells
-        cells-long = ap length same-weights ∙ weights-long-from (behind-marker ws)
+        cells-long = ap length same-weights ∙ bits-as-read (behind-marker ws) .weights-long
 
         same-marks : c .marks ≡ S .marks
         same-marks = k .all-marks y ∙ rw its-fields
