@@ -36,8 +36,7 @@ use Rattle.planner.specs.Looking.{Buffers, answer-of, Looks-at}
 use Rattle.planner.specs.Checking.{check-answer}
 use Rattle.planner.specs.Replaying.{Call, Replays-at}
 use Rattle.planner.proofs.CallSteps.{shown-answer}
-use Rattle.planner.proofs.WritingLaws.{Write-case, refused-board, refused-buffer, stored as stored-board}
-use Rattle.planner.proofs.OrderLaws.{Store-case, refused-by, no-room, stored}
+use Rattle.planner.proofs.WritingLaws.{board-refusal, Store-case, refused-by, no-room, put}
 use Rattle.planner.proofs.OpeningLaws.{blank-by, opened-answer}
 
 -- THE NUMBERS OF EACH CALL, 0 for accepted. A plain card: "Cards: 1 to 5 in that order; then the first faulty cell ..;
@@ -124,50 +123,38 @@ module _ (s : Instance) (v : View) (old new : Buffers) where
   looks-at-valid true t u e = refl
   looks-at-valid false t u e = absurd (omega (arith, sym e ∙ ap answer-of (u .result)))
 
--- WRITES
-module _ (b : Board) (r : Written) (out out′ : List ℕ) where
-  pub writes-among : Write-case b out out′ r → among (r .answer) buffer-numbers ≡ true
-  unfolding any-of
-  writes-among (refused-board e p q) = rw p
-  writes-among (refused-buffer e l p q) = rw p
-  writes-among (stored-board e l p q) = rw p
-
-  pub writes-as-before : Write-case b out out′ r → (r .answer ≡ 0 → ⊥) → out′ ≡ out
-  writes-as-before (refused-board e p q) n = q
-  writes-as-before (refused-buffer e l p q) n = q
-  writes-as-before (stored-board e l p q) n = absurd (n (ap (λ (x : Written). x .answer) p))
-
-  pub writes-valid : Write-case b out out′ r → r .answer ≡ 0 → valid (model-of b) ≡ true
-  writes-valid (refused-board e p q) z = absurd (omega (arith, sym z ∙ ap (λ (x : Written). x .answer) p))
-  writes-valid (refused-buffer e l p q) z = e
-  writes-valid (stored-board e l p q) z = e
-
--- CARDS STORED: a board written with its records, and the moves
+-- CARDS STORED: a board written, with its records or without, and the moves
 module _ (k : ℕ) (card out out′ : List ℕ) (r : Written) where
   pub stores-among : (ns : List ℕ) → among k ns ≡ true → among 0 ns ≡ true → among buffer-short ns ≡ true → Store-case k card out out′ r → among (r .answer) ns ≡ true
   stores-among ns own none short (refused-by n p q) = rw (ap (λ (x : Written). x .answer) p) own
   stores-among ns own none short (no-room z l p q) = rw (ap (λ (x : Written). x .answer) p) short
-  stores-among ns own none short (stored z l p q) = rw (ap (λ (x : Written). x .answer) p) none
+  stores-among ns own none short (put z l p q) = rw (ap (λ (x : Written). x .answer) p) none
 
   pub stores-as-before : Store-case k card out out′ r → (r .answer ≡ 0 → ⊥) → out′ ≡ out
   stores-as-before (refused-by n p q) a = q
   stores-as-before (no-room z l p q) a = q
-  stores-as-before (stored z l p q) a = absurd (a (ap (λ (x : Written). x .answer) p))
+  stores-as-before (put z l p q) a = absurd (a (ap (λ (x : Written). x .answer) p))
 
   pub stores-passed : Store-case k card out out′ r → r .answer ≡ 0 → k ≡ 0
   stores-passed (refused-by n p q) a = absurd (n (sym (ap (λ (x : Written). x .answer) p) ∙ a))
   stores-passed (no-room z l p q) a = z
-  stores-passed (stored z l p q) a = z
+  stores-passed (put z l p q) a = z
 
 -- a board that is refused by nothing is valid
-pub board-passed : (v : Bool) → cond v 0 invalid-board ≡ 0 → v ≡ true
-board-passed true e = refl
-board-passed false e = absurd (omega (arith, e))
+pub board-passed : (b : Board) → board-refusal b ≡ 0 → valid (model-of b) ≡ true
+board-passed b = by (valid (model-of b))
+  where
+    by : (v : Bool) → cond v 0 invalid-board ≡ 0 → v ≡ true
+    by true e = refl
+    by false e = absurd (omega (arith, e))
 
-pub board-among : (v : Bool) → among (cond v 0 invalid-board) buffer-numbers ≡ true
+pub board-among : (b : Board) → among (board-refusal b) buffer-numbers ≡ true
 unfolding any-of
-board-among true = refl
-board-among false = refl
+board-among b = by (valid (model-of b))
+  where
+    by : (v : Bool) → among (cond v 0 invalid-board) buffer-numbers ≡ true
+    by true = refl
+    by false = refl
 
 -- CHECKS
 module _ (b : Board) (ps : List ℕ) (v k : ℕ) (ws : List ℕ) where

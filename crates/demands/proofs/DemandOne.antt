@@ -5,14 +5,14 @@
 -- line. (That every call ends, and that nothing is required of the caller, is what each function's own proof says.)
 -- Assumes nothing.
 use mathlib.Core.Path.{_≡_, refl, sym, ap, _∙_}
-use mathlib.Core.Bool.{true, cond}
+use mathlib.Core.Bool.{true}
 use mathlib.Core.List.{List, _∷_}
 use Prim.Native.Nat.{ℕ}
 use lib.Dec.{ltb, eqb}
 use lib.ListN.{length}
 use Rattle.base.specs.Lists.{any-of}
 use Rattle.base.proofs.BoolLaws.{or-right}
-use Rattle.instance.specs.Refusals.{buffer-short, invalid-board}
+use Rattle.instance.specs.Refusals.{buffer-short}
 use Rattle.card_format.specs.Card.{card-refusal, instance-in, card-of}
 use Rattle.card.specs.declared.write.Written.{Written}
 use Rattle.commands.specs.Model.{opened}
@@ -43,10 +43,10 @@ use Rattle.planner.specs.declared.View.{View}
 use Rattle.planner.specs.Looking.{Buffers, answer-of, short-for, Looks}
 use Rattle.planner.specs.Replaying.{Replays}
 use Rattle.planner.proofs.Learnt.{Opened-by, opened-by, Looked, looked, Wrote, wrote, Wrote-history, wrote-history, Moved-to-history, moved-to-history, Moved-to-plain, moved-to-plain, Checked, checked, Replayed, replayed}
-use Rattle.planner.proofs.WritingLaws.{write-cases}
-use Rattle.planner.proofs.OrderLaws.{history-write-cases, to-history-cases, to-plain-cases}
+use Rattle.planner.proofs.WritingLaws.{board-refusal, write-cases, history-write-cases}
+use Rattle.planner.proofs.MovingLaws.{to-history-cases, to-plain-cases}
 use Rattle.planner.proofs.OpeningLaws.{opened-answer, opened-starts}
-use Rattle.demands.proofs.CallNumbers.{card-numbers, open-numbers, buffer-numbers, check-numbers, among, Reports-before, card-among, open-among, zero-among, opened-as-before, looks-at-among, looks-at-as-before, looks-at-valid, writes-among, writes-as-before, writes-valid, stores-among, stores-as-before, stores-passed, board-passed, board-among, check-among, check-valid, reports-among, reports-before, reports-opened, replays-among, replays-as-before, replays-opened}
+use Rattle.demands.proofs.CallNumbers.{card-numbers, open-numbers, buffer-numbers, check-numbers, among, Reports-before, card-among, open-among, zero-among, opened-as-before, looks-at-among, looks-at-as-before, looks-at-valid, stores-among, stores-as-before, stores-passed, board-passed, board-among, check-among, check-valid, reports-among, reports-before, reports-opened, replays-among, replays-as-before, replays-opened}
 use Rattle.demands.proofs.Runs.{list-called-singly}
 
 -- AN ANSWER that some public call gave
@@ -156,20 +156,22 @@ demand-1 (by-looking {b = b} {v = v} {old = old} {new = new} p) =
       leaves-valid = looks-at-valid (instance-of b) v old new g t l;
     }
 demand-1 (by-writing {b = b} {r = r} {out = out} {out′ = out′} p) =
+    let k = board-refusal b in
+    let card = card-of (instance-of b) in
     let w = write-cases b r out out′ (wrote p) in
     record {
-      own-number = writes-among b r out out′ w;
-      as-before = writes-as-before b r out out′ w;
-      leaves-valid = writes-valid b r out out′ w;
+      own-number = stores-among k card out out′ r buffer-numbers (board-among b) refl refl w;
+      as-before = stores-as-before k card out out′ r w;
+      leaves-valid = λ z. board-passed b (stores-passed k card out out′ r w z);
     }
 demand-1 (by-writing-history {b = b} {r = r} {out = out} {out′ = out′} p) =
-    let k = cond (valid (model-of b)) 0 invalid-board in
+    let k = board-refusal b in
     let card = history-card-of (model-of b) in
     let w = history-write-cases b r out out′ (wrote-history p) in
     record {
-      own-number = stores-among k card out out′ r buffer-numbers (board-among (valid (model-of b))) refl refl w;
+      own-number = stores-among k card out out′ r buffer-numbers (board-among b) refl refl w;
       as-before = stores-as-before k card out out′ r w;
-      leaves-valid = λ z. board-passed (valid (model-of b)) (stores-passed k card out out′ r w z);
+      leaves-valid = λ z. board-passed b (stores-passed k card out out′ r w z);
     }
 demand-1 (by-to-history {ws = ws} {out = out} {out′ = out′} {r = r} p) =
     let k = card-refusal ws in

@@ -3,13 +3,12 @@
 -- moves old to new with no records, and new to old only without records; there and back gives the same bytes"; none is
 -- longer than 5,174 bytes. What the request is for: commands made on a card that was written from a run go on with that
 -- run's log, so "the next class" can "take back the last class's choices". Assumes nothing.
-use mathlib.Core.Path.{_≡_, refl, sym, ap, _∙_, subst}
+use mathlib.Core.Path.{_≡_, sym, ap, _∙_, subst}
 use mathlib.Core.Bool.{true, cond}
 use mathlib.Core.List.{List}
 use Prim.Native.Nat.{ℕ, _≤_}
 use native.Mathlib.Omega.{arith}
 use lib.ListN.{length, take}
-use Rattle.base.proofs.FrontLaws.{front-take}
 use Rattle.bits.specs.Bits.{are-bytes}
 use Rattle.instance.specs.Limits.{cells}
 use Rattle.instance.specs.Refusals.{invalid-board}
@@ -39,25 +38,14 @@ use Rattle.history_card.proofs.BoardOfLaws.{All-heads-fit, board-shaped}
 use Rattle.planner.specs.Replaying.{log-in}
 use Rattle.planner.proofs.Learnt.{Opened-by, opened-by, Wrote-history, wrote-history, Moved-to-history, moved-to-history, Moved-to-plain, moved-to-plain}
 use Rattle.planner.proofs.OpeningLaws.{opened-starts, opened-answer, opened-model}
-use Rattle.planner.proofs.OrderLaws.{Store-case, refused-by, no-room, stored, history-write-cases, to-history-cases, to-plain-cases}
+use Rattle.planner.proofs.WritingLaws.{board-refusal, Store-case, history-write-cases}
+use Rattle.planner.proofs.MovingLaws.{to-history-cases, to-plain-cases}
 use Rattle.demands.proofs.CallNumbers.{stores-passed, board-passed}
-use Rattle.demands.proofs.RoundTrips.{Same-card, reached-as-read}
+use Rattle.demands.proofs.RoundTrips.{Same-card, in-buffer, in-front-of, reached-as-read}
 use Rattle.demands.proofs.Runs.{Run, run-follows}
 use Rattle.demands.proofs.ShapedRuns.{run-shaped}
 
--- STORED: what a call that answers 0 has put in front is the card
-in-buffer : {k : ℕ} {card out out′ : List ℕ} {r : Written} → Store-case k card out out′ r → r .answer ≡ 0 → take (r .length) out′ ≡ card
-in-buffer (refused-by n p q) a = absurd (n (sym (ap (λ (x : Written). x .answer) p) ∙ a))
-in-buffer (no-room z l p q) a = absurd (omega (arith, sym a ∙ ap (λ (x : Written). x .answer) p))
-in-buffer {card = card} {out = out} (stored z l p q) a = rw (q, ap (λ (x : Written). x .length) p) (front-take card out (length card) refl)
-
--- with room for it, nothing but a refusal of the board or the card comes before
-in-front-of : {k : ℕ} {card out out′ : List ℕ} {r : Written} → Store-case k card out out′ r → k ≡ 0 → length card ≤ length out → Same-card card out out′ r
-in-front-of (refused-by n p q) z h = absurd (n z)
-in-front-of (no-room y l p q) z h = absurd (omega arith)
-in-front-of (stored y l p q) z h = record { result = p; buffer = q }
-
-history-stored : {b : Board} {r : Written} {out out′ : List ℕ} → Wrote-history b out out′ r → Store-case (cond (valid (model-of b)) 0 invalid-board) (history-card-of (model-of b)) out out′ r
+history-stored : {b : Board} {r : Written} {out out′ : List ℕ} → Wrote-history b out out′ r → Store-case (board-refusal b) (history-card-of (model-of b)) out out′ r
 history-stored {b} {r} {out} {out′} w = history-write-cases b r out out′ (wrote-history w)
 
 -- FROM A CARD AND BACK
@@ -101,7 +89,7 @@ pub history-board-back :
 history-board-back {b} {r} {out} {out′} {o} t w a p =
     let c = history-stored w in
     let m = model-of b in
-    let v = board-passed (valid m) (stores-passed _ _ out out′ r c a) in
+    let v = board-passed b (stores-passed _ _ out out′ r c a) in
     let s = board-shaped (b .count) (b .records) (t .heads-fit) in
     let q = reopened m v s o (subst (λ (ws : List ℕ). Opened-by ws o) (in-buffer c a) p) in
     record { opens = q .0; same = subst (λ (x : Model). Same-board x m) (sym (q .1)) (history-round-trip m v s (t .marks-long)) }

@@ -2,7 +2,7 @@
 -- has equal positions, root and budget and, where a link can be, equal prices and marks." Of a board that was reached
 -- from a card by a run of calls the second holds of every cell: where no link can be, card and board hold the same.
 -- Boards that are called equal are written alike. Assumes nothing.
-use mathlib.Core.Path.{_≡_, sym, ap, _∙_, subst}
+use mathlib.Core.Path.{_≡_, refl, sym, ap, _∙_, subst}
 use mathlib.Core.Bool.{true, false, cond}
 use mathlib.Core.List.{List}
 use Prim.Native.Nat.{ℕ, _/_, _%_, _≤_, _<_}
@@ -23,7 +23,6 @@ use Rattle.card_format.specs.Card.{card-refusal, instance-in, on-card, bytes-ne
 use Rattle.card.specs.Write.{written-to, buffer-after}
 use Rattle.card.specs.declared.write.Written.{Written}
 use Rattle.card_format.proofs.OpensLaws.{opened-length}
-use Rattle.card_format.proofs.LengthLaws.{length-card-of}
 use Rattle.card_format.proofs.CardAgain.{card-round-trip}
 use Rattle.card_format.proofs.InstanceAgain.{written-opens, instance-round-trip, instance-back}
 use Rattle.card_format.proofs.SameCard.{same-card}
@@ -49,7 +48,8 @@ use Rattle.planner.specs.Opening.{opened-from}
 use Rattle.planner.specs.Replaying.{log-in}
 use Rattle.planner.proofs.Learnt.{Opened-by, opened-by, Wrote, wrote}
 use Rattle.planner.proofs.OpeningLaws.{opened-starts, opened-answer, opened-instance}
-use Rattle.planner.proofs.WritingLaws.{Write-case, refused-board, refused-buffer, stored, write-cases}
+use Rattle.planner.proofs.WritingLaws.{board-refusal, Store-case, refused-by, no-room, put, write-cases}
+use Rattle.demands.proofs.CallNumbers.{stores-passed, board-passed}
 use Rattle.demands.proofs.Runs.{Run, run-follows}
 
 -- FROM A CARD AND BACK
@@ -64,6 +64,18 @@ written-card ws s r out out′ e y z h p q =
     let l = opened-length ws z in
     let long : ltb (length out) (bytes-needed (instance-in ws .n)) ≡ false = le-ltb (length out) (bytes-needed (instance-in ws .n)) (omega arith) in
     record { result = p ∙ rw (e, long, ← l); buffer = q ∙ rw (e, long, card-round-trip ws y z) }
+
+-- STORED: what a call that answers 0 has put in front is the card
+pub in-buffer : {k : ℕ} {card out out′ : List ℕ} {r : Written} → Store-case k card out out′ r → r .answer ≡ 0 → take (r .length) out′ ≡ card
+in-buffer (refused-by n p q) a = absurd (n (sym (ap (λ (x : Written). x .answer) p) ∙ a))
+in-buffer (no-room z l p q) a = absurd (omega (arith, sym a ∙ ap (λ (x : Written). x .answer) p))
+in-buffer {card = card} {out = out} (put z l p q) a = rw (q, ap (λ (x : Written). x .length) p) (front-take card out (length card) refl)
+
+-- with room for it, nothing but a refusal of the board or the card comes before
+pub in-front-of : {k : ℕ} {card out out′ : List ℕ} {r : Written} → Store-case k card out out′ r → k ≡ 0 → length card ≤ length out → Same-card card out out′ r
+in-front-of (refused-by n p q) z h = absurd (n z)
+in-front-of (no-room y l p q) z h = absurd (omega arith)
+in-front-of (put y l p q) z h = record { result = p; buffer = q }
 
 -- a plain card is judged and read by the old definitions
 plain-card : (ws : List ℕ) → is-history ws ≡ false → (open-refusal ws ≡ card-refusal ws) × (model-in ws .instance ≡ instance-in ws)
@@ -87,16 +99,9 @@ pub record Stored (b : Board) (ws : List ℕ) : Type 0 where
   pub card : ws ≡ card-of (instance-of b)
 
 stored-card : {b : Board} {r : Written} {out out′ : List ℕ} → Wrote b out out′ r → r .answer ≡ 0 → Stored b (take (r .length) out′)
-stored-card {b} {r} {out} {out′} w z = go (write-cases b r out out′ (wrote w))
-  where
-    s : Instance
-    s = instance-of b
-
-    go : Write-case b out out′ r → Stored b (take (r .length) out′)
-    go (refused-board v p q) = absurd (omega (arith, sym z ∙ ap (λ (x : Written). x .answer) p))
-    go (refused-buffer v l p q) = absurd (omega (arith, sym z ∙ ap (λ (x : Written). x .answer) p))
-    go (stored v l p q) =
-        record { fields = valid-fields (model-of b) v; card = rw (q, p) (front-take (card-of s) out (bytes-needed (b .n)) (length-card-of s)) }
+stored-card {b} {r} {out} {out′} w z =
+    let c = write-cases b r out out′ (wrote w) in
+    record { fields = valid-fields (model-of b) (board-passed b (stores-passed (board-refusal b) (card-of (instance-of b)) out out′ r c z)); card = in-buffer c z }
 
 -- opening it gives the board's instance as the card tells it
 reopened : (b : Board) (ws : List ℕ) (o : Answered) → Stored b ws → o ≡ opened-from ws → (o .answer ≡ 0) × (instance-of (o .board) ≡ instance-in (card-of (instance-of b)))

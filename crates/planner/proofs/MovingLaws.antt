@@ -8,9 +8,10 @@ use lib.ListN.{length}
 use borrow.Author.Tests.{eq-eqb, ne-eqb}
 use Rattle.instance.specs.Refusals.{has-records}
 use Rattle.instance.specs.Instance.{Instance}
-use Rattle.card_format.specs.Card.{card-refusal, instance-in}
+use Rattle.card_format.specs.Card.{bytes-needed, card-refusal, instance-in, card-of}
+use Rattle.card_format.proofs.LengthLaws.{length-card-of}
 use Rattle.card_format.proofs.OpensLaws.{card-valid}
-use Rattle.card.specs.Write.{Card-written}
+use Rattle.card.specs.Write.{written-to, buffer-after, Card-written}
 use Rattle.card.specs.declared.write.Written.{Written}
 use Rattle.commands.specs.Model.{Model, opened}
 use Rattle.commands.specs.Valid.{valid}
@@ -18,14 +19,16 @@ use Rattle.commands.proofs.ValidLaws.{opened-valid}
 use Rattle.board.specs.ModelOf.{model-of, instance-of}
 use Rattle.board.specs.Create.{board-of}
 use Rattle.board.specs.declared.Answered.{Answered}
-use Rattle.history_format.specs.HistoryCard.{history-refusal, history-model, to-plain-refusal}
+use Rattle.history_format.specs.HistoryCard.{history-refusal, history-model, to-plain-refusal, history-bytes, history-card-of}
+use Rattle.history_format.proofs.HistoryBits.{length-history-card}
 use Rattle.history_format.proofs.HistoryAgain.{history-model-valid, history-model-shaped}
 use Rattle.history_card.specs.Open.{history-opened}
-use Rattle.history_card.specs.Write.{History-written}
+use Rattle.history_card.specs.Write.{history-written-to, history-buffer-after, History-written}
 use Rattle.history_card.proofs.BoardOfLaws.{model-of-board}
 use Rattle.planner.specs.Opening.{plain-opened}
 use Rattle.planner.specs.Moving.{not-moved, Moves-to-history, Moves-to-plain}
 use Rattle.planner.proofs.OpeningLaws.{answer-by, board-by}
+use Rattle.planner.proofs.WritingLaws.{Store-case, store-by}
 
 -- PLAIN TO HISTORY
 module _ (ws out : List ℕ) (o : Answered) (e : o ≡ plain-opened ws) where
@@ -104,3 +107,19 @@ module _ (ws out : List ℕ) (o : Answered) (e : o ≡ history-opened ws) where
         let q : to-plain-refusal ws ≡ 0 = rw (reads, ← its-count, eq-eqb (o .board .count) 0 n) in
         let v = subst (λ (s : Instance). Card-written s out out′ r) same-instance w in
         record { result = rw q (v .result); buffer = rw q (v .buffer) }
+
+-- THE WAYS of a move: what refuses the plain card, 14
+pub to-history-cases : (ws out out′ : List ℕ) (r : Written) → Moves-to-history ws out out′ r →
+    Store-case (card-refusal ws) (history-card-of (opened (instance-in ws))) out out′ r
+unfolding history-written-to history-buffer-after
+to-history-cases ws out out′ r w =
+    let m = opened (instance-in ws) in
+    store-by (card-refusal ws) (history-bytes m) (history-card-of m) out out′ r (length-history-card m) (w .result) (w .buffer)
+
+-- what refuses the history card, 28 of records, 14
+pub to-plain-cases : (ws out out′ : List ℕ) (r : Written) → Moves-to-plain ws out out′ r →
+    Store-case (to-plain-refusal ws) (card-of (history-model ws .instance)) out out′ r
+unfolding written-to buffer-after
+to-plain-cases ws out out′ r w =
+    let s = history-model ws .instance in
+    store-by (to-plain-refusal ws) (bytes-needed (s .n)) (card-of s) out out′ r (length-card-of s) (w .result) (w .buffer)

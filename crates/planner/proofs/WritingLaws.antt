@@ -1,51 +1,85 @@
--- The ways of a write: an invalid board (15), a buffer that is too short (14), or the card in front of the buffer.
--- Assumes nothing.
+-- The ways of every call that stores a card: refused by what is wrong with the board or the card; by a buffer that is too
+-- short (14), which is looked at last, so that an empty one changes no other refusal; or the card in front of the buffer.
+-- And the writes of a board by them: 15, 14. Assumes nothing.
 use mathlib.Core.Path.{_≡_, refl, ap}
 use mathlib.Core.Bool.{Bool, true, false, cond}
 use mathlib.Core.List.{List}
 use Prim.Native.Nat.{ℕ, _≤_, _<_}
 use native.Mathlib.Omega.{arith}
-use lib.Dec.{ltb}
+use lib.Dec.{ltb, eqb}
 use lib.ListN.{length}
-use borrow.Author.Tests.{ltb-true, ltb-false}
+use borrow.Author.Tests.{eqb-true, eqb-false, ltb-true, ltb-false}
 use Rattle.base.specs.Lists.{in-front}
 use Rattle.instance.specs.Refusals.{buffer-short, invalid-board}
 use Rattle.card_format.specs.Card.{bytes-needed, max-card, card-of}
-use Rattle.card_format.proofs.LengthLaws.{longest-card}
+use Rattle.card_format.proofs.LengthLaws.{longest-card, length-card-of}
 use Rattle.card.specs.Write.{written-to, buffer-after}
 use Rattle.card.specs.declared.write.Written.{Written}
 use Rattle.commands.specs.Valid.{valid}
 use Rattle.commands.proofs.ValidLaws.{valid-parts}
 use Rattle.board.specs.ModelOf.{model-of, instance-of}
 use Rattle.board.specs.declared.Board.{Board}
-use Rattle.planner.specs.Writing.{Writes}
+use Rattle.history_format.specs.HistoryCard.{history-bytes, history-card-of}
+use Rattle.history_format.proofs.HistoryBits.{length-history-card}
+use Rattle.history_card.specs.Write.{history-written-to, history-buffer-after}
+use Rattle.planner.specs.Writing.{Writes, Writes-history}
 
 abbrev pub wrote-with : (answer length : ℕ) → Written
 wrote-with a k = record { answer = a; length = k }
 
-pub data Write-case (b : Board) (out out′ : List ℕ) (r : Written) : Type 0 where
-  refused-board : valid (model-of b) ≡ false → r ≡ wrote-with invalid-board 0 → out′ ≡ out → Write-case b out out′ r
-  refused-buffer : valid (model-of b) ≡ true → length out < bytes-needed (b .n) → r ≡ wrote-with buffer-short 0 → out′ ≡ out → Write-case b out out′ r
-  stored :
-      valid (model-of b) ≡ true → bytes-needed (b .n) ≤ length out → r ≡ wrote-with 0 (bytes-needed (b .n)) → out′ ≡ in-front (card-of (instance-of b)) out →
-      Write-case b out out′ r
+-- THE THREE WAYS, by the number that refuses the board or the card (0 if none does) and the card that is to be stored. A
+-- refusal leaves the buffer as it was.
+pub data Store-case (refusal : ℕ) (card out out′ : List ℕ) (r : Written) : Type 0 where
+  refused-by : (refusal ≡ 0 → ⊥) → r ≡ wrote-with refusal 0 → out′ ≡ out → Store-case refusal card out out′ r
+  no-room : refusal ≡ 0 → length out < length card → r ≡ wrote-with buffer-short 0 → out′ ≡ out → Store-case refusal card out out′ r
+  put : refusal ≡ 0 → length card ≤ length out → r ≡ wrote-with 0 (length card) → out′ ≡ in-front card out → Store-case refusal card out out′ r
 
-pub write-cases : (b : Board) (r : Written) (out out′ : List ℕ) → Writes b out out′ r → Write-case b out out′ r
-unfolding written-to buffer-after
-write-cases b r out out′ w = go (valid (model-of b)) refl (ltb (length out) (bytes-needed (b .n))) refl (w .result) (w .buffer)
+-- from the equations of a call: k refuses, and m is the length of the card
+pub store-by : (k m : ℕ) (card out out′ : List ℕ) (r : Written) → length card ≡ m
+    → r ≡ cond (eqb k 0) (cond (ltb (length out) m) (wrote-with buffer-short 0) (wrote-with 0 m)) (wrote-with k 0)
+    → out′ ≡ cond (eqb k 0) (cond (ltb (length out) m) out (in-front card out)) out → Store-case k card out out′ r
+store-by k m card out out′ r e = go (eqb k 0) refl (ltb (length out) m) refl
   where
-    go : (g : Bool) → valid (model-of b) ≡ g → (t : Bool) → ltb (length out) (bytes-needed (b .n)) ≡ t
-        → r ≡ cond {A = Written} g (cond t (wrote-with buffer-short 0) (wrote-with 0 (bytes-needed (b .n)))) (wrote-with invalid-board 0)
-        → out′ ≡ cond g (cond t out (in-front (card-of (instance-of b)) out)) out → Write-case b out out′ r
-    go true e true u p q = refused-buffer e (ltb-true (length out) (bytes-needed (b .n)) u) p q
-    go true e false u p q = stored e (ltb-false (length out) (bytes-needed (b .n)) u) p q
-    go false e t u p q = refused-board e p q
+    go : (b : Bool) → eqb k 0 ≡ b → (t : Bool) → ltb (length out) m ≡ t
+        → r ≡ cond {A = Written} b (cond t (wrote-with buffer-short 0) (wrote-with 0 m)) (wrote-with k 0)
+        → out′ ≡ cond b (cond t out (in-front card out)) out → Store-case k card out out′ r
+    go true z true l p q = let s = ltb-true (length out) m l in no-room (eqb-true k 0 z) (omega arith) p q
+    go true z false l p q = let s = ltb-false (length out) m l in put (eqb-true k 0 z) (omega arith) (rw e p) q
+    go false z t l p q = refused-by (eqb-false k 0 z) p q
+
+-- A BOARD
+abbrev pub board-refusal : Board → ℕ
+board-refusal b = cond (valid (model-of b)) 0 invalid-board
+
+board-by : (v : Bool) (m : ℕ) (card out out′ : List ℕ) (r : Written) → length card ≡ m
+    → r ≡ cond v (cond (ltb (length out) m) (wrote-with buffer-short 0) (wrote-with 0 m)) (wrote-with invalid-board 0)
+    → out′ ≡ cond v (cond (ltb (length out) m) out (in-front card out)) out → Store-case (cond v 0 invalid-board) card out out′ r
+board-by true m card out out′ r e p q = store-by 0 m card out out′ r e p q
+board-by false m card out out′ r e p q = store-by invalid-board m card out out′ r e p q
+
+pub write-cases : (b : Board) (r : Written) (out out′ : List ℕ) → Writes b out out′ r → Store-case (board-refusal b) (card-of (instance-of b)) out out′ r
+unfolding written-to buffer-after
+write-cases b r out out′ w =
+    let s = instance-of b in
+    board-by (valid (model-of b)) (bytes-needed (b .n)) (card-of s) out out′ r (length-card-of s) (w .result) (w .buffer)
+
+-- records and all
+pub history-write-cases : (b : Board) (r : Written) (out out′ : List ℕ) → Writes-history b out out′ r →
+    Store-case (board-refusal b) (history-card-of (model-of b)) out out′ r
+unfolding history-written-to history-buffer-after
+history-write-cases b r out out′ w =
+    let m = model-of b in
+    board-by (valid m) (history-bytes m) (history-card-of m) out out′ r (length-history-card m) (w .result) (w .buffer)
 
 -- a write into room for the longest card is refused by nothing but 15
-pub write-answer : (b : Board) (r : Written) (out out′ : List ℕ) → max-card ≤ length out → Writes b out out′ r → r .answer ≡ cond (valid (model-of b)) 0 invalid-board
-write-answer b r out out′ h w = go (write-cases b r out out′ w)
+pub write-answer : (b : Board) (r : Written) (out out′ : List ℕ) → max-card ≤ length out → Writes b out out′ r → r .answer ≡ board-refusal b
+write-answer b r out out′ h w = go (valid (model-of b)) refl (write-cases b r out out′ w)
   where
-    go : Write-case b out out′ r → r .answer ≡ cond (valid (model-of b)) 0 invalid-board
-    go (refused-board e p q) = rw e (ap (λ (x : Written). x .answer) p)
-    go (refused-buffer e l p q) = let n = longest-card (b .n) (valid-parts (model-of b) e .n-high) in absurd (omega arith)
-    go (stored e l p q) = rw e (ap (λ (x : Written). x .answer) p)
+    go : (v : Bool) → valid (model-of b) ≡ v → Store-case (cond v 0 invalid-board) (card-of (instance-of b)) out out′ r → r .answer ≡ cond v 0 invalid-board
+    go v e (refused-by n p q) = ap (λ (x : Written). x .answer) p
+    go true e (no-room z l p q) =
+        let m = longest-card (b .n) (valid-parts (model-of b) e .n-high) in
+        absurd (omega (arith, length-card-of (instance-of b)))
+    go false e (no-room z l p q) = absurd (omega (arith, z))
+    go true e (put z l p q) = ap (λ (x : Written). x .answer) p
+    go false e (put z l p q) = absurd (omega (arith, z))
