@@ -64,10 +64,6 @@ unfolding instance-in
 opened-length ws e = opens ws e .header .sized
 
 module _ (ws : List ℕ) where
-  pub weights-long : length (instance-in ws .weights) ≡ cells
-  unfolding instance-in
-  weights-long = length-fields 0 weight-width no-arc (n-of ws) (root-of ws) (bits-in ws)
-
   pub marks-long : length (instance-in ws .marks) ≡ cells
   unfolding instance-in
   marks-long = length-fields weight-width mark-width free (n-of ws) (root-of ws) (bits-in ws)
