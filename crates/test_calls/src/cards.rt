@@ -125,10 +125,13 @@ fn noise(seed: Random, length: u32) -> Card {
     c
 }
 
-// Noise of every length that there is room for.
+// A length that no old card has which opens.
+const NOISE: u32 = 2700;
+
+// Noise of every length below that.
 fn run_noise(tally: Tally) -> Tally {
     let mut t = tally;
-    for length in 0..CARD_ROOM as u32 {
+    for length in 0..NOISE {
         t = tried(t, noise(random::seeded(length), length));
     }
     t

@@ -7,6 +7,7 @@ use harness::session::Session;
 use reference::access;
 use reference::call;
 use reference::call::Call;
+use reference::log;
 use reference::problem::MAX_BUDGET;
 use reference::problem::Problem;
 use reference::random;
@@ -94,8 +95,7 @@ fn called(p: Progress, c: Call) -> Progress {
 // The call of a step, and what comes after it.
 fn stepped(p: Progress, crowded: bool, seed: u32, step: u32) -> Progress {
     let g = random::seeded(access::plus(seed, step));
-    let before = p.session;
-    let card = before.card;
+    let card = session::card_of(p.session);
     let after = called(p, nth_call(random::next(g), card, crowded, step));
     let s = after.session;
     let t = after.tally;
@@ -156,8 +156,7 @@ fn planted(tally: Tally, s: Session, g: Random) -> Tally {
 // written as its card was.
 fn unwound(start: Progress) -> Progress {
     let s = start.session;
-    let log = s.log;
-    let count = access::plus(log.count, 1);
+    let count = access::plus(log::standing(s.log), 1);
     let mut p = start;
     for k in 0..count {
         p = called(p, call::take_back());

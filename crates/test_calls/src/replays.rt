@@ -13,6 +13,7 @@ use reference::call;
 use reference::call::Call;
 use reference::card;
 use reference::card::Card;
+use reference::history;
 use reference::log;
 use reference::log::Log;
 use reference::problem::Problem;
@@ -91,7 +92,7 @@ struct Reading {
     right: bool,
 }
 
-fn after_call(r: Reading, p: Problem, c: Call, answer: u32) -> Reading {
+fn after_call(r: Reading, c: Call, answer: u32) -> Reading {
     let log = r.log;
     if is_between(c.kind) {
         return Reading {
@@ -99,7 +100,7 @@ fn after_call(r: Reading, p: Problem, c: Call, answer: u32) -> Reading {
             right: r.right && answer == 0,
         };
     }
-    let noted = log::note(log, p, c);
+    let noted = log::note(log, c);
     let after = noted.log;
     Reading {
         log: after,
@@ -109,7 +110,7 @@ fn after_call(r: Reading, p: Problem, c: Call, answer: u32) -> Reading {
 
 fn read(list: Calls, answers: [u32; CALLS], p: Problem) -> Reading {
     let mut r = Reading {
-        log: log::empty(),
+        log: log::opened(p, history::empty()),
         right: true,
     };
     for k in 0..CALLS {
@@ -118,7 +119,7 @@ fn read(list: Calls, answers: [u32; CALLS], p: Problem) -> Reading {
             first: list.firsts[k],
             second: list.seconds[k],
         };
-        r = after_call(r, p, c, answers[k]);
+        r = after_call(r, c, answers[k]);
     }
     r
 }
@@ -132,7 +133,7 @@ fn is_right(r: Replayed, list: Calls, p: Problem) -> bool {
     }
     let log = reading.log;
     let shown = r.shown;
-    verdict::judged(log::problem_now(log, p), shown) == 0
+    verdict::judged(log::problem_now(log), shown) == 0
 }
 
 // Whether a replay was refused with this answer and touched nothing.

@@ -9,6 +9,7 @@ use harness::session;
 use harness::session::Called;
 use harness::session::Session;
 use reference::access;
+use reference::history;
 use reference::log;
 use reference::outcome;
 use reference::refusals::INVALID_BOARD;
@@ -74,8 +75,7 @@ fn damaged() -> Session {
     let p = worked::without_arcs(4, 4, 16);
     Session {
         board: boards::of_problem(p),
-        log: log::empty(),
-        card: p,
+        log: log::opened(p, history::empty()),
     }
 }
 

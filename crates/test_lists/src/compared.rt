@@ -13,7 +13,7 @@ use harness::session;
 use harness::session::Session;
 use planner::ListAnswered;
 use reference::access;
-use reference::log::RECORDS;
+use reference::history::RECORDS;
 use reference::problem;
 use reference::problem::MAX_BUDGET;
 use reference::random;
@@ -55,9 +55,6 @@ fn planted_alone(tally: Tally, a: ListAnswered, due: Due, b: Board) -> Tally {
 
 // Another board for both the list and the single calls, so that only the log can tell.
 fn planted_both(tally: Tally, a: ListAnswered, due: Due, b: Board) -> Tally {
-    if !due.has_log {
-        return tally;
-    }
     planted_alone(tally, a, dues::with_single_board(due, b), b)
 }
 

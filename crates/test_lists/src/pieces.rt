@@ -162,8 +162,7 @@ fn nth_style(k: u32) -> Style {
 fn one_session(tally: Tally, k: u32) -> Tally {
     let card = nth_card(k);
     let s = session::opened(card);
-    let log = s.log;
-    let list = making::some_list(log, card, nth_style(k), making::nth_seed(k));
+    let list = making::some_list(s.log, nth_style(k), making::nth_seed(k));
     let start = Progress {
         session: s,
         tally: tally::with(tally, SESSIONS, 1),
