@@ -2,6 +2,7 @@
 use crate::buffers;
 use crate::calls;
 use crate::calls::CardOut;
+use crate::history_calls;
 use crate::replies;
 use crate::replies::Reply;
 use crate::verdict;
@@ -37,6 +38,13 @@ pub fn opened(p: Problem) -> Session {
 // The same on a card with records.
 pub fn opened_with(p: Problem, h: History) -> Session {
     opened_from(history_card::build(p, h), p, h)
+}
+
+// The same on a card that the reference opens.
+pub fn opened_on(c: Card) -> Session {
+    let bytes = c.bytes;
+    let r = history_card::open(access::front(&bytes, c.length));
+    opened_from(c, r.problem, r.history)
 }
 
 fn opened_from(c: Card, p: Problem, h: History) -> Session {
@@ -105,4 +113,14 @@ pub fn is_written(w: CardOut, c: Card) -> bool {
 pub fn write_right(s: Session) -> bool {
     let board = s.board;
     is_written(calls::write(board), reference::card::build(problem_now(s)))
+}
+
+// Whether the board is written as the new card with that and with what the log says was replaced.
+pub fn history_write_right(s: Session) -> bool {
+    let board = s.board;
+    let log = s.log;
+    is_written(
+        history_calls::write(board),
+        history_card::build(problem_now(s), log::records_now(log)),
+    )
 }

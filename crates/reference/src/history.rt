@@ -144,6 +144,14 @@ pub fn empty() -> History {
     }
 }
 
+// How many records there are: at most 200, also where a count is above that.
+pub fn length(h: History) -> u32 {
+    if RECORDS as u32 <= h.count {
+        return RECORDS as u32;
+    }
+    h.count
+}
+
 pub fn nth(h: History, k: u32) -> Record {
     let at = (k % RECORDS as u32) as usize;
     h.records[at]
@@ -187,11 +195,11 @@ pub fn equal_records(a: Record, b: Record) -> bool {
 }
 
 pub fn equal(a: History, b: History) -> bool {
-    for k in 0..RECORDS as u32 {
-        if k < a.count {
-            if !equal_records(nth(a, k), nth(b, k)) {
-                return false;
-            }
+    let count = length(a);
+    for k in 0..count {
+        let at = (k % RECORDS as u32) as usize;
+        if !equal_records(a.records[at], b.records[at]) {
+            return false;
         }
     }
     a.count == b.count

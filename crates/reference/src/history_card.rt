@@ -92,17 +92,12 @@ fn put_record(out: &mut [u8], from: u32, r: Record) -> u32 {
     put_heads(out, plus(at, VERTEX_BITS), width, r)
 }
 
-fn put_nth(out: &mut [u8], at: u32, h: History, k: u32) -> u32 {
-    if h.count <= k {
-        return at;
-    }
-    put_record(out, at, history::nth(h, k))
-}
-
+// The records that there are, which are at most 200 whatever the count says.
 fn put_records(out: &mut [u8], from: u32, h: History) -> u32 {
     let mut at = from;
-    for k in 0..RECORDS as u32 {
-        at = put_nth(out, at, h, k);
+    let count = history::length(h);
+    for k in 0..count {
+        at = put_record(out, at, h.records[(k % RECORDS as u32) as usize]);
     }
     at
 }
@@ -136,16 +131,14 @@ fn members(set: u32) -> u32 {
     count
 }
 
-// How many bits the record takes that begins here.
-fn length_at(card: &[u8], from: u32) -> u32 {
-    let at = plus(from, KIND_BITS);
-    match field(card, from, KIND_BITS) {
+// How many bits a record takes.
+pub fn length_of(r: Record) -> u32 {
+    let kind = r.kind;
+    let count = members(r.second);
+    match kind {
         LINK => KIND_BITS + VERTEX_BITS + VERTEX_BITS + MARK_BITS,
         BUDGET => KIND_BITS + BUDGET_BITS,
-        GROUP => {
-            let count = members(field(card, plus(at, VERTEX_BITS), SET_BITS));
-            plus(KIND_BITS + VERTEX_BITS + SET_BITS, plus(count, count))
-        }
+        GROUP => plus(KIND_BITS + VERTEX_BITS + SET_BITS, plus(count, count)),
         _ => KIND_BITS,
     }
 }
@@ -163,7 +156,7 @@ fn with_marks_at(card: &[u8], from: u32, r: Record) -> Record {
     s
 }
 
-// The record that begins here; of kind 3 only the kind counts.
+// The record that begins here, with 0 for the bits past the end; of kind 3 only the kind counts.
 fn record_at(card: &[u8], from: u32) -> Record {
     let at = plus(from, KIND_BITS);
     let kind = field(card, from, KIND_BITS);
@@ -187,12 +180,12 @@ struct Progress {
 // "each whole record in turn, 3 where it runs past the end, else 27".
 fn with_next(card: &[u8], p: Problem, s: Progress) -> Progress {
     let mut after = s;
-    let end = plus(s.at, length_at(card, s.at));
+    let r = record_at(card, s.at);
+    let end = plus(s.at, length_of(r));
     if is_past(card, end) {
         after.answer = BAD_LENGTH;
         return after;
     }
-    let r = record_at(card, s.at);
     if !history::is_lawful(p, r) {
         after.answer = BAD_RECORDS;
         return after;

@@ -1,7 +1,8 @@
 // The documents' own cases, one to a line of the standard input, held against the reference and against the planner:
 // the worked outcomes with their trees, states and cards, every refusal from 1 to 15 but 6 with what it leaves behind,
-// the 200 records, group presses, plans made elsewhere.
+// the 200 records, group presses, plans made elsewhere, cards with records.
 use crate::buffer_lines;
+use crate::history_lines;
 use crate::look_lines;
 use harness::boards;
 use harness::replies;
@@ -66,6 +67,10 @@ fn is_right(line: Line, s: Session) -> bool {
         b'i' => buffer_lines::buffers_right(line, s),
         b'c' => buffer_lines::card_right(line),
         b'a' => buffer_lines::plan_right(line, s),
+        b'C' => history_lines::opening_right(line),
+        b'r' => history_lines::records_right(line, s),
+        b'N' => history_lines::move_right(line, true),
+        b'E' => history_lines::move_right(line, false),
         _ => !line.expects,
     }
 }
@@ -88,6 +93,7 @@ fn after(line: Line, s: Session) -> Session {
             script::number(line, 1),
         )),
         b'D' => damaged(),
+        b'C' => history_lines::after_opening(line, s),
         b'm' | b'g' | b'b' | b't' => session_of(called(line, s)),
         _ => s,
     }

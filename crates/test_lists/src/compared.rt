@@ -157,12 +157,15 @@ pub fn compared(tally: Tally, a: ListAnswered, due: Due) -> Tally {
     planted_there(v, a, due)
 }
 
-// The last board of a list written; and with another budget, which has to be reported.
+// The last board of a list written, as an old card and as a new one with its records; and with another budget, which
+// has to be reported.
 pub fn written(tally: Tally, which: u32, s: Session) -> Tally {
     let mut wrong = s;
     let mut b = s.board;
     b.budget = access::plus(b.budget % MAX_BUDGET, 1);
     wrong.board = b;
-    let t = tally::checked(tally, which, session::write_right(s));
-    tally::planted(t, !session::write_right(wrong))
+    let right = session::write_right(s) && session::history_write_right(s);
+    let t = tally::checked(tally, which, right);
+    let u = tally::planted(t, !session::write_right(wrong));
+    tally::planted(u, !session::history_write_right(wrong))
 }

@@ -5,10 +5,10 @@ use Rattle.reference.proofs.history.equal.Statement.{statement}
 use Rattle.reference.proofs.history.equal.Tie as tie
 
 abbrev Inv-loop : tie.InvT-loop
-Inv-loop a b k₀ k = Unit
+Inv-loop a b count k₀ k = Unit
 
 abbrev μ-loop : tie.MeasureT-loop
-μ-loop a b k₀ k = 200 - k
+μ-loop a b count k₀ k = count - k
 
 pub equal-spec : {M : Type 1} → statement M
 equal-spec =
@@ -16,9 +16,15 @@ equal-spec =
     (tie.spec
     Inv-loop
     μ-loop
+    (λ c κs. search needs)
     (λ c. search needs)
-    (λ c κs. search needs)
-    (λ c κs. search needs)
+    (λ c. search needs)
+    (λ c. search needs)
+    (λ c. search needs)
+    (λ c. search needs)
+    (λ c. search needs)
+    (λ c. search needs)
+    (λ c. search needs)
     (λ c κs. search needs)
     (λ c. search needs)
     (λ c. search needs)

@@ -7,10 +7,10 @@ use Rattle.reference.proofs.history_card.put_records.Statement.{stateme
 use Rattle.reference.proofs.history_card.put_records.Tie as tie
 
 abbrev Inv-loop : tie.InvT-loop
-Inv-loop out₀ from h at₀ k₀ out at k = length out ≡ length out₀
+Inv-loop out₀ from h at₀ count k₀ out at k = length out ≡ length out₀
 
 abbrev μ-loop : tie.MeasureT-loop
-μ-loop out₀ from h at₀ k₀ out at k = 200 - k
+μ-loop out₀ from h at₀ count k₀ out at k = count - k
 
 pub put-records-spec : {M : Type 1} → statement M
 put-records-spec =
@@ -18,6 +18,12 @@ put-records-spec =
     (tie.spec
     Inv-loop
     μ-loop
+    (λ c κs. search needs)
+    (λ c. search needs)
+    (λ c. search needs)
+    (λ c. search needs)
+    (λ c. search needs)
+    (λ c. search needs)
     (λ c. search needs)
     (λ c κs. search needs)
     (λ c. search needs)
