@@ -1,4 +1,5 @@
--- Bits put by a writer: within one call, one call after another, and whole bytes from the start. Assumes nothing.
+-- Bits put by a writer: within one call, one call after another, and whole bytes from the start, the last of them filled
+-- with zeros. Assumes nothing.
 use mathlib.Core.Path.{_≡_, refl, ap, _∙_, sym}
 use mathlib.Core.Bool.{true}
 use mathlib.Core.List.{List, [], _∷_, _++_, append-assoc, append-nil}
@@ -6,10 +7,10 @@ use Prim.Native.Nat.{ℕ, _+_, _*_, _-_, _/_, _%_, _^_, _≤_, _<_}
 use native.Mathlib.Omega.{arith}
 use native.Mathlib.Numerals.{add-one}
 use lib.Dec.{ltb}
-use lib.ListN.{length, set, take, drop, length-set, length-append, take-append-drop}
+use lib.ListN.{length, set, take, drop, replicate, length-set, length-append, length-replicate, take-append-drop}
 use lib.Seq.{take-suc-set, drop-set-lt, length-take-le}
 use Rattle.bits.specs.Bits.{bits-of, bits-in, packed, are-bytes}
-use Rattle.bits.specs.Writer.{bits-put, Ready, Put}
+use Rattle.bits.specs.Writer.{bits-put, filling, Ready, Put}
 use Rattle.bits.specs.declared.BitWriter.{BitWriter}
 use Rattle.base.specs.Lists.{in-front}
 use Rattle.base.proofs.AllOfLaws.{all-of-take}
@@ -110,3 +111,20 @@ bytes-put xs ys r bs k u n l b =
     let w : packed k bs ≡ take k ys = rw (t, e) at (packed-bits-in (take k ys) (all-of-take (λ x. ltb x 256) k ys b)) in
     let d : take k ys ++ drop k ys ≡ packed k bs ++ drop k xs = rw (w, ← rw a at (u .unchanged)) in
     (a, sym (take-append-drop k ys) ∙ d ∙ front-is (packed k bs) xs k (length-packed k bs))
+
+-- WHAT FILLS THE LAST BYTE: bits put from the start, and then zeros, are whole bytes
+module _ (out zs : List ℕ) (p : BitWriter) (bs : List ℕ) (k : ℕ) (u : Put bs new-writer out zs p) (whole : k ≡ (length bs + 7) / 8) (room : k ≤ length out) where
+  filled : 8 * p .at + p .count + filling (p .count) ≡ 8 * k
+  filled = omega (arith, u .moved, u .few)
+
+  pub filling-room : Ready (filling (p .count)) p zs
+  filling-room = record { few = u .few; room = omega (arith, filled, u .long) }
+
+  pub filled-bytes : (xs : List ℕ) (o : BitWriter) → Put (replicate (filling (p .count)) 0) p zs xs o → are-bytes xs ≡ true →
+      xs ≡ in-front (packed k (bs ++ replicate (8 * k - length bs) 0)) out
+  filled-bytes xs o x e =
+      let f : filling (p .count) ≡ 8 * k - length bs = omega (arith, filled, u .moved) in
+      let l : length (bs ++ replicate (filling (p .count)) 0) ≡ 8 * k =
+      length-append bs (replicate (filling (p .count)) 0) ∙ omega (arith, filled, u .moved, length-replicate {A = ℕ} (filling (p .count)) 0) in
+      let g = put-then out zs xs new-writer p o bs (replicate (filling (p .count)) 0) u x in
+      bytes-put out xs o (bs ++ replicate (filling (p .count)) 0) k g l room e .1 ∙ rw f

@@ -20,7 +20,8 @@ use instance::limits::CELLS;
 use instance::limits::MAX_BUDGET;
 use instance::limits::MAX_RECORDS;
 
-fn record_ok(weights: &[u32; CELLS], n: u32, root: u32, replaced: Replaced) -> bool
+// Whether a record may stand in the history of a board.
+pub fn record_ok(weights: &[u32; CELLS], n: u32, root: u32, replaced: Replaced) -> bool
     requires { ⌜ (n ≤ max-vertices) × (length (now weights) ≡ cells) ⌝ }
     ensures { λ r. ⌜ r ≡ record-ok (unmarked n root (now (weights .entry))) (replaced-of replaced) ⌝ }
 {

@@ -2,29 +2,45 @@
 use mathlib.Core.Path.{_≡_, refl, ap, _∙_, sym}
 use mathlib.Core.Bool.{Bool, true, false, cond}
 use mathlib.Core.List.{List}
-use Prim.Native.Nat.{ℕ, _+_, _*_, _-_}
+use Prim.Native.Nat.{ℕ, _+_, _*_, _-_, _≤_}
 use native.Mathlib.Omega.{arith}
-use lib.Dec.{eqb}
+use native.Mathlib.Nat.{zero-add}
+use lib.Dec.{ltb, leb, eqb}
 use lib.ListN.{length, drop}
-use borrow.Author.Tests.{eqb-true, eq-eqb, ne-eqb}
+use borrow.Author.Tests.{eqb-true, le-ltb, eq-eqb, ne-eqb}
 use Rattle.base.specs.Lists.{all-of}
 use Rattle.bits.specs.Bits.{bits-in, field}
 use Rattle.bits.proofs.ByteLaws.{length-bits-in}
 use Rattle.bits.proofs.FieldLaws.{field-rest-zero}
-use Rattle.instance.specs.Limits.{cells}
-use Rattle.instance.specs.Refusals.{bad-filling}
-use Rattle.card_format.specs.Card.{bits-needed, weights-in, marks-in, instance-in, cells-refusal, header-refusal, card-refusal}
+use Rattle.instance.specs.Limits.{max-vertices, max-budget, cells}
+use Rattle.instance.specs.Refusals.{bad-root, bad-card-budget, bad-filling}
+use Rattle.card_format.specs.Card.{bits-needed, bytes-needed, min-card, weights-in, marks-in, instance-in, cells-refusal, header-refusal, card-refusal}
 use Rattle.card_format.specs.Offsets.{offset}
 use Rattle.card_format.proofs.LengthLaws.{length-known}
 use Rattle.card_format.proofs.HeaderLaws.{n-of, root-of, budget-of, header-known, Cells-end, cells-end}
 use Rattle.card_format.proofs.OpensLaws.{rest-refusal, refusal-by-steps}
 use Rattle.card.specs.Cells.{Cells-read}
-use Rattle.card.specs.Read.{no-header, header-with, header-of, no-contents, contents-of}
+use Rattle.card.specs.Read.{no-header, header-with, fields-of, header-of, no-contents, contents-of}
 use Rattle.card.specs.declared.cells.Cells.{Cells}
 use Rattle.card.specs.declared.read.Header.{Header}
 use Rattle.card.specs.declared.read.Contents.{Contents}
 
 -- THE HEADER
+-- 4 and 5 are what is left to judge once 1, 2 and 3 are passed; `by-fields` is said of any header, so that a history
+-- card has it too
+pub by-fields : (d e : Bool) (n r b : ℕ) → let k = cond d bad-root (cond e bad-card-budget 0) in
+    cond d (no-header bad-root) (cond e (no-header bad-card-budget) (header-with n r b)) ≡ cond (eqb k 0) (header-with n r b) (no-header k)
+by-fields true e n r b = refl
+by-fields false true n r b = refl
+by-fields false false n r b = refl
+
+pub fields-last : (ws : List ℕ) → min-card ≤ length ws → (n-of ws ≡ 0 → ⊥) → n-of ws ≤ max-vertices → length ws ≡ bytes-needed (n-of ws) →
+    fields-of (n-of ws) (bits-in ws) ≡ header-of ws
+unfolding fields-of header-of header-refusal
+fields-last ws l low high sized =
+    rw (le-ltb _ _ l, ne-eqb _ _ low, le-ltb _ _ high, eq-eqb _ _ sized)
+    (by-fields (leb (n-of ws) (root-of ws)) (ltb max-budget (budget-of ws)) (n-of ws) (root-of ws) (budget-of ws))
+
 header-read : (ws : List ℕ) → header-refusal ws 0 ≡ 0 → header-with (n-of ws) (root-of ws) (budget-of ws) ≡ header-of ws
 unfolding header-of
 header-read ws e = simp (e)
@@ -63,7 +79,7 @@ module _ (ws : List ℕ) (h : Header) (q : h ≡ header-of ws) where
     pub its-end : Cells-end ws (offset (h .n) (h .root) cells)
     its-end = rw its-fields (cells-end ws (header-known ws passes))
 
-    module _ (c : Cells) (k : Cells-read (bits-in ws) (h .n) (h .root) c) where
+    module _ (c : Cells) (k : Cells-read (bits-in ws) 0 (h .n) (h .root) c) where
       its-judged : cells-refusal (weights-in (n-of ws) (root-of ws) (bits-in ws)) (marks-in (n-of ws) (root-of ws) (bits-in ws)) ≡ c .answer
       its-judged = sym (k .judged ∙ rw its-fields)
 
@@ -75,7 +91,7 @@ module _ (ws : List ℕ) (h : Header) (q : h ≡ header-of ws) where
         filling =
             let u = header-known ws passes in
             let w = length-known (n-of ws) (u .n-high) in
-            let e : c .end ≡ bits-needed (n-of ws) = k .last-end y ∙ rw its-fields (u .end) in
+            let e : c .end ≡ bits-needed (n-of ws) = k .last-end y ∙ zero-add _ ∙ rw its-fields (u .end) in
             let l : length (bits-in ws) ≡ c .end + (8 * length ws - c .end) = length-bits-in ws ∙ omega (arith, w .whole, u .sized) in
             rw f (field-rest-zero (c .end) (8 * length ws - c .end) (bits-in ws) l ∙ rw e)
 

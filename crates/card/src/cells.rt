@@ -1,9 +1,11 @@
 // The cells of a card, read and judged.
 ghost use mathlib.Core.Path.{_≡_};
-ghost use Prim.Native.Nat.{_*_, _≤_, _<_};
+ghost use mathlib.Core.Bool.{true};
+ghost use Prim.Native.Nat.{_+_, _*_, _≤_, _<_};
 ghost use lib.ListN.{length};
 ghost use Rattle.bits.specs.Bits.{bits-in};
 ghost use Rattle.instance.specs.Limits.{cells};
+ghost use Rattle.card_format.specs.Widths.{cell-width};
 ghost use Rattle.card_format.specs.Card.{on-card, max-card, cell-refusal};
 ghost use Rattle.card_format.specs.Offsets.{offset};
 ghost use Rattle.card.specs.Cells.{Cell-read, Cells-read};
@@ -36,8 +38,8 @@ pub struct Cell {
 
 // Cell `i`, whose bits begin at `at` if it is on the card.
 fn read_cell(card: &[u8], n: u32, root: u32, i: usize, at: usize) -> Cell
-    requires { ⌜ (i < cells) × (at ≡ offset n root i) × (offset n root cells ≤ 8 * length (now card)) × (offset n root cells ≤ 8 * max-card) ⌝ }
-    ensures { λ r. ⌜ Cell-read (bits-in (now (card .entry))) n root i r ⌝ }
+    requires { ⌜ (i < cells) × (at ≤ 16 * max-card) × (on-card n root i ≡ true → at + cell-width ≤ 8 * length (now card)) ⌝ }
+    ensures { λ r. ⌜ Cell-read (bits-in (now (card .entry))) n root i at r ⌝ }
 {
     if on_card(n, root, i) {
         let weight = bits::read_bits(card, at, WEIGHT_WIDTH);
@@ -85,14 +87,14 @@ pub struct Cells {
     pub end: usize,
 }
 
-// All cells, up to the first faulty one.
-pub fn read_cells(card: &[u8], n: u32, root: u32) -> Cells
-    requires { ⌜ (offset n root cells ≤ 8 * length (now card)) × (offset n root cells ≤ 8 * max-card) ⌝ }
-    ensures { λ r. ⌜ Cells-read (bits-in (now (card .entry))) n root r ⌝ }
+// All cells, up to the first faulty one, of the card whose bits begin at `start`.
+pub fn read_cells(card: &[u8], start: usize, n: u32, root: u32) -> Cells
+    requires { ⌜ (start + offset n root cells ≤ 8 * length (now card)) × (offset n root cells ≤ 8 * max-card) × (start ≤ 8 * max-card) ⌝ }
+    ensures { λ r. ⌜ Cells-read (bits-in (now (card .entry))) start n root r ⌝ }
 {
     let mut weights = [NO_ARC; CELLS];
     let mut marks = [FREE; CELLS];
-    let mut end = HEADER_WIDTH;
+    let mut end = start + HEADER_WIDTH;
     let mut i: usize = 0;
     while i < CELLS {
         let cell = read_cell(card, n, root, i, end);

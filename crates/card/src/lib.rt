@@ -1,8 +1,8 @@
 // The rig card: reading and writing.
 
-mod widths; // widths.rt: the widths of a card's fields
-mod lengths; // lengths.rt: how many bytes a card has
-mod cells; // cells.rt: the cells of a card, read and judged
+pub mod widths; // widths.rt: the widths of a card's fields
+pub mod lengths; // lengths.rt: how many bits and bytes a card has
+pub mod cells; // cells.rt: the cells of a card, read and judged
 pub mod read; // read.rt: a card of any bytes, read or refused
 pub mod write; // write.rt: a card written into the caller's buffer
 

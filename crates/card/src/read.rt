@@ -6,7 +6,12 @@ use crate::widths::BUDGET_WIDTH;
 use crate::widths::N_WIDTH;
 use crate::widths::ROOT_WIDTH;
 ghost use mathlib.Core.Path.{_≡_};
-ghost use Rattle.card.specs.Read.{no-header, header-of, no-contents, contents-of};
+ghost use Prim.Native.Nat.{_+_, _*_, _≤_};
+ghost use lib.ListN.{length, drop};
+ghost use Rattle.bits.specs.Bits.{bits-in};
+ghost use Rattle.card_format.specs.Widths.{header-width};
+ghost use Rattle.card_format.specs.Card.{max-card};
+ghost use Rattle.card.specs.Read.{no-header, fields-of, header-of, no-contents, contents-of};
 use instance::limits::CELLS;
 use instance::limits::FREE;
 use instance::limits::MAX_BUDGET;
@@ -27,7 +32,7 @@ pub struct Header {
     pub budget: u32,
 }
 
-fn no_header(answer: u32) -> Header
+pub fn no_header(answer: u32) -> Header
     ensures { λ r. ⌜ r ≡ no-header answer ⌝ }
 {
     Header {
@@ -35,6 +40,27 @@ fn no_header(answer: u32) -> Header
         n: 0,
         root: 0,
         budget: 0,
+    }
+}
+
+// Refusals 4 and 5: the fields behind that of the positions, which says `n` and begins at `start`.
+pub fn read_fields(card: &[u8], start: usize, n: u32) -> Header
+    requires { ⌜ (start + header-width ≤ 8 * length (now card)) × (start ≤ 8 * max-card) ⌝ }
+    ensures { λ r. ⌜ r ≡ fields-of n (drop start (bits-in (now (card .entry)))) ⌝ }
+{
+    let root = bits::read_bits(card, start + N_WIDTH, ROOT_WIDTH);
+    if n <= root {
+        return no_header(BAD_ROOT);
+    }
+    let budget = bits::read_bits(card, start + (N_WIDTH + ROOT_WIDTH), BUDGET_WIDTH);
+    if MAX_BUDGET < budget {
+        return no_header(BAD_CARD_BUDGET);
+    }
+    Header {
+        answer: 0,
+        n,
+        root,
+        budget,
     }
 }
 
@@ -55,20 +81,7 @@ fn read_header(card: &[u8]) -> Header
     if card.len() != lengths::needed_length(n) {
         return no_header(BAD_LENGTH);
     }
-    let root = bits::read_bits(card, N_WIDTH, ROOT_WIDTH);
-    if n <= root {
-        return no_header(BAD_ROOT);
-    }
-    let budget = bits::read_bits(card, N_WIDTH + ROOT_WIDTH, BUDGET_WIDTH);
-    if MAX_BUDGET < budget {
-        return no_header(BAD_CARD_BUDGET);
-    }
-    Header {
-        answer: 0,
-        n,
-        root,
-        budget,
-    }
+    read_fields(card, 0, n)
 }
 
 // What a card says: a refusal and nothing else, or 0 and an instance.
@@ -106,7 +119,7 @@ pub fn read_card(card: &[u8]) -> Contents
     let n = header.n;
     let root = header.root;
     let budget = header.budget;
-    let cells = cells::read_cells(card, n, root);
+    let cells = cells::read_cells(card, 0, n, root);
     let faulty = cells.answer;
     if faulty != 0 {
         return no_contents(faulty);

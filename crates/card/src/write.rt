@@ -8,26 +8,21 @@ use crate::widths::ROOT_WIDTH;
 use crate::widths::WEIGHT_WIDTH;
 use bits::BitWriter;
 ghost use mathlib.Core.Path.{_≡_};
-ghost use Prim.Native.Nat.{_*_, _≤_, _<_};
+ghost use Prim.Native.Nat.{_≤_, _<_};
 ghost use lib.ListN.{length};
 ghost use Rattle.bits.specs.Writer.{Ready, Put};
 ghost use Rattle.instance.specs.Limits.{max-vertices, cells};
 ghost use Rattle.instance.specs.Instance.{instance-with, without-budget};
 ghost use Rattle.card_format.specs.Widths.{header-width};
-ghost use Rattle.card_format.specs.Card.{header-bits, one-cell, cell-bits};
+ghost use Rattle.card_format.specs.Card.{bits-needed, header-bits, one-cell, cell-bits, instance-bits};
 ghost use Rattle.card.specs.Write.{Card-written};
 use instance::limits::CELLS;
 use instance::refusals::BUFFER_SHORT;
 
-fn put_header(n: u32, root: u32, budget: u32, out: &mut [u8]) -> BitWriter
-    requires { ⌜ header-width ≤ 8 * length (now out) ⌝ }
-    ensures { λ r. ⌜ Put (header-bits n root budget) (record { at = 0; partial = 0; count = 0 }) (now (out .entry)) (now (out .exit)) r ⌝ }
+fn put_header(n: u32, root: u32, budget: u32, start: BitWriter, out: &mut [u8]) -> BitWriter
+    requires { ⌜ Ready header-width start (now out) ⌝ }
+    ensures { λ r. ⌜ Put (header-bits n root budget) start (now (out .entry)) (now (out .exit)) r ⌝ }
 {
-    let start = BitWriter {
-        at: 0,
-        partial: 0,
-        count: 0,
-    };
     let after_n = bits::put_bits(n, N_WIDTH, start, out);
     let after_root = bits::put_bits(root, ROOT_WIDTH, after_n, out);
     bits::put_bits(budget, BUDGET_WIDTH, after_root, out)
@@ -75,14 +70,32 @@ fn put_cells<'a>(
     w
 }
 
+// The bits of a card, without the filling: the next bit of `out` goes where `start` says. (One lifetime, so that two
+// fields of one struct can be lent.)
+pub fn put_instance<'a>(
+    weights: &'a [u32; CELLS],
+    marks: &'a [u8; CELLS],
+    n: u32,
+    root: u32,
+    budget: u32,
+    start: BitWriter,
+    out: &mut [u8],
+) -> BitWriter
+    requires { ⌜ (n ≤ max-vertices) × (root < n) × (length (now weights) ≡ cells) × (length (now marks) ≡ cells) ⌝ }
+    requires { ⌜ Ready (bits-needed n) start (now out) ⌝ }
+    ensures { λ r. ⌜ Put (instance-bits (instance-with n root budget (now (weights .entry)) (now (marks .entry)))) start (now (out .entry)) (now (out .exit)) r ⌝ }
+{
+    let header = put_header(n, root, budget, start, out);
+    put_cells(weights, marks, n, root, header, out)
+}
+
 // 14 if the buffer is too short, else 0 and the length of the card.
 pub struct Written {
     pub answer: u32,
     pub length: usize,
 }
 
-// Writes the card of the instance that the arguments make up; bytes behind it stay. (One lifetime, so that two fields
-// of one struct can be lent.)
+// Writes the card of the instance that the arguments make up; bytes behind it stay.
 pub fn write_instance<'a>(
     weights: &'a [u32; CELLS],
     marks: &'a [u8; CELLS],
@@ -101,8 +114,12 @@ pub fn write_instance<'a>(
             length: 0,
         };
     }
-    let header = put_header(n, root, budget, out);
-    let all = put_cells(weights, marks, n, root, header, out);
+    let start = BitWriter {
+        at: 0,
+        partial: 0,
+        count: 0,
+    };
+    let all = put_instance(weights, marks, n, root, budget, start, out);
     bits::fill_byte(all, out);
     Written {
         answer: 0,

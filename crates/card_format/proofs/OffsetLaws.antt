@@ -34,6 +34,11 @@ unfolding offset
 offset-add zero n r i = rw (add-zero i) (omega arith)
 offset-add (suc d) n r i = rw (add-suc i d) (omega (arith, offset-add d n r i, step-le (on-card n r (i + d)) (offset n r (i + d))))
 
+pub offset-up : (n r i m : ℕ) → i ≤ m → offset n r i ≤ offset n r m
+offset-up n r i m h =
+    let s : m ≡ i + (m - i) = omega arith in
+    rw s (offset-add (m - i) n r i)
+
 -- a cell on the card ends before a later one begins
 pub offset-within : (n r i m : ℕ) → i < m → on-card n r i ≡ true → offset n r i + cell-width ≤ offset n r m
 offset-within n r i m h e =

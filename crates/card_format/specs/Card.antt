@@ -59,12 +59,15 @@ weights-in n r bs = cell-fields n r 0 weight-width no-arc cells 0 (drop header-w
 abbrev pub marks-in : (n root : ℕ) → (bits : List ℕ) → List ℕ
 marks-in n r bs = cell-fields n r weight-width mark-width free cells 0 (drop header-width bs)
 
-unfoldable pub instance-in : (card : List ℕ) → Instance
-instance-in ws =
-    let bs = bits-in ws in
+-- what the bits of a card say, whatever follows them
+abbrev pub instance-of-bits : (bits : List ℕ) → Instance
+instance-of-bits bs =
     let n = n-in bs in
     let r = root-in bs in
     record { n = n; root = r; budget = budget-in bs; weights = weights-in n r bs; marks = marks-in n r bs }
+
+unfoldable pub instance-in : (card : List ℕ) → Instance
+instance-in ws = instance-of-bits (bits-in ws)
 
 -- "mark 3"
 abbrev pub unused-mark : ℕ

@@ -64,7 +64,7 @@ given c =
 -- the log on the same card: how many it accepts, its answer, and how many stand
 unfoldable pub logged : List-case → List ℕ
 logged c =
-    let n = note-list (c .commands) (new-log (instance-q (c .budget) [])) in
+    let n = note-list (c .commands) (new-log (instance-q (c .budget) []) []) in
     n .applied ∷ n .answer ∷ log-length (n .log) ∷ []
 
 unfoldable pub lists : List List-case

@@ -11,6 +11,7 @@ use lib.Seq.{getD-set-other}
 use borrow.Author.Tests.{eq-eqb}
 use Rattle.base.specs.Lists.{all-of}
 use Rattle.base.proofs.BoolLaws.{not-both, and-left, and-both}
+use Rattle.base.proofs.AllOfLaws.{all-of-first}
 use Rattle.instance.specs.Limits.{max-vertices, free, banned}
 use Rattle.instance.specs.Refusals.{invalid-board}
 use Rattle.instance.specs.Marks.{mark-number}
@@ -27,7 +28,7 @@ use Rattle.commands.proofs.HeadsLaws.{put-length, put-elsewhere}
 use Rattle.commands.proofs.CommandLaws.{mark-cases, marks-cases, budget-cases}
 use Rattle.commands.proofs.ValidLaws.{Valid, valid-parts}
 
-same-differs : (q : ℕ → Bool) (w : Bool) (s : Instance) → Differs-only q w s s
+pub same-differs : (q : ℕ → Bool) (w : Bool) (s : Instance) → Differs-only q w s s
 same-differs q w s = record { n = refl; root = refl; weights = refl; marks-length = refl; marks = λ i _. refl; budget = λ _. refl }
 
 -- a cell that is not the named one has another index
@@ -73,6 +74,14 @@ refused-differs q w b k = same-differs q w (b .instance)
 head-below : (s : Instance) (t h : ℕ) → s .n ≤ max-vertices → is-arc s t h ≡ true → h < max-vertices
 head-below s t h small a = let l = arc-ends s t h a .head-below in omega arith
 
+-- what a record restores that names arcs
+pub restored-differs :
+    (s : Instance) (r : Replaced) → s .n ≤ max-vertices → record-ok s r ≡ true → Differs-only (restores-cell r) (restores-budget r) s (restored r s)
+unfolding restored restores-cell restores-budget record-ok
+restored-differs s (old-mark t h m) small e = mark-differs s m t h (head-below s t h small (and-left (is-arc s t h) (leb m banned) e))
+restored-differs s (old-marks t c ms) small e = marks-differs s t (inside c) (λ h. getD ms h free)
+restored-differs s (old-budget v) small e = budget-differs s v
+
 module _ (b : Model) (small : b .instance .n ≤ max-vertices) where
   marked-differs : (m : Mark) (t h : ℕ) → Differs-only (is-cell t h) false (b .instance) (marked m t h b .board .instance)
   unfolding accepted
@@ -96,14 +105,9 @@ module _ (b : Model) (small : b .instance .n ≤ max-vertices) where
   undone-differs :
       (rs : List Replaced) → all-of (record-ok (b .instance)) rs ≡ true →
       Differs-only (names-cell undo (b .instance) rs) (names-budget undo rs) (b .instance) (undone rs b .board .instance)
-  unfolding undone refused restored names-cell names-budget restores-cell restores-budget all-of record-ok
+  unfolding undone refused names-cell names-budget
   undone-differs [] e = same-differs (λ i. false) false (b .instance)
-  undone-differs (old-mark t h m ∷ rs) e =
-      let s = b .instance in
-      let a = and-left (is-arc s t h) (leb m banned) (and-left (record-ok s (old-mark t h m)) (all-of (record-ok s) rs) e) in
-      mark-differs s m t h (head-below s t h small a)
-  undone-differs (old-marks t c ms ∷ rs) e = marks-differs (b .instance) t (inside c) (λ h. getD ms h free)
-  undone-differs (old-budget v ∷ rs) e = budget-differs (b .instance) v
+  undone-differs (r ∷ rs) e = restored-differs (b .instance) r small (all-of-first (record-ok (b .instance)) r rs e)
 
 applied-changes : (c : Command) (b : Model) → Valid b → Changes-only-named c b (applied c b .board)
 unfolding applied names-cell names-budget

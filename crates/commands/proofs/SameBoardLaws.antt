@@ -74,7 +74,7 @@ module _ (a b : Instance) (e : Same-instance a b) where
   with-budget-same v =
       record { same-n = e .same-n; same-root = e .same-root; same-budget = refl; same-weights = e .same-weights; same-marks = e .same-marks }
 
-  record-ok-same : (r : Replaced) → record-ok a r ≡ record-ok b r
+  pub record-ok-same : (r : Replaced) → record-ok a r ≡ record-ok b r
   unfolding record-ok head-ok
   record-ok-same (old-mark t h m) = ap (λ (c : Bool). c && leb m banned) (same-is-arc a b e t h)
   record-ok-same (old-marks t c ms) =

@@ -1,6 +1,7 @@
--- Which boards are valid, and what lists of commands answer and leave, on the board and in the log: two lists, each
--- with one claim about the whole list. The answers, by document 01's own numbers, and what is left are written out
--- here, so that board and log cannot be wrong alike. Computed. Assumes nothing.
+-- Which boards are valid, and what lists of commands answer and leave, on the board and in the log, on cards that came
+-- with records too (02, A8): two lists, each with one claim about the whole list. The answers, by document 01's own
+-- numbers, and what is left are written out here, so that board and log cannot be wrong alike. Computed. Assumes
+-- nothing.
 use mathlib.Core.Path.{_≡_, refl}
 use mathlib.Core.List.{List, [], _∷_, _++_, map}
 use Prim.Native.Nat.{ℕ, _*_, _/_, _%_}
@@ -15,10 +16,10 @@ use Rattle.instance.specs.declared.Mark.the-variants.{Free, Pinned, Banned}
 use Rattle.instance.specs.Valid.{cell-ok, cell-valid, header-valid, valid-instance}
 use Rattle.instance.proofs.WorkedCases.{arc, filled, instance-from, instance-q}
 use Rattle.commands.specs.Heads.{heads-below, names-arc, names-any, heads-of, marks-of, is-named, put-marks, with-marks}
-use Rattle.commands.specs.Model.{Replaced, old-mark, old-marks, old-budget, Model, opened, with-mark, restored}
+use Rattle.commands.specs.Model.{Replaced, old-mark, old-marks, old-budget, Model, with-mark, restored}
 use Rattle.commands.specs.Valid.{head-ok, record-ok, valid}
 use Rattle.commands.specs.Commands.{Command, set-mark, set-marks, set-budget, undo, refused, accepted, decided, arc-refusal, mark-refusal, marked, marks-refusal, several-marked, budget-refusal, budgeted, undone, applied, answered, answers, board-after}
-use Rattle.commands.specs.Log.{new-log, with-entries, log-length, unnoted, noted, note-arcs, note-mark, note-marks, note-budget, note-undo, note, log-answers, log-after}
+use Rattle.commands.specs.Log.{new-log, with-entries, log-length, unnoted, noted, noted-below, note-arcs, note-mark, note-marks, note-budget, note-undo, note, log-answers, log-after}
 use Rattle.commands.specs.Effective.{effective-mark, effective-budget, effective}
 
 abbrev pin : (tail head : ℕ) → Command
@@ -108,8 +109,10 @@ pub record Left : Type 0 where
   pub marks : List ℕ
   pub budget : ℕ
 
+-- an instance with the records that came with it (02, A8)
 pub record Command-case : Type 0 where
   pub from : Instance
+  pub records : List Replaced
   pub commands : List Command
   pub leaves : Left
 
@@ -117,15 +120,28 @@ pub record Command-case : Type 0 where
 unfoldable pub all-marks : Instance → List ℕ
 all-marks s = tabulate (s .n * s .n) (λ i. mark s (i / s .n) (i % s .n))
 
-unfoldable pub on-board : Instance → List Command → Left
-on-board s cs =
-    let b = board-after applied cs (opened s) in
-    record { answers = answers applied cs (opened s); marks = all-marks (b .instance); budget = b .instance .budget }
+unfoldable pub on-board : Command-case → Left
+on-board r =
+    let a : Model = record { instance = r .from; history = r .records } in
+    let b = board-after applied (r .commands) a in
+    record { answers = answers applied (r .commands) a; marks = all-marks (b .instance); budget = b .instance .budget }
 
-unfoldable pub in-log : Instance → List Command → Left
-in-log s cs =
-    let t = effective (log-after cs (new-log s)) in
-    record { answers = log-answers cs (new-log s); marks = all-marks t; budget = t .budget }
+unfoldable pub in-log : Command-case → Left
+in-log r =
+    let k = new-log (r .from) (r .records) in
+    let t = effective (log-after (r .commands) k) in
+    record { answers = log-answers (r .commands) k; marks = all-marks t; budget = t .budget }
+
+-- a card that came with records, the latest first: "In the book these records .. set nothing" and "restore what the
+-- record says", the last one a ban of 3→1 that never was
+abbrev remembered : List Command → Left → Command-case
+remembered cs l =
+    record {
+      from = instance-q 20 (arc 0 1 banned ∷ arc 1 2 1 ∷ arc 1 3 1 ∷ []);
+      records = old-mark 0 1 1 ∷ old-marks 1 12 (0 ∷ 0 ∷ 2 ∷ 1 ∷ []) ∷ old-budget 14 ∷ old-mark 3 1 2 ∷ [];
+      commands = cs;
+      leaves = l;
+    }
 
 unfoldable pub runs : List Command-case
 runs =
@@ -133,23 +149,27 @@ runs =
     -- has
     record {
       from = instance-q 16 [];
+      records = [];
       commands = ban 0 1 ∷ pin 0 1 ∷ undo ∷ [];
       leaves = record { answers = 0 ∷ 0 ∷ 0 ∷ []; marks = 0 ∷ 2 ∷ 0 ∷ 0 ∷ 0 ∷ 0 ∷ 0 ∷ 0 ∷ 0 ∷ 0 ∷ 0 ∷ 0 ∷ 0 ∷ 0 ∷ 0 ∷ 0 ∷ []; budget = 16 };
     }
     ∷ record {
       from = instance-q 16 (arc 0 1 banned ∷ []);
+      records = [];
       commands = pin 0 1 ∷ pin 2 1 ∷ clear 0 1 ∷ undo ∷ undo ∷ undo ∷ undo ∷ [];
       leaves = record { answers = 0 ∷ 0 ∷ 0 ∷ 0 ∷ 0 ∷ 0 ∷ 13 ∷ []; marks = 0 ∷ 2 ∷ 0 ∷ 0 ∷ 0 ∷ 0 ∷ 0 ∷ 0 ∷ 0 ∷ 0 ∷ 0 ∷ 0 ∷ 0 ∷ 0 ∷ 0 ∷ 0 ∷ []; budget = 16 };
     }
     -- two budgets, and the second taken back
     ∷ record {
       from = instance-q 16 [];
+      records = [];
       commands = set-budget 32505794 ∷ set-budget 15 ∷ undo ∷ [];
       leaves = record { answers = 0 ∷ 0 ∷ 0 ∷ []; marks = replicate 16 0; budget = 32505794 };
     }
     -- each refusal, then marks that stay; 196 more make 200, of which the last is taken back and its room used again
     ∷ record {
       from = instance-q 16 [];
+      records = [];
       commands =
           undo ∷ pin 4 1 ∷ ban 1 4 ∷ clear 4 4 ∷ pin 3 2 ∷ ban 1 0 ∷ clear 2 2 ∷ set-budget 32505795 ∷ ban 0 1 ∷ pin 2 1 ∷ clear 0 1 ∷ ban 2 3
           ∷ (replicate 196 (pin 1 2) ++ (pin 1 2 ∷ clear 3 2 ∷ ban 4 1 ∷ set-budget 32505795 ∷ set-budget 3 ∷ undo ∷ set-budget 3 ∷ ban 0 1 ∷ []));
@@ -166,6 +186,7 @@ runs =
     -- back as they were, the card's too
     ∷ record {
       from = instance-q 16 (arc 1 2 banned ∷ arc 3 1 1 ∷ []);
+      records = [];
       commands = pin 1 3 ∷ clear-group 1 15 ∷ pin-group 0 14 ∷ ban-group 3 6 ∷ undo ∷ undo ∷ undo ∷ ban-group 2 2 ∷ [];
       leaves =
           record {
@@ -176,6 +197,7 @@ runs =
     }
     ∷ record {
       from = instance-q 16 (arc 1 2 banned ∷ arc 3 1 1 ∷ []);
+      records = [];
       commands = pin 1 3 ∷ clear-group 1 15 ∷ pin-group 0 14 ∷ ban-group 3 6 ∷ [];
       leaves =
           record {
@@ -189,6 +211,7 @@ runs =
     -- one of the 200
     ∷ record {
       from = instance-q 16 [];
+      records = [];
       commands =
           ban-group 4 2 ∷ pin-group 1 16 ∷ ban-group 1 28 ∷ clear-group 1 2147483660 ∷ clear-group 4 0 ∷ pin-group 1 0 ∷ ban-group 1 1 ∷ clear-group 1 2
           ∷ ban-group 3 4 ∷ pin-group 1 12
@@ -200,13 +223,47 @@ runs =
             budget = 3;
           };
     }
+    -- 02, A8: first no undo; then undo of a command and of the two latest records, with marks and a budget set over
+    -- what these restored
+    ∷ remembered (pin 2 1 ∷ [])
+    (record {
+      answers = 0 ∷ [];
+      marks = 0 ∷ 2 ∷ 0 ∷ 0 ∷ 0 ∷ 0 ∷ 1 ∷ 1 ∷ 0 ∷ 1 ∷ 0 ∷ 0 ∷ 0 ∷ 0 ∷ 0 ∷ 0 ∷ [];
+      budget = 20;
+    })
+    ∷ remembered (pin 2 1 ∷ undo ∷ undo ∷ undo ∷ ban 1 3 ∷ set-budget 9 ∷ [])
+    (record {
+      answers = replicate 6 0;
+      marks = 0 ∷ 1 ∷ 0 ∷ 0 ∷ 0 ∷ 0 ∷ 2 ∷ 2 ∷ 0 ∷ 0 ∷ 0 ∷ 0 ∷ 0 ∷ 0 ∷ 0 ∷ 0 ∷ [];
+      budget = 9;
+    })
+    -- undo between commands down to 13: what was set over a restored mark leaves that mark again
+    ∷ remembered
+    (pin 0 1 ∷ set-budget 30 ∷ undo ∷ undo ∷ undo ∷ clear 0 1 ∷ ban-group 1 4 ∷ undo ∷ undo ∷ undo ∷ set-budget 3 ∷ undo ∷ undo ∷ undo ∷ undo ∷ ban 2 3 ∷ [])
+    (record {
+      answers = replicate 14 0 ++ (13 ∷ 0 ∷ []);
+      marks = 0 ∷ 1 ∷ 0 ∷ 0 ∷ 0 ∷ 0 ∷ 2 ∷ 1 ∷ 0 ∷ 0 ∷ 0 ∷ 2 ∷ 0 ∷ 2 ∷ 0 ∷ 0 ∷ [];
+      budget = 14;
+    })
+    -- "they count among the 200"
+    ∷ record {
+      from = instance-q 16 [];
+      records = old-budget 7 ∷ replicate 199 (old-mark 2 1 2);
+      commands = pin 2 1 ∷ set-budget 9 ∷ pin-group 1 12 ∷ undo ∷ pin-group 1 12 ∷ clear 0 1 ∷ undo ∷ undo ∷ [];
+      leaves =
+          record {
+            answers = 12 ∷ 12 ∷ 12 ∷ 0 ∷ 0 ∷ 12 ∷ 0 ∷ 0 ∷ [];
+            marks = 0 ∷ 0 ∷ 0 ∷ 0 ∷ 0 ∷ 0 ∷ 0 ∷ 0 ∷ 0 ∷ 2 ∷ 0 ∷ 0 ∷ 0 ∷ 0 ∷ 0 ∷ 0 ∷ [];
+            budget = 7;
+          };
+    }
     ∷ []
 
 -- THE CLAIM ABOUT COMMANDS
-pub run : map (λ r. on-board (r .from) (r .commands) ∷ in-log (r .from) (r .commands) ∷ []) runs ≡ map (λ r. r .leaves ∷ r .leaves ∷ []) runs
+pub run : map (λ r. on-board r ∷ in-log r ∷ []) runs ≡ map (λ r. r .leaves ∷ r .leaves ∷ []) runs
 unfolding
-    runs on-board in-log all-marks instance-q instance-from filled tabulate-from tabulate weight mark can-be-arc is-arc opened with-mark
+    runs on-board in-log all-marks instance-q instance-from filled tabulate-from tabulate weight mark can-be-arc is-arc with-mark
     restored refused accepted decided arc-refusal mark-refusal marked any-below sum-below from-digits inside heads-below names-arc names-any heads-of marks-of
     is-named put-marks with-marks marks-refusal several-marked budget-refusal budgeted undone applied answers board-after new-log with-entries
-    log-length unnoted noted note-arcs note-mark note-marks note-budget note-undo note effective-mark effective-budget effective log-answers log-after
+    log-length unnoted noted noted-below note-arcs note-mark note-marks note-budget note-undo note effective-mark effective-budget effective log-answers log-after
 run = refl

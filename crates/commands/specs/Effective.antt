@@ -26,7 +26,8 @@ effective-budget (entry-mark m u v ∷ es) s = effective-budget es s
 effective-budget (entry-marks m u c ∷ es) s = effective-budget es s
 effective-budget (entry-budget v ∷ es) s = v
 
--- "the card's positions, root and prices under the standing marks, within the standing budget"
+-- "the card's positions, root and prices under the standing marks, within the standing budget"; the records below "set
+-- nothing" (02, A8)
 unfoldable pub effective : Log → Instance
 effective k =
     record {

@@ -1,8 +1,8 @@
 -- The log (document 01: the book), "kept from the card and the calls' arguments alone, never from an answer or the
--- board's record". Assumes nothing: these are definitions.
+-- board's record"; of a card that came with records (02, A8) these too. Assumes nothing: these are definitions.
 use mathlib.Core.Bool.{Bool, _&&_, not, cond}
 use mathlib.Core.List.{List, [], _∷_}
-use Prim.Native.Nat.{ℕ}
+use Prim.Native.Nat.{ℕ, _+_}
 use lib.Dec.{ltb, leb}
 use lib.ListN.{length}
 use Rattle.instance.specs.Limits.{max-budget, max-records}
@@ -10,6 +10,7 @@ use Rattle.instance.specs.Refusals.{no-vertex, no-such-arc, bad-budget, history
 use Rattle.instance.specs.Instance.{Instance, is-arc}
 use Rattle.instance.specs.declared.Mark.{Mark}
 use Rattle.commands.specs.Heads.{heads-below, names-any}
+use Rattle.commands.specs.Model.{Replaced, restored}
 use Rattle.commands.specs.Commands.{Command, set-mark, set-marks, set-budget, undo}
 
 -- An entry (document 01: a standing press): "a link with the mark it sets, or a budget"; and since 02, A5, a set of
@@ -20,25 +21,27 @@ pub data Entry : Type 0 where
   entry-marks : (mark : Mark) → (tail heads : ℕ) → Entry
   entry-budget : (budget : ℕ) → Entry
 
--- "It holds the card and a list of standing presses": here the latest stands first
+-- "It holds the card and a list of standing presses": here the latest stands first. Below are the records that came on
+-- the card, the latest first too: they "lie under the standing presses and set nothing" (02, A8).
 pub record Log : Type 0 where
   pub card : Instance
+  pub below : List Replaced
   pub entries : List Entry
 
 pub record Noted : Type 0 where
   pub answer : ℕ
   pub log : Log
 
--- "empty at first"
-unfoldable pub new-log : Instance → Log
-new-log s = record { card = s; entries = [] }
+-- the list of entries is "empty at first"; below are the records that came on the card, none on an old one
+unfoldable pub new-log : Instance → (below : List Replaced) → Log
+new-log s rs = record { card = s; below = rs; entries = [] }
 
 unfoldable pub with-entries : List Entry → Log → Log
-with-entries es k = record { card = k .card; entries = es }
+with-entries es k = record { card = k .card; below = k .below; entries = es }
 
--- how many "stand"
+-- how many "stand"; of the records below: "they count among the 200" (02, A8)
 unfoldable pub log-length : Log → ℕ
-log-length k = length (k .entries)
+log-length k = length (k .entries) + length (k .below)
 
 -- "A refused call leaves the book as it was."
 unfoldable pub unnoted : (answer : ℕ) → Log → Noted
@@ -73,16 +76,23 @@ note-budget v k =
     (cond (leb max-records (log-length k)) (unnoted history-full k)
     (noted (entry-budget v ∷ k .entries) k))
 
--- "refused with 13 if none stands; otherwise accepted, and the last one is struck out"
-unfoldable pub note-undo : List Entry → Log → Noted
-note-undo [] k = unnoted history-empty k
-note-undo (e ∷ es) k = noted es k
+-- 02, A8: "a take-back that reaches one is accepted, strikes it out and puts what it says in place of the card's marks
+-- or budget"
+unfoldable pub noted-below : Replaced → (below : List Replaced) → Log → Noted
+noted-below r rs k = record { answer = 0; log = record { card = restored r (k .card); below = rs; entries = [] } }
+
+-- "refused with 13 if none stands; otherwise accepted, and the last one is struck out": with no entry left, the latest
+-- record below
+unfoldable pub note-undo : List Entry → (below : List Replaced) → Log → Noted
+note-undo [] [] k = unnoted history-empty k
+note-undo [] (r ∷ rs) k = noted-below r rs k
+note-undo (e ∷ es) rs k = noted es k
 
 unfoldable pub note : Command → Log → Noted
 note (set-mark m t h) k = note-mark m t h k
 note (set-marks m t c) k = note-marks m t c k
 note (set-budget v) k = note-budget v k
-note undo k = note-undo (k .entries) k
+note undo k = note-undo (k .entries) (k .below) k
 
 -- a list of commands
 unfoldable pub log-answers : List Command → Log → List ℕ

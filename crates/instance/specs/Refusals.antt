@@ -8,11 +8,13 @@ use Prim.Native.Nat.{ℕ}
 abbrev pub card-short : ℕ
 card-short = 1
 
--- "positions field 0 or 33 to 63"
+-- "positions field 0 or 33 to 63"; 02, A8: "An old console refuses every new card by 2", "A move handed the other kind
+-- is 2"
 abbrev pub bad-count : ℕ
 bad-count = 2
 
--- "card length not the needed one"
+-- "card length not the needed one"; of a new card 02, A8: "3 now meaning that the old bits run past the end",
+-- "3 where it runs past the end" of the count and each record, "3 if whole bytes remain"
 abbrev pub bad-length : ℕ
 bad-length = 3
 
@@ -33,7 +35,7 @@ bad-weight = 6
 abbrev pub bad-mark : ℕ
 bad-mark = 7
 
--- "a filling bit is 1"
+-- "a filling bit is 1"; of a new card 02, A8: "then 3 if whole bytes remain; then 8"
 abbrev pub bad-filling : ℕ
 bad-filling = 8
 
@@ -90,3 +92,14 @@ overcharged = 24
 -- "amounts not adding up"
 abbrev pub wrong-values : ℕ
 wrong-values = 25
+
+-- new cards (02, A8): opening gives "no board" after 27; a move leaves the buffer as it was after both
+
+-- "27 for a count above 200, kind 3 (two bits long), or a record naming a non-link, an empty group or a value out of
+-- range"; A9: "27 use the new limits"
+abbrev pub bad-record : ℕ
+bad-record = 27
+
+-- "28 for a move to old with records"
+abbrev pub has-records : ℕ
+has-records = 28

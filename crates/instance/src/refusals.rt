@@ -61,3 +61,10 @@ pub const OVERCHARGED: u32 = 24;
 
 // 25: the amounts do not add up.
 pub const WRONG_VALUES: u32 = 25;
+
+// 27: on a history card, a count above 200, kind 3, or a record naming a non-link, an empty group or a value out of
+// range.
+pub const BAD_RECORD: u32 = 27;
+
+// 28: a move to a plain card, of a history card with records.
+pub const HAS_RECORDS: u32 = 28;

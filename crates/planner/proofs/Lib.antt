@@ -1,5 +1,6 @@
 -- Laws of the public calls. Assumes nothing.
 pub mod OpeningLaws
+pub mod MovingLaws
 pub mod WritingLaws
 pub mod LookingLaws
 pub mod CallKinds

@@ -8,55 +8,82 @@ use borrow.Author.Tests.{eq-eqb, ne-eqb, eqb-true}
 use Rattle.card_format.specs.Card.{card-refusal, instance-in}
 use Rattle.card.specs.Read.{contents-of, contents-with, no-contents}
 use Rattle.card.specs.declared.read.Contents.{Contents}
-use Rattle.commands.specs.Model.{opened}
+use Rattle.commands.specs.Model.{Model, opened}
 use Rattle.commands.specs.Valid.{valid}
-use Rattle.commands.specs.Log.{new-log}
-use Rattle.board.specs.ModelOf.{model-of, instance-of, history-of}
-use Rattle.board.specs.Create.{board-with, blank}
+use Rattle.commands.proofs.LogLaws.{Tied, opened-tied}
+use Rattle.commands.proofs.ValidLaws.{valid-parts}
+use Rattle.board.specs.ModelOf.{model-of, instance-of}
+use Rattle.board.specs.Create.{board-with, blank, stored, board-of, answered-with, opened-as}
 use Rattle.board.specs.declared.Board.{Board}
-use Rattle.commands.proofs.LogLaws.{Tied}
-use Rattle.board.proofs.CreateLaws.{new-board-follows}
-use Rattle.card_format.proofs.OpensLaws.{card-valid}
-use Rattle.card_format.proofs.OpensLaws.{marks-long}
 use Rattle.board.specs.declared.Answered.{Answered}
-use Rattle.planner.specs.Opening.{answered-with, opened-from, fresh}
+use Rattle.history_format.specs.HistoryCard.{is-history, open-refusal, model-in, history-refusal, history-model}
+use Rattle.history_format.proofs.HistoryAgain.{model-in-valid, model-in-shaped, model-in-long}
+use Rattle.history_card.specs.Open.{history-opened}
+use Rattle.history_card.proofs.BoardOfLaws.{model-of-board}
+use Rattle.planner.specs.Opening.{plain-opened, opened-from}
+use Rattle.planner.specs.Replaying.{log-in}
 
--- A FRESH BOARD is valid and follows a new log
-pub record Starts (ws : List ℕ) (b : Board) : Type 0 where
-  pub good : valid (model-of b) ≡ true
-  pub tied : Tied (model-of b) (new-log (instance-in ws))
-  pub same-n : b .n ≡ instance-in ws .n
-
-fresh-starts : (ws : List ℕ) → card-refusal ws ≡ 0 → Starts ws (fresh (instance-in ws))
-unfolding board-with opened history-of
-fresh-starts ws z =
-    let s = instance-in ws in
-    let f = new-board-follows (s .n) (s .root) (s .budget) (s .weights) (s .marks) (fresh s) (record { board = refl; model = refl }) (card-valid ws z) (marks-long ws) in
-    record { good = f .is-valid; tied = f .tied; same-n = refl }
-
-pub opened-starts : (ws : List ℕ) (o : Answered) → o ≡ opened-from ws → card-refusal ws ≡ 0 → Starts ws (o .board)
-unfolding opened-from
-opened-starts ws o e z =
-    let q : o ≡ answered-with 0 (fresh (instance-in ws)) = e ∙ rw (eq-eqb (card-refusal ws) 0 z) in
-    subst (Starts ws) (sym (ap (λ (x : Answered). x .board) q)) (fresh-starts ws z)
-
--- the answer is the card's refusal
-pub opened-answer : (ws : List ℕ) (o : Answered) → o ≡ opened-from ws → o .answer ≡ card-refusal ws
-unfolding opened-from
-opened-answer ws o e = ap (λ (x : Answered). x .answer) e ∙ go (eqb (card-refusal ws) 0) refl
+-- BY REFUSAL
+pub answer-by : (k : ℕ) (m : Model) → opened-as k m .answer ≡ k
+unfolding opened-as
+answer-by k m = go (eqb k 0) refl
   where
-    go : (b : Bool) → eqb (card-refusal ws) 0 ≡ b → cond b (answered-with 0 (fresh (instance-in ws))) (answered-with (card-refusal ws) blank) .answer ≡ card-refusal ws
-    go true q = sym (eqb-true (card-refusal ws) 0 q)
+    go : (b : Bool) → eqb k 0 ≡ b → cond b (answered-with 0 (board-of m)) (answered-with k blank) .answer ≡ k
+    go true q = sym (eqb-true k 0 q)
     go false q = refl
 
--- the board of a card that opens holds its instance
-pub opened-instance : (ws : List ℕ) (o : Answered) → o ≡ opened-from ws → card-refusal ws ≡ 0 → instance-of (o .board) ≡ instance-in ws
-unfolding opened-from board-with
-opened-instance ws o e z =
-    let q : o ≡ answered-with 0 (fresh (instance-in ws)) = e ∙ rw (eq-eqb (card-refusal ws) 0 z) in
-    ap (λ (x : Answered). instance-of (x .board)) q
+pub board-by : (k : ℕ) (m : Model) → k ≡ 0 → opened-as k m ≡ answered-with 0 (board-of m)
+unfolding opened-as
+board-by k m z = rw (eq-eqb k 0 z)
 
--- WHAT A CARD SAYS
+pub blank-by : (k : ℕ) (m : Model) → (k ≡ 0 → ⊥) → opened-as k m ≡ answered-with k blank
+unfolding opened-as
+blank-by k m n = rw (ne-eqb k 0 n)
+
+-- BY KIND
+pub kind-opened : (ws : List ℕ) → is-history ws ≡ true → history-opened ws ≡ opened-from ws
+unfolding history-opened opened-from open-refusal model-in
+kind-opened ws e = rw e
+
+pub kind-plain : (ws : List ℕ) → is-history ws ≡ false → plain-opened ws ≡ opened-from ws
+unfolding plain-opened opened-from open-refusal model-in
+kind-plain ws e = rw e
+
+-- WHAT IS OPENED
+-- the answer is the card's refusal
+pub opened-answer : (ws : List ℕ) (o : Answered) → o ≡ opened-from ws → o .answer ≡ open-refusal ws
+unfolding opened-from
+opened-answer ws o e = ap (λ (x : Answered). x .answer) e ∙ answer-by (open-refusal ws) (model-in ws)
+
+module _ (ws : List ℕ) (o : Answered) (e : o ≡ opened-from ws) (z : open-refusal ws ≡ 0) where
+  pub opened-board : o .board ≡ board-of (model-in ws)
+  unfolding opened-from
+  opened-board = ap (λ (x : Answered). x .board) (e ∙ board-by (open-refusal ws) (model-in ws) z)
+
+  -- the board of a card that opens holds what the card says
+  pub opened-model : model-of (o .board) ≡ model-in ws
+  opened-model = ap model-of opened-board ∙ model-of-board (model-in ws) (model-in-valid ws z) (model-in-shaped ws)
+
+  pub opened-instance : instance-of (o .board) ≡ model-in ws .instance
+  opened-instance = ap (λ (m : Model). m .instance) opened-model
+
+-- it is valid and follows a new log
+pub record Starts (ws : List ℕ) (b : Board) : Type 0 where
+  pub good : valid (model-of b) ≡ true
+  pub tied : Tied (model-of b) (log-in ws)
+  pub same-n : b .n ≡ model-in ws .instance .n
+
+pub opened-starts : (ws : List ℕ) (o : Answered) → o ≡ opened-from ws → open-refusal ws ≡ 0 → Starts ws (o .board)
+opened-starts ws o e z =
+    let v = model-in-valid ws z in
+    let m = opened-model ws o e z in
+    record {
+      good = subst (λ (x : Model). valid x ≡ true) (sym m) v;
+      tied = subst (λ (x : Model). Tied x (log-in ws)) (sym m) (opened-tied (model-in ws) (valid-parts (model-in ws) v .n-high) (model-in-long ws));
+      same-n = ap (λ (x : Model). x .instance .n) m;
+    }
+
+-- WHAT AN OLD CARD SAYS
 -- contents with the refusal they come with
 refusal-said : (ws : List ℕ) → contents-of ws .answer ≡ card-refusal ws
 unfolding contents-of no-contents
@@ -70,12 +97,12 @@ module _ (ws : List ℕ) (c : Contents) (e : c ≡ contents-of ws) where
   said : c .answer ≡ card-refusal ws
   said = ap (λ (x : Contents). x .answer) e ∙ refusal-said ws
 
-  pub open-refused : (c .answer ≡ 0 → ⊥) → answered-with (c .answer) blank ≡ opened-from ws
-  unfolding opened-from
+  pub open-refused : (c .answer ≡ 0 → ⊥) → answered-with (c .answer) blank ≡ plain-opened ws
+  unfolding plain-opened opened-as
   open-refused n = rw (← said, ne-eqb (c .answer) 0 n)
 
-  pub open-accepted : c .answer ≡ 0 → answered-with 0 (board-with (c .n) (c .root) (c .budget) (c .weights) (c .marks)) ≡ opened-from ws
-  unfolding opened-from contents-of
+  pub open-accepted : c .answer ≡ 0 → answered-with 0 (board-with (c .n) (c .root) (c .budget) (c .weights) (c .marks)) ≡ plain-opened ws
+  unfolding plain-opened opened-as contents-of board-with board-of opened stored
   open-accepted z =
       let q : eqb (card-refusal ws) 0 ≡ true = eq-eqb (card-refusal ws) 0 (sym said ∙ z) in
       let a : c ≡ contents-with (instance-in ws) = e ∙ rw q in

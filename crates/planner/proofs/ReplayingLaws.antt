@@ -21,19 +21,19 @@ use Rattle.instance.specs.Instance.{Instance}
 use Rattle.instance.specs.States.{states}
 use Rattle.instance.specs.Cuts.{words-of}
 use Rattle.theory.proofs.StateLaws.{states-read}
-use Rattle.card_format.specs.Card.{card-refusal, instance-in}
 use Rattle.commands.specs.Valid.{valid}
-use Rattle.commands.specs.Log.{Log, new-log}
+use Rattle.commands.specs.Log.{Log}
 use Rattle.commands.specs.Effective.{effective}
 use Rattle.board.specs.ModelOf.{model-of, instance-of}
 use Rattle.board.specs.declared.Board.{Board}
 use Rattle.board.specs.declared.Answered.{Answered}
 use Rattle.commands.proofs.LogLaws.{Tied}
 use Rattle.commands.proofs.ValidLaws.{valid-parts}
+use Rattle.history_format.specs.HistoryCard.{open-refusal, model-in}
 use Rattle.planner.specs.declared.View.{View}
 use Rattle.planner.specs.declared.View.the-variants.{Refused}
 use Rattle.planner.specs.Looking.{Buffers, short-for, Shows, Looks}
-use Rattle.planner.specs.Replaying.{Call, call, calls, log-call, call-answers, calls-after, Makes, lists-short, Replays-at, Replays}
+use Rattle.planner.specs.Replaying.{Call, call, calls, log-in, log-call, call-answers, calls-after, Makes, lists-short, Replays-at, Replays}
 use Rattle.planner.proofs.CallSteps.{Since, since-same, since-then, tree-long, words-long, looks-long, Call-step, call-step}
 
 -- the calls from place i on
@@ -45,20 +45,20 @@ pub record Calls-made (ws ks fs gs xs₀ : List ℕ) (old : Buffers) (b : Board)
   pub firsts : length ks ≤ length fs
   pub seconds : length ks ≤ length gs
   pub room : length ks ≤ length xs₀
-  pub long : short-for (instance-in ws .n) old ≡ false
+  pub long : short-for (model-in ws .instance .n) old ≡ false
   pub size : length xs ≡ length xs₀
   pub log : Log
   pub tied : Tied (model-of b) log
   pub good : valid (model-of b) ≡ true
-  pub same-n : b .n ≡ instance-in ws .n
-  pub since : Since (instance-in ws .n) old new
+  pub same-n : b .n ≡ model-in ws .instance .n
+  pub since : Since (model-in ws .instance .n) old new
   pub answered :
       take i xs ++ call-answers (from ks fs gs i) log
-      ≡ call-answers (calls ks fs gs) (new-log (instance-in ws))
+      ≡ call-answers (calls ks fs gs) (log-in ws)
   pub rest : drop i xs ≡ drop i xs₀
   pub after :
       calls-after (from ks fs gs i) log
-      ≡ calls-after (calls ks fs gs) (new-log (instance-in ws))
+      ≡ calls-after (calls ks fs gs) (log-in ws)
 
 -- a buffer is too short after calls exactly when it was before
 same-short : (n : ℕ) (old new : Buffers) → Since n old new → short-for n new ≡ short-for n old
@@ -92,30 +92,30 @@ long-lists k f s a e =
     }
 
 -- a card that does not open, and lists or buffers that are too short
-pub not-opened : (ws ks fs gs xs : List ℕ) (old : Buffers) (v : View) (a : ℕ) → card-refusal ws ≡ a → (a ≡ 0 → ⊥) → v ≡ Refused a → Replays ws ks fs gs xs xs old old v
+pub not-opened : (ws ks fs gs xs : List ℕ) (old : Buffers) (v : View) (a : ℕ) → open-refusal ws ≡ a → (a ≡ 0 → ⊥) → v ≡ Refused a → Replays ws ks fs gs xs xs old old v
 unfolding Replays Replays-at
 not-opened ws ks fs gs xs old v zero e n r = absurd (n refl)
 not-opened ws ks fs gs xs old v (suc a) e n r = rw e (refl, record { result = r; buffers = refl })
 
 too-short-at : (t : Bool) (ws ks fs gs xs : List ℕ) (old : Buffers) (v : View) → t ≡ true → v ≡ Refused buffer-short →
-    Replays-at 0 t (calls ks fs gs) (new-log (instance-in ws)) xs xs old old v
+    Replays-at 0 t (calls ks fs gs) (log-in ws) xs xs old old v
 unfolding Replays-at
 too-short-at t ws ks fs gs xs old v e r = rw e (refl, record { result = r; buffers = refl })
 
-module _ (ws ks fs gs xs : List ℕ) (old : Buffers) (v : View) (z : card-refusal ws ≡ 0) (r : v ≡ Refused buffer-short) where
+module _ (ws ks fs gs xs : List ℕ) (old : Buffers) (v : View) (z : open-refusal ws ≡ 0) (r : v ≡ Refused buffer-short) where
   abbrev short-lists : Bool
   short-lists = lists-short (length ks) (length fs) (length gs) (length xs)
 
   pub lists-refused : short-lists ≡ true → Replays ws ks fs gs xs xs old old v
   unfolding Replays
-  lists-refused e = rw z (too-short-at (short-lists || short-for (instance-in ws .n) old) ws ks fs gs xs old v (rw e) r)
+  lists-refused e = rw z (too-short-at (short-lists || short-for (model-in ws .instance .n) old) ws ks fs gs xs old v (rw e) r)
 
-  pub buffers-refused : (n : ℕ) → n ≡ instance-in ws .n → short-for n old ≡ true → Replays ws ks fs gs xs xs old old v
+  pub buffers-refused : (n : ℕ) → n ≡ model-in ws .instance .n → short-for n old ≡ true → Replays ws ks fs gs xs xs old old v
   unfolding Replays
   buffers-refused n q e =
       rw z
-      (too-short-at (short-lists || short-for (instance-in ws .n) old) ws ks fs gs xs old v
-      (or-right short-lists (short-for (instance-in ws .n) old) (ap (λ (m : ℕ). short-for m old) (sym q) ∙ e)) r)
+      (too-short-at (short-lists || short-for (model-in ws .instance .n) old) ws ks fs gs xs old v
+      (or-right short-lists (short-for (model-in ws .instance .n) old) (ap (λ (m : ℕ). short-for m old) (sym q) ∙ e)) r)
 
 -- THE LAST LOOK is one from the buffers as they were before the calls
 shows-since : (s : Instance) (v : View) (old mid new : Buffers) → s .n ≤ max-vertices → Since (s .n) old mid → Shows s mid new v → Shows s old new v
@@ -145,9 +145,9 @@ length-answers (c ∷ cs) k = ap suc (length-answers cs (log-call c k .log))
 
 module _ (ws ks fs gs xs₀ : List ℕ) (old : Buffers) where
   abbrev start : Log
-  start = new-log (instance-in ws)
+  start = log-in ws
 
-  pub begun : (b : Board) → Tied (model-of b) start → valid (model-of b) ≡ true → b .n ≡ instance-in ws .n → length ks ≤ length fs → length ks ≤ length gs →
+  pub begun : (b : Board) → Tied (model-of b) start → valid (model-of b) ≡ true → b .n ≡ model-in ws .instance .n → length ks ≤ length fs → length ks ≤ length gs →
       length ks ≤ length xs₀ → short-for (b .n) old ≡ false → Calls-made ws ks fs gs xs₀ old b 0 xs₀ old
   begun b y g e p q r t =
       record {
@@ -161,7 +161,7 @@ module _ (ws ks fs gs xs₀ : List ℕ) (old : Buffers) where
         tied = y;
         good = g;
         same-n = e;
-        since = since-same (instance-in ws .n) old old refl;
+        since = since-same (model-in ws .instance .n) old old refl;
         answered = refl;
         rest = refl;
         after = refl;
@@ -173,7 +173,7 @@ module _ (ws ks fs gs xs₀ : List ℕ) (old : Buffers) where
   unfolding call-answers calls-after
   again b i xs new next d h g m =
       let e = call (getD ks i 0) (getD fs i 0) (getD gs i 0) in
-      let q : short-for (b .n) new ≡ false = ap (λ (n : ℕ). short-for n new) (g .same-n) ∙ same-short (instance-in ws .n) old new (g .since) ∙ g .long in
+      let q : short-for (b .n) new ≡ false = ap (λ (n : ℕ). short-for n new) (g .same-n) ∙ same-short (model-in ws .instance .n) old new (g .since) ∙ g .long in
       let s : Call-step e b (g .log) new next d = call-step b (g .log) (g .good) (g .tied) e d new next q m in
       let sp = split ks fs gs i h (g .firsts) (g .seconds) in
       let k = log-call e (g .log) .log in
@@ -235,12 +235,12 @@ module _ (ws ks fs gs xs₀ : List ℕ) (old : Buffers) where
 
     shown : Shows (instance-of b) old new v
     shown =
-        let q : short-for (b .n) mid ≡ false = ap (λ (n : ℕ). short-for n mid) (g .same-n) ∙ same-short (instance-in ws .n) old mid (g .since) ∙ g .long in
+        let q : short-for (b .n) mid ≡ false = ap (λ (n : ℕ). short-for n mid) (g .same-n) ∙ same-short (model-in ws .instance .n) old mid (g .since) ∙ g .long in
         shows-since (instance-of b) v old mid new (valid-parts (model-of b) (g .good) .n-high) (subst (λ (n : ℕ). Since n old mid) (sym (g .same-n)) (g .since))
         (looks-long b v mid new (g .good) q l)
 
-    pub ended : card-refusal ws ≡ 0 → Replays ws ks fs gs xs₀ xs old new v
+    pub ended : open-refusal ws ≡ 0 → Replays ws ks fs gs xs₀ xs old new v
     unfolding Replays
     ended z =
-        rw (z, or-both-false (lists-short (length ks) (length fs) (length gs) (length xs₀)) (short-for (instance-in ws .n) old) (lists-not-short ks fs gs xs₀ (g .firsts) (g .seconds) (g .room)) (g .long))
+        rw (z, or-both-false (lists-short (length ks) (length fs) (length gs) (length xs₀)) (short-for (model-in ws .instance .n) old) (lists-not-short ks fs gs xs₀ (g .firsts) (g .seconds) (g .room)) (g .long))
         (finish (calls ks fs gs) start v xs₀ xs old new answers-made (subst (λ (s : Instance). Shows s old new v) shown-of shown))

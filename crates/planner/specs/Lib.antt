@@ -3,5 +3,6 @@ pub mod Opening
 pub mod Looking
 pub mod Displaying
 pub mod Writing
+pub mod Moving
 pub mod Checking
 pub mod Replaying

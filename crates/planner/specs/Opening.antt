@@ -1,21 +1,17 @@
--- What opening a card gives, as an equation. Assumes nothing: these are definitions.
-use mathlib.Core.Bool.{cond}
+-- What opening a card gives, as equations. Assumes nothing: these are definitions.
 use mathlib.Core.List.{List}
 use Prim.Native.Nat.{ℕ}
-use lib.Dec.{eqb}
-use Rattle.instance.specs.Instance.{Instance}
 use Rattle.card_format.specs.Card.{card-refusal, instance-in}
-use Rattle.board.specs.Create.{board-with, blank}
-use Rattle.board.specs.declared.Board.{Board}
+use Rattle.commands.specs.Model.{opened}
+use Rattle.board.specs.Create.{opened-as}
 use Rattle.board.specs.declared.Answered.{Answered}
+use Rattle.history_format.specs.HistoryCard.{open-refusal, model-in}
 
--- "A board opened from a card has that card's marks and budget and no recorded press."
-abbrev pub fresh : Instance → Board
-fresh s = board-with (s .n) (s .root) (s .budget) (s .weights) (s .marks)
+-- Every card opens as a board or gets one of its refusals, and "no board", the blank one. An old card: "A board opened
+-- from a card has that card's marks and budget and no recorded press."
+unfoldable pub plain-opened : (card : List ℕ) → Answered
+plain-opened ws = opened-as (card-refusal ws) (opened (instance-in ws))
 
-abbrev pub answered-with : (answer : ℕ) → Board → Answered
-answered-with a b = record { answer = a; board = b }
-
--- every card opens as a board or gets one of the refusals 1 to 5, 7 and 8; "no board" is the blank one
+-- a card of either kind (02, A8: "Old cards still open."), with the records that came on it
 unfoldable pub opened-from : (card : List ℕ) → Answered
-opened-from ws = cond (eqb (card-refusal ws) 0) (answered-with 0 (fresh (instance-in ws))) (answered-with (card-refusal ws) blank)
+opened-from ws = opened-as (open-refusal ws) (model-in ws)

@@ -9,7 +9,6 @@ use lib.ListN.{length}
 use Rattle.base.specs.Lists.{in-front}
 use Rattle.instance.specs.Refusals.{buffer-short, invalid-board}
 use Rattle.instance.specs.declared.Mark.the-variants.{Free, Pinned, Banned}
-use Rattle.card_format.specs.Card.{card-refusal, instance-in}
 use Rattle.commands.specs.Commands.{Command, set-mark, set-marks, set-budget, undo, answered}
 use Rattle.commands.specs.Valid.{valid}
 use Rattle.commands.specs.Log.{Log, new-log, Noted, unnoted, note}
@@ -18,6 +17,7 @@ use Rattle.board.specs.ModelOf.{model-of}
 use Rattle.board.specs.Calls.{Answers}
 use Rattle.board.specs.declared.Board.{Board}
 use Rattle.board.specs.declared.Answered.{Answered}
+use Rattle.history_format.specs.HistoryCard.{open-refusal, model-in}
 use Rattle.planner.specs.declared.View.{View}
 use Rattle.planner.specs.Looking.{Buffers, answer-of, short-for, Shows, Untouched, Looks}
 
@@ -87,7 +87,12 @@ Replays-at (suc a) short cs k xs xs′ old new r = (xs′ ≡ xs) × Untouched (
 Replays-at zero true cs k xs xs′ old new r = (xs′ ≡ xs) × Untouched buffer-short old new r
 Replays-at zero false cs k xs xs′ old new r = (xs′ ≡ in-front (call-answers cs k) xs) × Shows (effective (calls-after cs k)) old new r
 
+-- the log of a freshly opened card: what the card says, and the records that came on it, which "lie under the standing
+-- presses" (02, A8)
+abbrev pub log-in : (card : List ℕ) → Log
+log-in ws = new-log (model-in ws .instance) (model-in ws .history)
+
 unfoldable pub Replays : (card kinds firsts seconds : List ℕ) → (answers answers′ : List ℕ) → (old new : Buffers) → View → Type 0
 Replays ws ks fs gs xs xs′ old new r =
-    Replays-at (card-refusal ws) (lists-short (length ks) (length fs) (length gs) (length xs) || short-for (instance-in ws .n) old) (calls ks fs gs)
-    (new-log (instance-in ws)) xs xs′ old new r
+    Replays-at (open-refusal ws) (lists-short (length ks) (length fs) (length gs) (length xs) || short-for (model-in ws .instance .n) old) (calls ks fs gs)
+    (log-in ws) xs xs′ old new r

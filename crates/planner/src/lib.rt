@@ -1,11 +1,13 @@
 // The public calls, gathered here: open_card, pin, ban, clear, pin_group, ban_group, clear_group, set_budget,
-// take_back, press_list, look, write_card, check_plan and replay. None requires anything of its caller: whatever is
-// handed in gets an answer, and after a refusal the board and all buffers are as they were; of a list of presses that
-// is said of the refused press, and what the earlier ones did stands.
+// take_back, press_list, look, write_card, write_history_card, to_history_card, to_plain_card, check_plan and replay.
+// None requires anything of its caller: whatever is handed in gets an answer, and after a refusal the board and all
+// buffers are as they were; of a list of presses that is said of the refused press, and what the earlier ones did
+// stands.
 mod checking; // checking.rt: a plan made elsewhere, checked for a board
 mod copies; // copies.rt: copies into the caller's buffers
 mod displaying; // displaying.rt: what planning found, copied there
 mod looking; // looking.rt: a look at a board
+mod moving; // moving.rt: a card moved from one kind to the other
 mod opening; // opening.rt: a board from a card
 mod replaying; // replaying.rt: a list of calls, one after the other
 mod writing; // writing.rt: a board written as a card
@@ -30,9 +32,12 @@ pub use instance::Mark;
 pub use instance::Outcome;
 pub use instance::Vertex;
 pub use looking::look;
+pub use moving::to_history_card;
+pub use moving::to_plain_card;
 pub use opening::open_card;
 pub use replaying::replay;
 pub use writing::write_card;
+pub use writing::write_history_card;
 
 // What a look shows: the outcome and the number of cuts that prove it, or of the one pair that shows that there is no
 // tree; or the number of a refusal.

@@ -6,13 +6,13 @@ ghost use lib.ListN.{length};
 use libc::STDERR_FILENO;
 use libc::STDIN_FILENO;
 use libc::STDOUT_FILENO;
-use report::MAX_CARD;
+use report::MAX_HISTORY_CARD;
 use report::MAX_TEXT;
 use report::report;
 
-// One byte more than the longest card: what follows does not matter (first-bytes-enough in
+// One byte more than the longest card of either kind: what follows does not matter (first-bytes-enough in
 // report/proofs/LongCards.antt).
-const MAX_INPUT: usize = MAX_CARD + 1;
+const MAX_INPUT: usize = MAX_HISTORY_CARD + 1;
 
 struct Input {
     failed: bool,

@@ -1,5 +1,5 @@
--- An input longer than any card is refused by its first byte, so a program that reads at most one byte more than the
--- longest card answers for the whole of its input. Assumes nothing.
+-- An input longer than any card of either kind is refused by its first bytes, so a program that reads at most one byte
+-- more than the longest card answers for the whole of its input. Assumes nothing.
 use mathlib.Core.Path.{_≡_, sym, _∙_}
 use mathlib.Core.Bool.{Bool, true, false}
 use mathlib.Core.List.{List}
@@ -11,35 +11,35 @@ use lib.Dec.{ltb, eqb}
 use lib.ListN.{length, take}
 use lib.Seq.{take-all}
 use Rattle.base.proofs.BoolLaws.{test}
-use Rattle.card_format.specs.Card.{max-card, card-refusal}
-use Rattle.card_format.proofs.TooLong.{too-long-refused, too-long-by-part}
+use Rattle.history_format.specs.HistoryCard.{max-history-card, open-refusal}
+use Rattle.history_format.proofs.LongHistory.{long-refused, long-by-part}
 use Rattle.report.specs.declared.Reported.{Reported}
 use Rattle.report_text.specs.Whole.{max-text}
 use Rattle.report.specs.Reports.{Reports-refusal, Reports-by, Reports}
 
 -- THE WHOLE INPUT: a report on the first bytes of an input is a report on the input
-module _ (ws : List ℕ) (k : ℕ) (enough : max-card ≤ k) (old new : List ℕ) (r : Reported) where
+module _ (ws : List ℕ) (k : ℕ) (enough : max-history-card ≤ k) (old new : List ℕ) (r : Reported) where
   abbrev Part : List ℕ
   Part = take (suc k) ws
 
-  of-long : max-card < length ws → (t : Bool) → Reports-by t (eqb (card-refusal Part) 0) Part old new r → Reports-by t (eqb (card-refusal ws) 0) ws old new r
+  of-long : max-history-card < length ws → (t : Bool) → Reports-by t (eqb (open-refusal Part) 0) Part old new r → Reports-by t (eqb (open-refusal ws) 0) ws old new r
   unfolding Reports-by
   of-long h true x = x
   of-long h false x =
-      let e = too-long-by-part ws k enough h in
-      let no-card : card-refusal ws ≡ 0 → ⊥ = too-long-refused ws h in
-      let no-part : card-refusal Part ≡ 0 → ⊥ = λ z. no-card (e ∙ z) in
-      let y : Reports-refusal Part old new r = rw (ne-eqb (card-refusal Part) 0 no-part) at x in
-      rw (ne-eqb (card-refusal ws) 0 no-card) (record { answer = y .answer ∙ sym e; text = rw (sym e) at (y .text) })
+      let e = long-by-part ws k enough h in
+      let no-card : open-refusal ws ≡ 0 → ⊥ = long-refused ws h in
+      let no-part : open-refusal Part ≡ 0 → ⊥ = λ z. no-card (e ∙ z) in
+      let y : Reports-refusal Part old new r = rw (ne-eqb (open-refusal Part) 0 no-part) at x in
+      rw (ne-eqb (open-refusal ws) 0 no-card) (record { answer = y .answer ∙ sym e; text = rw (sym e) at (y .text) })
 
   pub first-bytes-enough : Reports Part old new r → Reports ws old new r
   unfolding Reports
-  first-bytes-enough x = ⊎-elim long short (test (ltb max-card (length ws)))
+  first-bytes-enough x = ⊎-elim long short (test (ltb max-history-card (length ws)))
     where
-      long : ltb max-card (length ws) ≡ true → Reports ws old new r
-      long q = of-long (ltb-true max-card (length ws) q) (ltb (length old) max-text) x
+      long : ltb max-history-card (length ws) ≡ true → Reports ws old new r
+      long q = of-long (ltb-true max-history-card (length ws) q) (ltb (length old) max-text) x
 
-      short : ltb max-card (length ws) ≡ false → Reports ws old new r
+      short : ltb max-history-card (length ws) ≡ false → Reports ws old new r
       short q =
-          let fits : length ws ≤ suc k = omega (arith, ltb-false max-card (length ws) q) in
+          let fits : length ws ≤ suc k = omega (arith, ltb-false max-history-card (length ws) q) in
           rw (take-all (suc k) ws fits) at x

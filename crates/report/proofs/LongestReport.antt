@@ -13,8 +13,12 @@ use Rattle.base.proofs.ListLaws.{replicate-at, length-tabulate, getD-tabulate}
 use Rattle.instance.specs.Limits.{max-weight, no-arc, free, cells}
 use Rattle.instance.specs.Instance.{Instance, weight-at, mark-at}
 use Rattle.instance.specs.States.{outcome}
-use Rattle.card_format.specs.Card.{on-card, card-refusal, instance-in, card-of}
+use Rattle.card_format.specs.Card.{on-card, instance-in, card-of}
 use Rattle.card_format.proofs.InstanceAgain.{written-opens, instance-back}
+use Rattle.commands.specs.Model.{Model, opened}
+use Rattle.history_format.specs.HistoryCard.{open-refusal, model-in}
+use Rattle.history_format.proofs.HistoryAgain.{model-of-card}
+use Rattle.history_format.proofs.Moves.{card-not-history, old-still-opens}
 use Rattle.survey.specs.Survey.{Parents-by}
 use Rattle.report_text.specs.Whole.{report-text, max-text}
 use Rattle.report_text.proofs.LongestText.{star, star-cell, star-parents, star-valid, star-only, star-outcome, longest}
@@ -35,6 +39,12 @@ star-again : instance-in (card-of star) ≡ star
 unfolding star
 star-again = instance-back star star-valid (length-tabulate cells star-cell) (length-replicate {A = ℕ} cells free) off-card
 
+star-model : model-in (card-of star) .instance ≡ star
+unfolding opened
+star-model =
+    let plain = card-not-history (card-of star) (written-opens star star-valid) in
+    ap (λ (m : Model). m .instance) (model-of-card (card-of star) plain) ∙ star-again
+
 -- whichever cheapest tree is printed is the only one
 printed : (old new : List ℕ) (next : ℕ) → Reports-instance star old new next → next ≡ max-text
 unfolding Parents-by
@@ -45,5 +55,5 @@ printed old new next x =
 pub longest-printed : (old new : List ℕ) (r : Reported) → max-text ≤ length old → Reports (card-of star) old new r → r .length ≡ max-text
 unfolding Reports Reports-by
 longest-printed old new r h x =
-    let opened = rw (le-ltb (length old) max-text h, eq-eqb (card-refusal (card-of star)) 0 (written-opens star star-valid)) at x in
-    printed old new (r .length) (subst (λ (s : Instance). Reports-instance s old new (r .length)) star-again (opened .reports))
+    let shown = rw (le-ltb (length old) max-text h, eq-eqb (open-refusal (card-of star)) 0 (old-still-opens (card-of star) (written-opens star star-valid))) at x in
+    printed old new (r .length) (subst (λ (s : Instance). Reports-instance s old new (r .length)) star-model (shown .reports))

@@ -20,8 +20,8 @@ use Rattle.instance.specs.States.{shows-tree, total-in, outcome, states}
 use Rattle.instance.specs.Valid.{valid-instance}
 use Rattle.instance.proofs.ValidLaws.{valid-small}
 use Rattle.theory.proofs.StateLaws.{states-read}
-use Rattle.card_format.specs.Card.{card-refusal}
-use Rattle.card_format.proofs.OpensLaws.{card-refusal-most}
+use Rattle.history_format.specs.HistoryCard.{open-refusal}
+use Rattle.history_format.proofs.HistoryNumbers.{open-refusal-most}
 use Rattle.commands.specs.Valid.{valid}
 use Rattle.board.specs.ModelOf.{model-of, instance-of}
 use Rattle.board.specs.declared.Board.{Board}
@@ -145,11 +145,11 @@ module _
 pub opened-good : (ws : List ℕ) (o : Answered) → o ≡ opened-from ws → o .answer ≡ 0 → valid (model-of (o .board)) ≡ true
 opened-good ws o e a = opened-starts ws o e (sym (opened-answer ws o e) ∙ a) .good
 
--- the line of a refusal is short: no number is above 8
+-- the line of a refusal is short: no number is above 28
 pub refusal-room : (ws : List ℕ) (o : Answered) → o ≡ opened-from ws → length (refused-text (o .answer)) ≤ max-text
 refusal-room ws o e =
-    let most = card-refusal-most ws in
-    rw (opened-answer ws o e) (refused-length (card-refusal ws) (omega arith))
+    let most = open-refusal-most ws in
+    rw (opened-answer ws o e) (refused-length (open-refusal ws) (omega arith))
 
 -- THE THREE WAYS of a report
 pub too-short-reported : (ws old : List ℕ) → length old < max-text → Reports ws old old (record { answer = buffer-short; length = 0 })
@@ -161,7 +161,7 @@ pub refusal-reported : (ws old new : List ℕ) (o : Answered) (r : ℕ) → max-
 unfolding Reports Reports-by
 refusal-reported ws old new o r h q n f =
     let e = opened-answer ws o q in
-    let k : card-refusal ws ≡ 0 → ⊥ = λ z. n (e ∙ z) in
+    let k : open-refusal ws ≡ 0 → ⊥ = λ z. n (e ∙ z) in
     rw (le-ltb _ _ h, ne-eqb _ _ k) (record { answer = e; text = rw e at f })
 
 pub card-reported : (ws old new : List ℕ) (o : Answered) (r : ℕ) → max-text ≤ length old → o ≡ opened-from ws → o .answer ≡ 0
@@ -179,7 +179,7 @@ filled-within {text} {old} f =
 
 pub reported-within : (ws old new : List ℕ) (r : Reported) → Reports ws old new r → r .length ≤ length new
 unfolding Reports Reports-by
-reported-within ws old new r = go (ltb (length old) max-text) (eqb (card-refusal ws) 0)
+reported-within ws old new r = go (ltb (length old) max-text) (eqb (open-refusal ws) 0)
   where
     go : (t u : Bool) → Reports-by t u ws old new r → r .length ≤ length new
     go true u x = let z = ap (λ (y : Reported). y .length) (x .result) in omega arith

@@ -9,7 +9,7 @@ use lib.ListN.{length}
 use Rattle.instance.specs.Refusals.{buffer-short}
 use Rattle.instance.specs.Instance.{Instance}
 use Rattle.instance.specs.States.{outcome}
-use Rattle.card_format.specs.Card.{card-refusal, instance-in}
+use Rattle.history_format.specs.HistoryCard.{open-refusal, model-in}
 use Rattle.survey.specs.Survey.{Parents-shown}
 use Rattle.report.specs.declared.Reported.{Reported}
 use Rattle.text.specs.Buffer.{Filled}
@@ -27,15 +27,15 @@ pub record Refuses (old new : List ℕ) (r : Reported) : Type 0 where
   pub result : r ≡ record { answer = buffer-short; length = 0 }
   pub buffer : new ≡ old
 
--- 1 to 5, 7, 8: "A refused card prints one line only, as 'refused 3'."
+-- 1 to 5, 7, 8, and 27 of a card with records (02, A8): "A refused card prints one line only, as 'refused 3'."
 pub record Reports-refusal (card old new : List ℕ) (r : Reported) : Type 0 where
-  pub answer : r .answer ≡ card-refusal card
-  pub text : Filled (refused-text (card-refusal card)) old new (r .length)
+  pub answer : r .answer ≡ open-refusal card
+  pub text : Filled (refused-text (open-refusal card)) old new (r .length)
 
 -- 0: "A board opened from a card has that card's marks and budget"; a look at it is what is printed
 pub record Reports-opened (card old new : List ℕ) (r : Reported) : Type 0 where
   pub answer : r .answer ≡ 0
-  pub reports : Reports-instance (instance-in card) old new (r .length)
+  pub reports : Reports-instance (model-in card .instance) old new (r .length)
 
 -- by whether the buffer is too short for the longest text, and whether the card opens
 unfoldable pub Reports-by : (short opens : Bool) → (card old new : List ℕ) → Reported → Type 0
@@ -45,4 +45,4 @@ Reports-by false true card old new r = Reports-opened card old new r
 
 -- what is answered for a card, and the buffer before and after
 unfoldable pub Reports : (card old new : List ℕ) → Reported → Type 0
-Reports card old new r = Reports-by (ltb (length old) max-text) (eqb (card-refusal card) 0) card old new r
+Reports card old new r = Reports-by (ltb (length old) max-text) (eqb (open-refusal card) 0) card old new r

@@ -1,7 +1,7 @@
 // From a card to the text that the planner prints of it.
 mod reports; // reports.rt: a card opened, looked at and printed
 
-pub use card::MAX_CARD;
+pub use history_card::MAX_HISTORY_CARD;
 pub use report_text::MAX_TEXT;
 pub use reports::report;
 

@@ -20,7 +20,7 @@ returns c =
 read-cells-requires : tie.Need-read-cells-requires
 read-cells-requires c κs =
     let e = its-end _ (c .before .read-header .result) (c .before .read-header .ensures) (c .if1 .left) in
-    (e .room, e .small)
+    (omega (arith, e .room), e .small, omega arith)
 
 no-contents-requires-2 : tie.Need-no-contents-requires-2
 no-contents-requires-2 c κs = search needs

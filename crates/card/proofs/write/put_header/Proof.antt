@@ -4,24 +4,24 @@ use native.Mathlib.Omega.{arith}
 use borrow.Author.Needs.{needs}
 use Rattle.bits.specs.Writer.{Ready}
 use Rattle.bits.proofs.NumberLaws.{length-bits-of}
-use Rattle.bits.proofs.WriterLaws.{new-writer, put-then, ready-next}
-use Rattle.card_format.specs.Widths.{n-width, root-width, budget-width}
+use Rattle.bits.proofs.WriterLaws.{put-then, ready-next, ready-fewer}
+use Rattle.card_format.specs.Widths.{n-width, root-width, budget-width, header-width}
 use Rattle.card.proofs.write.put_header.Statement.{statement}
 use Rattle.card.proofs.write.put_header.Tie as tie
 
 put-bits-requires : tie.Need-put-bits-requires
-put-bits-requires c κs = search needs
+put-bits-requires c κs = (ready-fewer _ _ header-width n-width (omega arith) (c .before .before .pre), omega arith)
 
 put-bits-requires-2 : tie.Need-put-bits-requires-2
 put-bits-requires-2 c κs =
     let s = c .before .before .before .before .before .before in
-    let r0 : Ready (n-width + root-width) new-writer (s .args .out .now) = record { few = omega arith; room = omega (arith, s .pre) } in
+    let r0 : Ready (n-width + root-width) (s .args .start) (s .args .out .now) = ready-fewer _ _ header-width (n-width + root-width) (omega arith) (s .pre) in
     (ready-next _ _ _ _ _ n-width root-width (c .before .before .before .put-bits .ensures) (length-bits-of n-width (s .args .n)) r0, omega arith)
 
 put-bits-requires-3 : tie.Need-put-bits-requires-3
 put-bits-requires-3 c κs =
     let s = c .before .before .before .before .before .before .before .before .before .before in
-    let r0 : Ready (n-width + (root-width + budget-width)) new-writer (s .args .out .now) = record { few = omega arith; room = omega (arith, s .pre) } in
+    let r0 : Ready (n-width + (root-width + budget-width)) (s .args .start) (s .args .out .now) = ready-fewer _ _ header-width (n-width + (root-width + budget-width)) (omega arith) (s .pre) in
     let r1 : Ready (root-width + budget-width) _ _ =
     ready-next _ _ _ _ _ n-width (root-width + budget-width) (c .before .before .before .before .before .before .before .put-bits .ensures) (length-bits-of n-width (s .args .n)) r0 in
     (ready-next _ _ _ _ _ root-width budget-width (c .before .before .before .put-bits2 .ensures) (length-bits-of root-width (s .args .root)) r1, omega arith)

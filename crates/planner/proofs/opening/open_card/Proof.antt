@@ -1,29 +1,26 @@
--- A refused card and one that opens, each by its law. Assumes nothing.
-use mathlib.Core.Path.{ap, _∙_}
+-- `open_card` goes by the kind of the card. Assumes nothing.
+use mathlib.Core.Path.{sym, _∙_}
+use Rattle.planner.proofs.OpeningLaws.{kind-opened, kind-plain}
 use borrow.Author.Needs.{needs}
-use Rattle.planner.specs.Opening.{answered-with}
-use Rattle.planner.proofs.OpeningLaws.{open-refused, open-accepted}
 use Rattle.planner.proofs.opening.open_card.Statement.{statement}
 use Rattle.planner.proofs.opening.open_card.Tie as tie
 
-read-card-requires : tie.Need-read-card-requires
-read-card-requires c κs = search needs
+is-history-card-requires : tie.Need-is-history-card-requires
+is-history-card-requires c κs = search needs
 
-blank-board-requires : tie.Need-blank-board-requires
-blank-board-requires c κs = search needs
+open-history-requires : tie.Need-open-history-requires
+open-history-requires c κs = search needs
 
 returns : tie.Need-returns
-returns c =
-    let k = c .before .before in
-    ap (answered-with (k .read-card .result .answer)) (c .blank-board .ensures) ∙ open-refused _ (k .read-card .result) (k .read-card .ensures) (c .before .if1 .taken)
+returns c = c .open-history .ensures ∙ kind-opened _ (sym (c .before .before .is-history-card .ensures) ∙ c .before .if1 .taken)
 
-new-board-requires : tie.Need-new-board-requires
-new-board-requires c κs = search needs
+open-plain-requires : tie.Need-open-plain-requires
+open-plain-requires c κs = search needs
 
 returns-2 : tie.Need-returns-2
-returns-2 c =
-    let k = c .before .before .before .before in
-    ap (answered-with 0) (c .new-board .ensures .board) ∙ open-accepted _ (k .read-card .result) (k .read-card .ensures) (c .before .before .before .if1 .left)
+returns-2 c = c .open-plain .ensures ∙ kind-plain _ (sym (c .before .before .is-history-card .ensures) ∙ c .before .if1 .left)
 
 pub open-card-spec : {M : Type 1} → statement M
-open-card-spec = tie.close (tie.spec read-card-requires blank-board-requires returns new-board-requires returns-2)
+open-card-spec =
+    tie.close
+    (tie.spec is-history-card-requires open-history-requires returns open-plain-requires returns-2)

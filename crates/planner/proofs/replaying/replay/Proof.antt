@@ -4,7 +4,7 @@ use Prim.Native.Nat.{_-_}
 use native.Mathlib.Omega.{arith}
 use lib.ListN.{length}
 use borrow.Author.Needs.{needs}
-use Rattle.card_format.specs.Card.{card-refusal}
+use Rattle.history_format.specs.HistoryCard.{open-refusal}
 use Rattle.planner.specs.Looking.{buffers}
 use Rattle.board.specs.ModelOf.{model-of}
 use Rattle.commands.proofs.ValidLaws.{valid-parts}
@@ -21,7 +21,7 @@ abbrev μ-loop : tie.MeasureT-loop
 μ-loop bytes kinds firsts seconds answers₀ parents₀ states₀ cuts₀ answer b₀ n i₀ answers parents states cuts b i = length kinds - i
 
 -- THE CARD opens
-opens : (c : tie.Else1 Inv-loop μ-loop) → card-refusal (c .before .before .before .before .before .before .before .before .before .before .args .bytes .now) ≡ 0
+opens : (c : tie.Else1 Inv-loop μ-loop) → open-refusal (c .before .before .before .before .before .before .before .before .before .before .args .bytes .now) ≡ 0
 opens c = sym (opened-answer _ (c .before .open-card .result) (c .before .open-card .ensures)) ∙ c .if1 .left
 
 open-card-requires : tie.Need-open-card-requires Inv-loop μ-loop
