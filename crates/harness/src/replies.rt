@@ -53,7 +53,7 @@ pub fn of_write(b: Board, room: u32) -> Reply {
     }
 }
 
-// Of a write as a new card.
+// Of a write as a history card.
 pub fn of_history_write(b: Board, room: u32) -> Reply {
     let w = history_calls::write_with(b, room);
     let bytes = w.bytes;

@@ -115,7 +115,7 @@ pub fn write_right(s: Session) -> bool {
     is_written(calls::write(board), reference::card::build(problem_now(s)))
 }
 
-// Whether the board is written as the new card with that and with what the log says was replaced.
+// Whether the board is written as the history card with that and with what the log says was replaced.
 pub fn history_write_right(s: Session) -> bool {
     let board = s.board;
     let log = s.log;

@@ -1,5 +1,6 @@
-// Cards, bit by bit: document 01, "The rig card". The bits of such a card stand on a new card too (history_card.rt),
-// from its seventh on; so what is put and read here begins at any bit.
+// Cards, bit by bit: document 01, "The rig card"; plain cards, where those of 02, A8 are meant too. The bits of such a
+// card stand on a history card too (history_card.rt), from its seventh on; so what is put and read here begins at any
+// bit.
 use crate::access::narrow;
 use crate::access::of_byte;
 use crate::access::plus;
@@ -63,26 +64,29 @@ fn cell_value(weight: u32, mark: u8) -> u32 {
     weight % 1048576 * 4 + of_byte(mark) % 4
 }
 
-// Sets the bits of one cell, if it can hold an arc, and says where the next one begins.
-fn put_cell(out: &mut [u8], at: u32, p: Problem, tail: u32, head: u32) -> u32 {
-    if !problem::can_hold(p.n, p.root, tail, head) {
+// Sets the bits of one cell, if it is on the card, and says where the next one begins.
+fn put_cell(out: &mut [u8], at: u32, on_card: bool, value: u32) -> u32 {
+    if !on_card {
         return at;
     }
-    let k = problem::cell(tail, head);
-    put_field(out, at, CELL_BITS, cell_value(p.weights[k], p.marks[k]));
+    put_field(out, at, CELL_BITS, value);
     plus(at, CELL_BITS)
 }
 
 // "for each feeder upwards, each fed position upwards, leaving out feeder = fed and fed = root: price 20 bits, mark 2."
 fn put_cells(out: &mut [u8], from: u32, p: Problem) {
+    let n = p.n;
+    let root = p.root;
     let mut at = from;
     for k in 0..CELLS as u32 {
-        at = put_cell(out, at, p, k / STRIDE, k % STRIDE);
+        let on_card = problem::can_hold(n, root, k / STRIDE, k % STRIDE);
+        let value = cell_value(p.weights[k as usize], p.marks[k as usize]);
+        at = put_cell(out, at, on_card, value);
     }
 }
 
 // "positions 6 bits, root 5, budget 25; then" the cells, from a bit on, into zeros.
-pub fn put_old_bits(out: &mut [u8], from: u32, p: Problem) {
+pub fn put_plain_bits(out: &mut [u8], from: u32, p: Problem) {
     put_field(out, from, N_BITS, p.n);
     put_field(out, plus(from, ROOT_AT), ROOT_BITS, p.root);
     put_field(out, plus(from, BUDGET_AT), BUDGET_BITS, p.budget);
@@ -92,7 +96,7 @@ pub fn put_old_bits(out: &mut [u8], from: u32, p: Problem) {
 // The card of an instance. "Zero bits fill the last byte."
 pub fn build(p: Problem) -> Card {
     let mut bytes = [0; CARD_ROOM];
-    put_old_bits(&mut bytes, 0, p);
+    put_plain_bits(&mut bytes, 0, p);
     Card {
         bytes: bytes,
         length: bytes_of(p.n),
@@ -161,8 +165,8 @@ fn range_answer(n: u32, root: u32, budget: u32) -> u32 {
     0
 }
 
-// What the bits of an old card say that begin at a bit, with the answers 4, 5 and 7 in that order.
-pub fn read_old_bits(card: &[u8], from: u32) -> Reading {
+// What the bits of a plain card say that begin at a bit, with the answers 4, 5 and 7 in that order.
+pub fn read_plain_bits(card: &[u8], from: u32) -> Reading {
     let n = field(card, from, N_BITS);
     let root = field(card, plus(from, ROOT_AT), ROOT_BITS);
     let budget = field(card, plus(from, BUDGET_AT), BUDGET_BITS);
@@ -207,7 +211,7 @@ pub fn filling_answer(card: &[u8], from: u32) -> u32 {
 // "1 to 5 in that order; then the first faulty cell in card order ..; then 8".
 pub fn read(card: &[u8]) -> Reading {
     let n = field(card, 0, N_BITS);
-    let mut r = read_old_bits(card, 0);
+    let mut r = read_plain_bits(card, 0);
     let start = first(short_answer(card), count_answer(n));
     let answer = first(first(start, length_answer(card, n)), r.answer);
     r.answer = first(answer, filling_answer(card, bits_of(n)));

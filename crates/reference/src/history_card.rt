@@ -1,5 +1,6 @@
-// New cards, bit by bit: document 02, A8, "Cards that remember the presses". "A new card starts with six bits 63, then
-// the bits of the old card without filling, then an 8-bit count of recorded presses, then the records, oldest first".
+// History cards, bit by bit: the new cards of document 02, A8, "Cards that remember the presses"; an old card is a plain
+// card here. "A new card starts with six bits 63, then the bits of the old card without filling, then an 8-bit count of
+// recorded presses, then the records, oldest first".
 use crate::access::narrow;
 use crate::access::of_byte;
 use crate::access::plus;
@@ -23,10 +24,10 @@ use crate::refusals::BAD_COUNT;
 use crate::refusals::BAD_LENGTH;
 use crate::refusals::BAD_RECORDS;
 
-// "six bits 63", which no old card that opens begins with.
-const NEW: u32 = 63;
+// "six bits 63", which no plain card that opens begins with.
+const START: u32 = 63;
 
-const NEW_BITS: u32 = 6;
+const START_BITS: u32 = 6;
 
 // "an 8-bit count"; of the records "each a 2-bit kind: 0 a link (feeder 5, fed 5, replaced mark 2), 1 the replaced
 // budget (25), 2 a group (feeder 5, set 32 with link members only, then 2 bits for each member upwards)".
@@ -44,7 +45,7 @@ const SET_BITS: u32 = 32;
 
 // Where the count of a card for n positions begins, and where its records do.
 pub fn count_at(n: u32) -> u32 {
-    plus(NEW_BITS, card::bits_of(n))
+    plus(START_BITS, card::bits_of(n))
 }
 
 pub fn records_at(n: u32) -> u32 {
@@ -102,11 +103,11 @@ fn put_records(out: &mut [u8], from: u32, h: History) -> u32 {
     at
 }
 
-// The new card of an instance with records, lawful or not. "Zero bits fill the last byte".
+// The history card of an instance with records, lawful or not. "Zero bits fill the last byte".
 pub fn build(p: Problem, h: History) -> Card {
     let mut bytes = [0; CARD_ROOM];
-    put_field(&mut bytes, 0, NEW_BITS, NEW);
-    card::put_old_bits(&mut bytes, NEW_BITS, p);
+    put_field(&mut bytes, 0, START_BITS, START);
+    card::put_plain_bits(&mut bytes, START_BITS, p);
     put_field(&mut bytes, count_at(p.n), COUNT_BITS, h.count);
     let end = put_records(&mut bytes, records_at(p.n), h);
     Card {
@@ -207,7 +208,7 @@ fn count_answer(card: &[u8], n: u32, count: u32) -> u32 {
     0
 }
 
-// The count and the records of a card whose old bits say that.
+// The count and the records of a card whose plain bits say that.
 fn read_records(card: &[u8], p: Problem) -> Progress {
     let n = p.n;
     let count = field(card, count_at(n), COUNT_BITS);
@@ -238,7 +239,7 @@ fn end_answer(card: &[u8], end: u32) -> u32 {
 // the end".
 fn start_answer(card: &[u8], n: u32) -> u32 {
     let short = card::short_answer(card);
-    let kind = if is_new(card) { 0 } else { BAD_COUNT };
+    let kind = if is_history_card(card) { 0 } else { BAD_COUNT };
     let past = if is_past(card, count_at(n)) {
         BAD_LENGTH
     } else {
@@ -254,14 +255,14 @@ pub struct HistoryReading {
     pub history: History,
 }
 
-// A new card. "1 to 7 keep their order ..; then, for the count and each whole record in turn ..; then 3 if whole bytes
+// A history card. "1 to 7 keep their order ..; then, for the count and each whole record in turn ..; then 3 if whole bytes
 // remain; then 8."
 pub fn read(card: &[u8]) -> HistoryReading {
-    let n = field(card, NEW_BITS, card::N_BITS);
-    let old = card::read_old_bits(card, NEW_BITS);
-    let p = old.problem;
+    let n = field(card, START_BITS, card::N_BITS);
+    let plain = card::read_plain_bits(card, START_BITS);
+    let p = plain.problem;
     let s = read_records(card, p);
-    let start = first(start_answer(card, n), old.answer);
+    let start = first(start_answer(card, n), plain.answer);
     let history = s.history;
     HistoryReading {
         answer: first(first(start, s.answer), end_answer(card, s.at)),
@@ -271,19 +272,19 @@ pub fn read(card: &[u8]) -> HistoryReading {
 }
 
 // Whether a card begins with "six bits 63".
-pub fn is_new(card: &[u8]) -> bool {
-    field(card, 0, NEW_BITS) == NEW
+pub fn is_history_card(card: &[u8]) -> bool {
+    field(card, 0, START_BITS) == START
 }
 
 // A card of either kind: "Old cards still open."
 pub fn open(card: &[u8]) -> HistoryReading {
-    if is_new(card) {
+    if is_history_card(card) {
         return read(card);
     }
-    let old = card::read(card);
-    let p = old.problem;
+    let plain = card::read(card);
+    let p = plain.problem;
     HistoryReading {
-        answer: old.answer,
+        answer: plain.answer,
         problem: p,
         history: history::empty(),
     }

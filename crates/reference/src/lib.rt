@@ -10,7 +10,7 @@ pub mod families; // families.rt: instances of 32 vertices
 pub mod fields; // fields.rt: bits of a card, and fields of several bits
 pub mod group; // group.rt: group presses, one feeder and a set of fed positions
 pub mod history; // history.rt: recorded presses, and what is restored by taking them back
-pub mod history_card; // history_card.rt: new cards, with recorded presses, bit by bit
+pub mod history_card; // history_card.rt: history cards, bit by bit
 pub mod history_sample; // history_sample.rt: random recorded presses, sound and bad
 pub mod log; // log.rt: the log of document 01, "The book for demand 3"
 pub mod moves; // moves.rt: cards moved from one kind to the other

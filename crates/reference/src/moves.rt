@@ -14,8 +14,8 @@ pub struct Moved {
     pub card: Card,
 }
 
-// Old to new. To the old card's own rules a new card has a bad number of positions, 63.
-pub fn to_new(card: &[u8]) -> Moved {
+// Plain to history. By the plain card's own rules a history card has a bad number of positions, 63.
+pub fn to_history(card: &[u8]) -> Moved {
     let r = card::read(card);
     let p = r.problem;
     Moved {
@@ -24,8 +24,8 @@ pub fn to_new(card: &[u8]) -> Moved {
     }
 }
 
-// New to old.
-pub fn to_old(card: &[u8]) -> Moved {
+// History to plain.
+pub fn to_plain(card: &[u8]) -> Moved {
     let r = history_card::read(card);
     let p = r.problem;
     let h = r.history;

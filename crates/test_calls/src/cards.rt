@@ -1,6 +1,6 @@
 // Random and damaged cards of all lengths against the reference's reading: every refusal from 1 to 8 but 6, which is
-// retired, and cards that open, written back. They are old cards; where a change makes a new one of them (02, A8), it
-// is read as that.
+// retired, and cards that open, written back. They are plain cards; where a change makes a history card of one
+// (02, A8), it is read as that.
 use board::Answered;
 use harness::calls;
 use harness::histories;
@@ -125,7 +125,7 @@ fn noise(seed: Random, length: u32) -> Card {
     c
 }
 
-// A length that no old card has which opens.
+// A length that no plain card has which opens.
 const NOISE: u32 = 2700;
 
 // Noise of every length below that.

@@ -1,5 +1,6 @@
 // Random lists of calls on boards opened from cards, with looks and writes between, against the log: every answer, what
-// a look shows, and the bytes of a written card, an old one and a new one. Half of the cards have records (02, A8).
+// a look shows, and the bytes of a written card, a plain one and a history card. The last of them begin on cards with
+// records (02, A8).
 use harness::boards;
 use harness::calls;
 use harness::replies;
@@ -208,13 +209,17 @@ fn unwound(start: Progress) -> Progress {
     p
 }
 
-// Half of the cards have records, some of them 200.
+// So many lists begin on a plain card, and as many as follow on a card with records, some with 200.
+const PLAIN: u32 = 3500;
+
+const RECORDED: u32 = 1000;
+
 fn nth_session(k: u32) -> Session {
     let card = sample::small_instance(k);
-    if k % 2 == 0 {
+    if k < PLAIN {
         return session::opened(card);
     }
-    let count = history_sample::nth_count(k / 2, random::seeded(k));
+    let count = history_sample::nth_count(k / 6, random::seeded(k));
     session::opened_with(
         card,
         history_sample::some_history(card, count, k % 4096 * 256),
@@ -255,8 +260,8 @@ fn run(count: u32) -> Tally {
 
 pub fn all() {
     tally::report(
-        run(3500),
-        b"lists\ncalls\ngroup presses\nof these accepted\nlooks\nwrites\nwrites as new cards\n\
+        run(PLAIN + RECORDED),
+        b"lists\ncalls\ngroup presses\nof these accepted\nlooks\nwrites\nwrites as history cards\n\
         records on the cards\nof these taken back\n\
         answer 0:\nanswer 1:\nanswer 2:\nanswer 3:\nanswer 4:\nanswer 5:\nanswer 6:\n\
         answer 7:\nanswer 8:\nanswer 9:\nanswer 10:\nanswer 11:\nanswer 12:\nanswer 13:\n",

@@ -1,4 +1,4 @@
-// A list of 300 calls, looks and writes handed to the planner whole, with an old card or one with records, against the
+// A list of 300 calls, looks and writes handed to the planner whole, with a plain card or one with records, against the
 // log; and what is refused before anything is touched.
 use harness::buffers;
 use harness::calls;
@@ -203,25 +203,37 @@ fn tried(tally: Tally, c: Card, p: Problem, h: History, list: Calls, at: u32) ->
     tried_refused(tried_short(u, c, list, p.n), c, list, p.n)
 }
 
-// A list that takes back much from a card with records; the same card without them has to be reported, where there are
-// more records than it has calls that press, or it takes back more than it pressed.
+// Whether a list takes back a record of the card.
+fn reaches_record(list: Calls, p: Problem, h: History) -> bool {
+    let end = read(list, [0; CALLS], p, h);
+    let log = end.log;
+    let below = log.below;
+    below.count != h.count
+}
+
+// A list that takes back much from a card with records. Where it takes back one of them, the same card without its
+// records has to be reported: that take-back, if nothing before it, has another answer.
 fn tried_records(tally: Tally, p: Problem, h: History, g: Random) -> Tally {
     let c = history_card::build(p, h);
     let list = some_list(g, p, 11);
     let t = tally::with(tally, RECORDS, h.count);
     let u = tried(t, c, p, h, list, random::below(g, CALLS as u32));
-    if h.count == 0 {
+    if !reaches_record(list, p, h) {
         return u;
     }
     let bare = replays::replay(card::build(p), list, replays::whole());
     tally::planted(u, !is_right(bare, list, p, h))
 }
 
-// Every second card has records, some of them 200.
+// So many lists are for a plain card, and as many as follow for a card with records, some with 200.
+const PLAIN: u32 = 105;
+
+const RECORDED: u32 = 48;
+
 fn tried_nth(tally: Tally, k: u32) -> Tally {
     let p = sample::small_instance(k);
     let g = random::seeded(k);
-    if k % 2 == 0 {
+    if k < PLAIN {
         let list = some_list(g, p, 4);
         return tried(
             tally,
@@ -232,7 +244,7 @@ fn tried_nth(tally: Tally, k: u32) -> Tally {
             random::below(g, CALLS as u32),
         );
     }
-    let count = history_sample::nth_count(k / 2, g);
+    let count = history_sample::nth_count(k / 6, g);
     tried_records(
         tally,
         p,
@@ -251,7 +263,7 @@ fn run(count: u32) -> Tally {
 
 pub fn all() {
     tally::report(
-        run(105),
+        run(PLAIN + RECORDED),
         b"lists of 300 handed over\nrefused\nrecords on the cards\n",
     );
 }

@@ -50,7 +50,7 @@ pub fn after_opening(line: Line, s: Session) -> Session {
     session::opened_on(c)
 }
 
-// "records: 252 16 0 0 0 0 0": the new card of what the log says has these bytes, and the board is written so.
+// "records: 252 16 0 0 0 0 0": the history card of what the log says has these bytes, and the board is written so.
 pub fn records_right(line: Line, s: Session) -> bool {
     let log = s.log;
     let c = history_card::build(session::problem_now(s), log::records_now(log));
@@ -64,19 +64,19 @@ pub fn records_right(line: Line, s: Session) -> bool {
     session::history_write_right(s)
 }
 
-fn due_for(c: Card, to_new: bool) -> Moved {
+fn due_for(c: Card, to_history: bool) -> Moved {
     let bytes = c.bytes;
-    if to_new {
-        return moves::to_new(access::front(&bytes, c.length));
+    if to_history {
+        return moves::to_history(access::front(&bytes, c.length));
     }
-    moves::to_old(access::front(&bytes, c.length))
+    moves::to_plain(access::front(&bytes, c.length))
 }
 
-fn moved(c: Card, to_new: bool) -> CardOut {
-    if to_new {
-        return history_calls::to_new_with(c, CARD_ROOM as u32);
+fn moved(c: Card, to_history: bool) -> CardOut {
+    if to_history {
+        return history_calls::to_history_with(c, CARD_ROOM as u32);
     }
-    history_calls::to_old_with(c, CARD_ROOM as u32)
+    history_calls::to_plain_with(c, CARD_ROOM as u32)
 }
 
 // Whether the line expects the answer 0 and then the bytes of that card.
@@ -90,13 +90,13 @@ fn expects_card(line: Line, c: Card) -> bool {
     script::expects_bytes(rest, &bytes)
 }
 
-// "New from 8 0 0 0 80 0 5 0: 0 252 32 0 0 1 64 0 20 0", "Earlier from 8 0 0 0: 1": a card of these bytes moved old to
-// new, or new to old; the answer, and where it is 0 the bytes of the other card.
-pub fn move_right(line: Line, to_new: bool) -> bool {
+// "History card from 8 0 0 0 80 0 5 0: 0 252 32 0 0 1 64 0 20 0", "Plain card from 8 0 0 0: 1": a card of these bytes
+// moved to the kind that is named; the answer, and where it is 0 the bytes of the other card.
+pub fn move_right(line: Line, to_history: bool) -> bool {
     let c = card_of(line);
     let answer = script::expected(line, 1);
-    let due = due_for(c, to_new);
-    let w = moved(c, to_new);
+    let due = due_for(c, to_history);
+    let w = moved(c, to_history);
     if due.answer != answer || w.answer != answer {
         return false;
     }

@@ -69,8 +69,8 @@ fn is_right(line: Line, s: Session) -> bool {
         b'a' => buffer_lines::plan_right(line, s),
         b'C' => history_lines::opening_right(line),
         b'r' => history_lines::records_right(line, s),
-        b'N' => history_lines::move_right(line, true),
-        b'E' => history_lines::move_right(line, false),
+        b'H' => history_lines::move_right(line, true),
+        b'P' => history_lines::move_right(line, false),
         _ => !line.expects,
     }
 }

@@ -131,7 +131,7 @@ fn end_of(n: u32, h: History) -> u32 {
 // A sound card: cut it runs past the end, with a byte more it is too long.
 fn tried_sound(tally: Tally, p: Problem, k: u32) -> Tally {
     let s = samples::with_records(p, access::plus(k % 7, 1), k);
-    let c = samples::new_card(s);
+    let c = samples::recorded_card(s);
     let t = tried(tally, SOUND, c, 0);
     let u = tried(t, PAST_THE_END, changed::cut(c), BAD_LENGTH);
     let v = tried(u, PAST_THE_END, changed::with_byte(c, 0), BAD_LENGTH);

@@ -1,4 +1,4 @@
-// New cards damaged in every way, against the reference's reading: small ones at every length and with each bit
+// History cards damaged in every way, against the reference's reading: small ones at every length and with each bit
 // changed, others with bytes appended, bits changed, cut, or with noise from some place on. The old console refuses
 // each of them.
 use crate::changed;
@@ -30,11 +30,15 @@ const ANSWERS: u32 = 5;
 // "An old console refuses every new card by 2", and what is under 5 bytes by 1.
 fn tried_old_console(tally: Tally, c: Card) -> Tally {
     let bytes = c.bytes;
-    if !history_card::is_new(access::front(&bytes, c.length)) {
+    if !history_card::is_history_card(access::front(&bytes, c.length)) {
         return tally;
     }
     let due = if c.length < 5 { CARD_SHORT } else { BAD_COUNT };
-    tally::checked(tally, OLD_CONSOLE, history_calls::old_answer(c) == due)
+    tally::checked(
+        tally,
+        OLD_CONSOLE,
+        history_calls::old_console_answer(c) == due,
+    )
 }
 
 // What opening gave with another answer; and where it opened, with another budget, or another latest record.
@@ -80,7 +84,7 @@ fn tried_bits(tally: Tally, c: Card) -> Tally {
 }
 
 fn tried_small(tally: Tally, k: u32) -> Tally {
-    let c = samples::new_card(samples::nth_small(k));
+    let c = samples::recorded_card(samples::nth_small(k));
     tried_bits(tried_lengths(tally, c), c)
 }
 
@@ -109,7 +113,7 @@ fn tried_damaged(tally: Tally, c: Card, g: Random) -> Tally {
 fn run_any(tally: Tally, count: u32) -> Tally {
     let mut t = tally;
     for k in 0..count {
-        let c = samples::new_card(samples::nth(k));
+        let c = samples::recorded_card(samples::nth(k));
         t = tried_damaged(t, c, random::seeded(k));
     }
     t
@@ -142,7 +146,7 @@ pub fn all() {
     let t = run_small(tally::zero(), 60);
     tally::report(
         run_noise(run_any(t, 640), 700),
-        b"cards\nnew cards shown to the old console\nanswer 0:\nanswer 1:\nanswer 2:\nanswer 3:\nanswer 4:\nanswer 5:\n\
+        b"cards\nhistory cards shown to the old console\nanswer 0:\nanswer 1:\nanswer 2:\nanswer 3:\nanswer 4:\nanswer 5:\n\
         answer 6:\nanswer 7:\nanswer 8:\nanswer 27:\nanother answer:\n",
     );
 }

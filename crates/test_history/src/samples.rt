@@ -43,12 +43,12 @@ pub fn with_records(p: Problem, count: u32, k: u32) -> Sample {
     }
 }
 
-pub fn new_card(s: Sample) -> Card {
+pub fn recorded_card(s: Sample) -> Card {
     let p = s.problem;
     let h = s.history;
     history_card::build(p, h)
 }
 
-pub fn old_card(s: Sample) -> Card {
+pub fn plain_card(s: Sample) -> Card {
     card::build(s.problem)
 }

@@ -1,4 +1,4 @@
-// Boards with records of every kind: written as new cards they have the reference's bytes, and opened again they are
+// Boards with records of every kind: written as history cards they have the reference's bytes, and opened again they are
 // the same, records too. A damaged board is 15, then a short buffer 14.
 use crate::compared;
 use crate::samples;
@@ -32,7 +32,7 @@ const OPENED: u32 = 5;
 
 const WRITTEN_AGAIN: u32 = 6;
 
-const OLD_CARDS: u32 = 7;
+const PLAIN_CARDS: u32 = 7;
 
 const SHORT: u32 = 8;
 
@@ -58,7 +58,7 @@ fn tried_rooms(tally: Tally, b: Board, c: Card) -> Tally {
     compared::planted_written(v, short, BUFFER_SHORT, c, less)
 }
 
-// The card opened: the same board; and written again from there, as a new card and as an old one.
+// The card opened: the same board; and written again from there, as a history card and as a plain one.
 fn tried_opened(tally: Tally, c: Card, p: Problem, h: History) -> Tally {
     let o = calls::open(c);
     let b = o.board;
@@ -67,7 +67,7 @@ fn tried_opened(tally: Tally, c: Card, p: Problem, h: History) -> Tally {
     let u = tally::checked(t, WRITTEN_AGAIN, compared::written_right(again, 0, c));
     tally::checked(
         u,
-        OLD_CARDS,
+        PLAIN_CARDS,
         session::is_written(calls::write(b), reference::card::build(p)),
     )
 }
@@ -166,7 +166,7 @@ fn run(count: u32) -> Tally {
 pub fn all() {
     tally::report(
         run(640),
-        b"boards written\nrecords\nopened\nwritten again\nwritten as old cards\nbuffers too short\n\
+        b"boards written\nrecords\nopened\nwritten again\nwritten as plain cards\nbuffers too short\n\
         buffers just long enough\nchanged boards\ndamaged boards\n",
     );
 }

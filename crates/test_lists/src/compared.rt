@@ -157,7 +157,7 @@ pub fn compared(tally: Tally, a: ListAnswered, due: Due) -> Tally {
     planted_there(v, a, due)
 }
 
-// The last board of a list written, as an old card and as a new one with its records; and with another budget, which
+// The last board of a list written, as a plain card and as a history card; and with another budget, which
 // has to be reported.
 pub fn written(tally: Tally, which: u32, s: Session) -> Tally {
     let mut wrong = s;

@@ -163,10 +163,14 @@ fn nth_style(k: u32) -> Style {
     }
 }
 
-// Half of the cards have records (02, A8), some of them 200.
+// So many lists begin on a plain card, and as many as follow on a card with records (02, A8), some with 200.
+const PLAIN: u32 = 96;
+
+const RECORDED: u32 = 48;
+
 fn nth_session(k: u32) -> Session {
     let card = nth_card(k);
-    if k / 2 % 2 == 0 {
+    if k < PLAIN {
         return session::opened(card);
     }
     let count = history_sample::nth_count(k / 4, random::seeded(k));
@@ -204,7 +208,7 @@ fn run(count: u32) -> Tally {
 
 pub fn all() {
     tally::report(
-        run(96),
+        run(PLAIN + RECORDED),
         b"pieces\npresses applied\nof these take-backs\nof these groups\npresses refused\n\
         answer 0:\nanswer 9:\nanswer 10:\nanswer 11:\nanswer 12:\nanswer 13:\nanother answer:\n\
         lists\nof these handed over to the end\nempty pieces\nwhole lists\nof these applied\nlooks\n\
