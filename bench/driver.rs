@@ -16,6 +16,8 @@ const DRAWN: u64 = 1_000_000;
 
 const CARD: &str = "target/bench/card";
 
+const RECORDS: usize = 200;
+
 struct Random(u64);
 
 impl Random {
@@ -52,23 +54,51 @@ impl Instance {
         self
     }
 
-    fn card(&self) -> Vec<u8> {
-        let mut bits: Vec<bool> = Vec::new();
-        let mut put = |v: u32, width: u32| (0..width).rev().for_each(|k| bits.push(v >> k & 1 == 1));
-        put(self.n as u32, 6);
-        put(self.root as u32, 5);
-        put(self.budget, 25);
+    fn put_sheet(&self, bits: &mut Vec<bool>) {
+        put(bits, self.n as u32, 6);
+        put(bits, self.root as u32, 5);
+        put(bits, self.budget, 25);
         for t in 0..self.n {
             for h in 0..self.n {
                 if t != h && h != self.root {
-                    put(self.weight[t * self.n + h], 20);
-                    put(self.mark[t * self.n + h], 2);
+                    put(bits, self.weight[t * self.n + h], 20);
+                    put(bits, self.mark[t * self.n + h], 2);
                 }
             }
         }
-        bits.resize((bits.len() + 7) / 8 * 8, false);
-        bits.chunks(8).map(|c| c.iter().fold(0, |v, &b| v << 1 | u8::from(b))).collect()
     }
+
+    fn card(&self) -> Vec<u8> {
+        let mut bits = Vec::new();
+        self.put_sheet(&mut bits);
+        packed(bits)
+    }
+
+    // With as many records as there can be, each as long as it can be: group presses on all links of the root. Every
+    // pair must be a link.
+    fn history_card(&self) -> Vec<u8> {
+        let mut bits = Vec::new();
+        put(&mut bits, 63, 6);
+        self.put_sheet(&mut bits);
+        put(&mut bits, RECORDS as u32, 8);
+        let members = ((1u64 << self.n) - 1) as u32 & !(1 << self.root);
+        for k in 0..RECORDS {
+            put(&mut bits, 2, 2);
+            put(&mut bits, self.root as u32, 5);
+            put(&mut bits, members, 32);
+            (1..self.n).for_each(|h| put(&mut bits, ((h + k) % 3) as u32, 2));
+        }
+        packed(bits)
+    }
+}
+
+fn put(bits: &mut Vec<bool>, v: u32, width: u32) {
+    (0..width).rev().for_each(|k| bits.push(v >> k & 1 == 1));
+}
+
+fn packed(mut bits: Vec<bool>) -> Vec<u8> {
+    bits.resize((bits.len() + 7) / 8 * 8, false);
+    bits.chunks(8).map(|c| c.iter().fold(0, |v, &b| v << 1 | u8::from(b))).collect()
 }
 
 fn dense(r: &mut Random, n: usize) -> Instance {
@@ -183,7 +213,7 @@ fn count(program: &str, card: &str) -> (u64, u64) {
         }
         after_calls = false;
     }
-    assert!(plannings > 0 && instructions > 0, "callgrind names no plan_matrix, or no main");
+    assert!(instructions > 0, "callgrind names no main");
     (plannings, instructions)
 }
 
@@ -249,6 +279,7 @@ fn row(ours: &str, base: &str, deep: bool, instances: &[Instance; 5]) -> String 
         b += q / 5.0;
         if deep {
             let (calls, all) = count(ours, CARD);
+            assert!(calls > 0, "callgrind names no plan_matrix");
             plannings = plannings.max(calls);
             instructions += all / 5;
             stack = stack.max(peak_stack(ours, CARD));
@@ -256,6 +287,52 @@ fn row(ours: &str, base: &str, deep: bool, instances: &[Instance; 5]) -> String 
     }
     let line = format!("{a:>12.2} {b:>14.2} {:>6.2}", b / a);
     if deep { format!("{line} {plannings:>10} {stack:>12} {instructions:>13}") } else { line }
+}
+
+// The longest card of each kind with a fault at its very end, so that all of it is read and nothing is planned: a
+// filling bit of 1 on a plain card, a byte too many behind a history card. From times and instructions those of a
+// process that is handed no byte are taken off. Under valgrind also the deepest stack of nested cycles on both kinds.
+fn opening(ours: &str, deep: bool, r: &mut Random) {
+    let s = dense(r, 32);
+    let (mut plain, mut history) = (s.card(), s.history_card());
+    *plain.last_mut().unwrap() |= 1;
+    history.push(0);
+    let cards =
+        [("no byte", "refused 1\n", vec![]), ("plain", "refused 8\n", plain), ("history", "refused 3\n", history)];
+    let file = |k: usize| format!("{CARD}{k}");
+    for (k, (_, refusal, card)) in cards.iter().enumerate() {
+        fs::write(file(k), card).unwrap();
+        assert_eq!(run(ours, &file(k)), *refusal);
+    }
+    let mut least = [f64::MAX; 3];
+    for _ in 0..300 {
+        (0..3).for_each(|k| least[k] = least[k].min(time(ours, &file(k))));
+    }
+    let more = if deep { "  instructions  stack bytes" } else { "" };
+    println!("opening  bytes  print_plan ms{more}");
+    let start = if deep { count(ours, &file(0)).1 } else { 0 };
+    let mut instructions = [0; 3];
+    for (k, (name, _, card)) in cards.iter().enumerate().skip(1) {
+        print!("{name:<8} {:>5} {:>14.3}", card.len(), least[k] - least[0]);
+        if deep {
+            instructions[k] = count(ours, &file(k)).1 - start;
+            print!(" {:>13} {:>12}", instructions[k], peak_stack(ours, &file(k)));
+        }
+        println!();
+    }
+    print!("ratio {:>23.1}", (least[2] - least[0]) / (least[1] - least[0]));
+    if !deep {
+        return println!();
+    }
+    let ratio = instructions[2] as f64 / instructions[1] as f64;
+    println!(" {ratio:>13.2}");
+    assert!(ratio <= 10.0, "a history card takes too long to open");
+    let deepest = nested(r, 32);
+    for (name, card) in [("plain", deepest.card()), ("history", deepest.history_card())] {
+        fs::write(CARD, card).unwrap();
+        assert!(run(ours, CARD).lines().nth(1).is_some_and(|l| l.starts_with("plan ")));
+        println!("nested cycles, {name:<8} {:>32}", peak_stack(ours, CARD));
+    }
 }
 
 fn main() {
@@ -292,4 +369,6 @@ fn main() {
             }
         }
     }
+    // last, so that every row above keeps its cards
+    opening(ours, deep, &mut random);
 }

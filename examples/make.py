@@ -11,16 +11,47 @@ FREE, PINNED, BANNED = 0, 1, 2
 Q = {(0, 1): 10, (0, 2): 10, (0, 3): 8, (1, 2): 1, (1, 3): 4, (2, 1): 2, (2, 3): 9, (3, 1): 7}
 
 
-def card(n, root, budget, weights, marks={}):
-    """The rig card: weights (prices) and marks by (tail, head), or (feeder, fed); a pair without a weight is no arc."""
+def sheet(n, root, budget, weights, marks):
+    """The bits of a plain card: weights (prices) and marks by (tail, head), or (feeder, fed); a pair without a weight
+    is no arc."""
     bits = f"{n:06b}{root:05b}{budget:025b}"
     for tail in range(n):
         for head in range(n):
             if tail != head and head != root:
                 arc = (tail, head)
                 bits += f"{weights.get(arc, NO_ARC):020b}{marks.get(arc, FREE):02b}"
+    return bits
+
+
+def packed(bits):
     bits += "0" * (-len(bits) % 8)
     return bytes(int(bits[i : i + 8], 2) for i in range(0, len(bits), 8))
+
+
+def card(n, root, budget, weights, marks={}):
+    """The plain card."""
+    return packed(sheet(n, root, budget, weights, marks))
+
+
+def link(tail, head, mark):
+    """The record of a press on one link, with the mark that it replaced."""
+    return f"00{tail:05b}{head:05b}{mark:02b}"
+
+
+def old_budget(budget):
+    """The record of a budget press, with the budget that it replaced."""
+    return f"01{budget:025b}"
+
+
+def group(tail, marks):
+    """The record of a group press, with the marks that it replaced, by fed position."""
+    heads = sum(1 << head for head in marks)
+    return f"10{tail:05b}{heads:032b}" + "".join(f"{marks[head]:02b}" for head in sorted(marks))
+
+
+def history_card(n, root, budget, weights, marks, records):
+    """The history card: the records oldest first."""
+    return packed(f"{63:06b}" + sheet(n, root, budget, weights, marks) + f"{len(records):08b}" + "".join(records))
 
 
 def hall():
@@ -72,4 +103,9 @@ write("p9", card(2, 0, 5, {(0, 1): 5}))
 write("p10", card(2, 0, 4, {(0, 1): 5}))
 write("hall", card(32, 0, 28500, hall(), {(8, 27): PINNED, (18, 20): BANNED}))
 write("heads", card(8, 0, 5210000, heads()))
-write("dearest", card(32, 0, MAX_BUDGET, {(tail, head): MAX_WEIGHT for tail in range(32) for head in range(32)}))
+dearest = {(tail, head): MAX_WEIGHT for tail in range(32) for head in range(32)}
+write("dearest", card(32, 0, MAX_BUDGET, dearest))
+presses = [link(2, 1, FREE), old_budget(20), group(0, {1: FREE, 3: FREE})]
+write("presses", history_card(4, 0, 16, Q, {(2, 1): PINNED, (0, 1): BANNED, (0, 3): BANNED}, presses))
+presses = [group(0, dict.fromkeys(range(1, 32), mark)) for mark in (FREE, BANNED)] * 100
+write("longest", history_card(32, 0, MAX_BUDGET, dearest, {}, presses))

@@ -1,5 +1,5 @@
--- Bits put by a writer: within one call, one call after another, and whole bytes from the start, the last of them filled
--- with zeros. Assumes nothing.
+-- Bits put by a writer: within one call, one call after another, and whole bytes from the start, the last of them
+-- filled with zeros. Assumes nothing.
 use mathlib.Core.Path.{_≡_, refl, ap, _∙_, sym}
 use mathlib.Core.Bool.{true}
 use mathlib.Core.List.{List, [], _∷_, _++_, append-assoc, append-nil}

@@ -15,7 +15,8 @@ use Rattle.board.specs.declared.UndoRecord.{UndoRecord}
 use Rattle.board.specs.ModelOf.{model-of, blank-record}
 use Rattle.board.specs.Calls.{record-of}
 
--- of an old card: "A board opened from a card has that card's marks and budget and no recorded press."
+-- of a plain card (02, A8: an old card): "A board opened from a card has that card's marks and budget and no recorded
+-- press."
 unfoldable pub board-with : (n root budget : ℕ) → (weights marks : List ℕ) → Board
 board-with n r b ws ms =
     record { n = n; root = r; budget = b; weights = ws; marks = ms; records = replicate max-records blank-record; count = 0 }

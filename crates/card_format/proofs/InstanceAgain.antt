@@ -8,7 +8,7 @@ use Prim.Native.Nat.{ℕ, _+_, _*_, _-_, _/_, _%_, _^_, _≤_, _<_}
 use native.Mathlib.Omega.{arith}
 use native.Mathlib.Nat.{mod-eq-of-lt}
 use lib.Dec.{leb, eqb}
-use lib.ListN.{length, drop, length-append, length-replicate}
+use lib.ListN.{length, drop, length-append}
 use lib.Seq.{drop-at}
 use borrow.Author.Tests.{leb-true, eqb-true, le-ltb, lt-leb, eq-eqb, ne-eqb}
 use Rattle.base.specs.Lists.{tabulate}
@@ -16,9 +16,8 @@ use Rattle.base.proofs.BoolLaws.{and-left, and-right, test}
 use Rattle.base.proofs.BoundedLaws.{all-at}
 use Rattle.base.proofs.ListLaws.{getD-tabulate, tabulate-is}
 use Rattle.base.proofs.PartLaws.{all-of-replicate}
-use Rattle.bits.specs.Bits.{bits-of, bits-in, are-bits}
-use Rattle.bits.proofs.NumberLaws.{length-bits-of, are-bits-append, zeros-are-bits}
-use Rattle.bits.proofs.ByteLaws.{bits-in-packed}
+use Rattle.bits.specs.Bits.{bits-of, bits-in}
+use Rattle.bits.proofs.NumberLaws.{length-bits-of}
 use Rattle.bits.proofs.FieldLaws.{field-read}
 use Rattle.instance.specs.Limits.{max-vertices, max-weight, max-budget, no-arc, free, banned, cells}
 use Rattle.instance.specs.Instance.{Instance, instance-with, cell, weight-at, mark-at, weight, mark, can-be-arc}
@@ -30,7 +29,7 @@ use Rattle.card_format.specs.Widths.{n-width, root-width, budget-width, 
 use Rattle.card_format.specs.Card.{n-in, root-in, budget-in, on-card, bits-needed, bytes-needed, min-card, instance-in, cell-refusal, cells-refusal, header-refusal, card-refusal, header-bits, cell-bits, instance-bits, filling-bits, card-of}
 use Rattle.card_format.proofs.LengthLaws.{length-known, length-card-of}
 use Rattle.card_format.proofs.CellLaws.{ok-passes, no-cell-refused}
-use Rattle.card_format.proofs.WrittenBits.{length-header, length-instance-bits, instance-are-bits, fields-again, weight-found, mark-found}
+use Rattle.card_format.proofs.WrittenBits.{length-header, length-instance-bits, card-bits-in, fields-again, weight-found, mark-found}
 
 -- A VALID INSTANCE
 ok-fits : (w m : ℕ) → cell-ok w m ≡ true → (w < 2 ^ weight-width) × (m < 2 ^ mark-width)
@@ -71,18 +70,8 @@ by-fields s n r b ws ms en er eb ew em = rw (en, er, eb, ew, em)
 
 module _ (s : Instance) (k : Valid-known s) where
   -- THE BITS
-  bits-long : length (instance-bits s ++ filling-bits (s .n)) ≡ 8 * bytes-needed (s .n)
-  bits-long =
-      let w = length-known (s .n) (k .n-high) in
-      length-append (instance-bits s) (filling-bits (s .n))
-      ∙ omega (arith, length-instance-bits s (k .n-high) (k .root-low), length-replicate {A = ℕ} (8 * bytes-needed (s .n) - bits-needed (s .n)) 0, w .whole)
-
-  bits-are-bits : are-bits (instance-bits s ++ filling-bits (s .n)) ≡ true
-  bits-are-bits = are-bits-append (instance-bits s) (filling-bits (s .n)) (instance-are-bits s) (zeros-are-bits (8 * bytes-needed (s .n) - bits-needed (s .n)))
-
   bits-again : bits-in (card-of s) ≡ instance-bits s ++ filling-bits (s .n)
-  unfolding card-of
-  bits-again = bits-in-packed (bytes-needed (s .n)) (instance-bits s ++ filling-bits (s .n)) bits-long bits-are-bits
+  bits-again = card-bits-in s (k .n-high) (k .root-low)
 
   rest-bits : drop header-width (bits-in (card-of s)) ≡ cell-bits cells 0 s ++ filling-bits (s .n)
   unfolding instance-bits

@@ -23,6 +23,14 @@ length-known n h =
     let m : (n - 1) * (n - 1) ≤ 31 * 31 = mul-le-mul {n₂ = 31} {m₂ = 31} (omega arith) (omega arith) in
     record { header = omega arith; most = omega arith; whole = omega arith; nearly = omega arith }
 
+-- "36 + 22 times (n − 1) squared bits", at 32 positions
+abbrev pub most-bits : ℕ
+most-bits = 21178
+
+pub needed-most : (n : ℕ) → n ≤ max-vertices → bits-needed n ≤ most-bits
+unfolding bits-needed
+needed-most n h = let m : (n - 1) * (n - 1) ≤ 31 * 31 = mul-le-mul {n₂ = 31} {m₂ = 31} (omega arith) (omega arith) in omega arith
+
 pub longest-card : (n : ℕ) → n ≤ max-vertices → bytes-needed n ≤ max-card
 longest-card n h = let k = length-known n h in omega (arith, k .most, k .nearly)
 

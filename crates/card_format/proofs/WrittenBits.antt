@@ -6,22 +6,24 @@
 use mathlib.Core.Path.{_≡_, refl, ap, _∙_}
 use mathlib.Core.Bool.{Bool, true, false, cond}
 use mathlib.Core.List.{List, [], _∷_, _++_, append-assoc}
-use Prim.Native.Nat.{ℕ, zero, suc, _+_, _-_, _%_, _^_, _≤_, _<_}
+use Prim.Native.Nat.{ℕ, zero, suc, _+_, _*_, _-_, _%_, _^_, _≤_, _<_}
 use native.Mathlib.Omega.{arith}
 use native.Mathlib.Numerals.{add-one}
 use native.Mathlib.Nat.{add-zero}
-use lib.ListN.{length, getD, drop, length-append}
+use lib.ListN.{length, getD, drop, length-append, length-replicate}
 use lib.Seq.{drop-at}
 use Rattle.base.specs.Lists.{all-of, tabulate-from}
 use Rattle.base.proofs.ListLaws.{default}
-use Rattle.bits.specs.Bits.{bits-of, field, are-bits}
+use Rattle.bits.specs.Bits.{bits-of, bits-in, field, are-bits}
 use Rattle.bits.proofs.NumberLaws.{length-bits-of, bits-of-are-bits, are-bits-append, zeros-are-bits}
+use Rattle.bits.proofs.ByteLaws.{bits-in-packed}
 use Rattle.bits.proofs.FieldLaws.{field-read}
 use Rattle.instance.specs.Limits.{max-vertices, no-arc, cells}
 use Rattle.instance.specs.Instance.{Instance, instance-with, weight-at, mark-at}
 use Rattle.card_format.specs.Widths.{n-width, root-width, budget-width, header-width, weight-width, mark-width, cell-width}
-use Rattle.card_format.specs.Card.{on-card, bits-needed, cell-fields, header-bits, one-cell, cell-bits, instance-bits}
+use Rattle.card_format.specs.Card.{on-card, bits-needed, bytes-needed, cell-fields, header-bits, one-cell, cell-bits, instance-bits, filling-bits, card-of}
 use Rattle.card_format.specs.Offsets.{offset}
+use Rattle.card_format.proofs.LengthLaws.{length-known}
 use Rattle.card_format.proofs.OffsetLaws.{offset-start, offset-end}
 
 -- ONE CELL AFTER THE OTHER
@@ -107,6 +109,20 @@ pub instance-are-bits : (s : Instance) → are-bits (instance-bits s) ≡ true
 unfolding instance-bits
 instance-are-bits s =
     are-bits-append (header-bits (s .n) (s .root) (s .budget)) (cell-bits cells 0 s) (header-are-bits (s .n) (s .root) (s .budget)) (cells-are-bits cells 0 s)
+
+-- a card that was written has these bits, and zeros behind them
+module _ (s : Instance) (few : s .n ≤ max-vertices) (inside : s .root < s .n) where
+  bits-long : length (instance-bits s ++ filling-bits (s .n)) ≡ 8 * bytes-needed (s .n)
+  bits-long =
+      let w = length-known (s .n) few in
+      length-append (instance-bits s) (filling-bits (s .n))
+      ∙ omega (arith, length-instance-bits s few inside, length-replicate {A = ℕ} (8 * bytes-needed (s .n) - bits-needed (s .n)) 0, w .whole)
+
+  pub card-bits-in : bits-in (card-of s) ≡ instance-bits s ++ filling-bits (s .n)
+  unfolding card-of
+  card-bits-in =
+      bits-in-packed (bytes-needed (s .n)) (instance-bits s ++ filling-bits (s .n)) bits-long
+      (are-bits-append (instance-bits s) (filling-bits (s .n)) (instance-are-bits s) (zeros-are-bits (8 * bytes-needed (s .n) - bits-needed (s .n))))
 
 -- FIELDS OF CELLS
 -- a cell's two fields

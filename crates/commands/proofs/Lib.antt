@@ -6,6 +6,7 @@ pub mod ValidLaws
 pub mod AnsweredLaws
 pub mod NumberLaws
 pub mod ChangeLaws
+pub mod RestoredLaws
 pub mod EffectiveLaws
 pub mod LogLaws
 pub mod LogListsLaws

@@ -245,6 +245,13 @@ runs =
       marks = 0 ∷ 1 ∷ 0 ∷ 0 ∷ 0 ∷ 0 ∷ 2 ∷ 1 ∷ 0 ∷ 0 ∷ 0 ∷ 2 ∷ 0 ∷ 2 ∷ 0 ∷ 0 ∷ [];
       budget = 14;
     })
+    -- a record of 1→2 and 1→3, of which by now one is pinned and the other free: both get what the record says
+    ∷ record {
+      from = instance-q 16 (arc 1 2 1 ∷ []);
+      records = old-marks 1 12 (0 ∷ 0 ∷ 2 ∷ 1 ∷ []) ∷ [];
+      commands = undo ∷ undo ∷ [];
+      leaves = record { answers = 0 ∷ 13 ∷ []; marks = 0 ∷ 0 ∷ 0 ∷ 0 ∷ 0 ∷ 0 ∷ 2 ∷ 1 ∷ 0 ∷ 0 ∷ 0 ∷ 0 ∷ 0 ∷ 0 ∷ 0 ∷ 0 ∷ []; budget = 16 };
+    }
     -- "they count among the 200"
     ∷ record {
       from = instance-q 16 [];

@@ -32,7 +32,7 @@ pub record Noted : Type 0 where
   pub answer : ℕ
   pub log : Log
 
--- the list of entries is "empty at first"; below are the records that came on the card, none on an old one
+-- the list of entries is "empty at first"; below are the records that came on the card, none on a plain one
 unfoldable pub new-log : Instance → (below : List Replaced) → Log
 new-log s rs = record { card = s; below = rs; entries = [] }
 

@@ -20,7 +20,8 @@ pub record Model : Type 0 where
   pub instance : Instance
   pub history : List Replaced
 
--- of an old card (02, A8): "A board opened from a card has that card's marks and budget and no recorded press."
+-- of a plain card (02, A8: an old card): "A board opened from a card has that card's marks and budget and no recorded
+-- press."
 unfoldable pub opened : Instance → Model
 opened s = record { instance = s; history = [] }
 

@@ -1,13 +1,13 @@
 -- What demand 1 says of each call but the commands: its numbers, that every answer is one of them, what a refusal
 -- leaves as it was, and that what is accepted was asked of a valid board or of a card that opens. Assumes nothing.
 use mathlib.Core.Path.{_≡_, refl, sym, ap, _∙_, subst}
-use mathlib.Core.Bool.{Bool, true, false, cond}
+use mathlib.Core.Bool.{Bool, true, false, cond, true≢false}
 use mathlib.Core.List.{List, [], _∷_}
 use Prim.Native.Nat.{ℕ, zero, suc, _≤_}
 use native.Mathlib.Omega.{arith}
 use lib.Dec.{eqb}
 use lib.ListN.{length}
-use borrow.Author.Tests.{ne-eqb, eqb-true}
+use borrow.Author.Tests.{eqb-true}
 use Rattle.base.proofs.BoolLaws.{or-right}
 use Rattle.base.specs.Lists.{any-of}
 use Rattle.instance.specs.Refusals.{card-short, bad-count, bad-length, bad-root, bad-card-budget, bad-mark, bad-filling, buffer-short, invalid-board}
@@ -29,16 +29,20 @@ use Rattle.report_text.specs.Whole.{refused-text}
 use Rattle.report.specs.declared.Reported.{Reported}
 use Rattle.report.specs.Reports.{Reports-by}
 use Rattle.planner.specs.declared.View.{View}
-use Rattle.planner.specs.Opening.{answered-with, opened-from}
+use Rattle.history_format.specs.HistoryCard.{open-refusal, model-in}
+use Rattle.history_format.proofs.HistoryNumbers.{history-numbers, open-listed}
+use Rattle.planner.specs.Opening.{opened-from}
 use Rattle.planner.specs.Looking.{Buffers, answer-of, Looks-at}
 use Rattle.planner.specs.Checking.{check-answer}
 use Rattle.planner.specs.Replaying.{Call, Replays-at}
 use Rattle.planner.proofs.CallSteps.{shown-answer}
-use Rattle.planner.proofs.WritingLaws.{Write-case, refused-board, refused-buffer, stored}
-use Rattle.planner.proofs.OpeningLaws.{opened-answer}
+use Rattle.planner.proofs.WritingLaws.{Write-case, refused-board, refused-buffer, stored as stored-board}
+use Rattle.planner.proofs.OrderLaws.{Store-case, refused-by, no-room, stored}
+use Rattle.planner.proofs.OpeningLaws.{blank-by, opened-answer}
 
--- THE NUMBERS OF EACH CALL, 0 for accepted: "Cards: 1 to 5 in that order; then the first faulty cell ..; then 8." Of a
--- cell it is 7: "6 is retired" (02, A9).
+-- THE NUMBERS OF EACH CALL, 0 for accepted. An old card: "Cards: 1 to 5 in that order; then the first faulty cell ..;
+-- then 8." Of a cell it is 7: "6 is retired" (02, A9). A card of either kind may get 27 too: `history-numbers` (02,
+-- A8); a move to an old card 28: `to-plain-numbers`.
 abbrev pub card-numbers : List ℕ
 card-numbers = 0 ∷ card-short ∷ bad-count ∷ bad-length ∷ bad-root ∷ bad-card-budget ∷ bad-mark ∷ bad-filling ∷ []
 
@@ -78,9 +82,8 @@ card-among ws = card-listed (card-refusal ws) (card-refusal-most ws) (six-retire
 pub opened-as-before : (ws : List ℕ) (o : Answered) → o ≡ opened-from ws → (o .answer ≡ 0 → ⊥) → o .board ≡ blank
 unfolding opened-from
 opened-as-before ws o e n =
-    let z : card-refusal ws ≡ 0 → ⊥ = λ z. n (opened-answer ws o e ∙ z) in
-    let q : o ≡ answered-with (card-refusal ws) blank = e ∙ rw (ne-eqb (card-refusal ws) 0 z) in
-    ap (λ (x : Answered). x .board) q
+    let z : open-refusal ws ≡ 0 → ⊥ = λ z. n (opened-answer ws o e ∙ z) in
+    ap (λ (x : Answered). x .board) (e ∙ blank-by (open-refusal ws) (model-in ws) z)
 
 -- LOOKS
 module _ (s : Instance) (v : View) (old new : Buffers) where
@@ -107,17 +110,44 @@ module _ (b : Board) (r : Written) (out out′ : List ℕ) where
   unfolding any-of
   writes-among (refused-board e p q) = rw p
   writes-among (refused-buffer e l p q) = rw p
-  writes-among (stored e l p q) = rw p
+  writes-among (stored-board e l p q) = rw p
 
   pub writes-as-before : Write-case b out out′ r → (r .answer ≡ 0 → ⊥) → out′ ≡ out
   writes-as-before (refused-board e p q) n = q
   writes-as-before (refused-buffer e l p q) n = q
-  writes-as-before (stored e l p q) n = absurd (n (ap (λ (x : Written). x .answer) p))
+  writes-as-before (stored-board e l p q) n = absurd (n (ap (λ (x : Written). x .answer) p))
 
   pub writes-valid : Write-case b out out′ r → r .answer ≡ 0 → valid (model-of b) ≡ true
   writes-valid (refused-board e p q) z = absurd (omega (arith, sym z ∙ ap (λ (x : Written). x .answer) p))
   writes-valid (refused-buffer e l p q) z = e
-  writes-valid (stored e l p q) z = e
+  writes-valid (stored-board e l p q) z = e
+
+-- CARDS STORED: a board written with its records, and the moves
+module _ (k : ℕ) (card out out′ : List ℕ) (r : Written) where
+  pub stores-among : (ns : List ℕ) → among k ns ≡ true → among 0 ns ≡ true → among buffer-short ns ≡ true → Store-case k card out out′ r → among (r .answer) ns ≡ true
+  stores-among ns own none short (refused-by n p q) = rw (ap (λ (x : Written). x .answer) p) own
+  stores-among ns own none short (no-room z l p q) = rw (ap (λ (x : Written). x .answer) p) short
+  stores-among ns own none short (stored z l p q) = rw (ap (λ (x : Written). x .answer) p) none
+
+  pub stores-as-before : Store-case k card out out′ r → (r .answer ≡ 0 → ⊥) → out′ ≡ out
+  stores-as-before (refused-by n p q) a = q
+  stores-as-before (no-room z l p q) a = q
+  stores-as-before (stored z l p q) a = absurd (a (ap (λ (x : Written). x .answer) p))
+
+  pub stores-passed : Store-case k card out out′ r → r .answer ≡ 0 → k ≡ 0
+  stores-passed (refused-by n p q) a = absurd (n (sym (ap (λ (x : Written). x .answer) p) ∙ a))
+  stores-passed (no-room z l p q) a = z
+  stores-passed (stored z l p q) a = z
+
+-- a board that is refused by nothing is valid
+pub board-passed : (v : Bool) → cond v 0 invalid-board ≡ 0 → v ≡ true
+board-passed true e = refl
+board-passed false e = absurd (omega (arith, e))
+
+pub board-among : (v : Bool) → among (cond v 0 invalid-board) buffer-numbers ≡ true
+unfolding any-of
+board-among true = refl
+board-among false = refl
 
 -- CHECKS
 module _ (b : Board) (ps : List ℕ) (v k : ℕ) (ws : List ℕ) where
@@ -138,16 +168,21 @@ module _ (b : Board) (ps : List ℕ) (v k : ℕ) (ws : List ℕ) where
       by true e = refl
       by false e = absurd (omega (arith, e))
 
+-- no card is refused with 14
+not-fourteen : (ws : List ℕ) → open-refusal ws ≡ buffer-short → ⊥
+unfolding any-of history-numbers
+not-fourteen ws e = true≢false (sym (open-listed ws) ∙ ap (λ (a : ℕ). among a history-numbers) e)
+
 -- REPORTS, by whether the buffer is too short and the card opens
 module _ (ws : List ℕ) (r : Reported) (out out′ : List ℕ) where
   abbrev opens : Bool
-  opens = eqb (card-refusal ws) 0
+  opens = eqb (open-refusal ws) 0
 
-  pub reports-among : (t u : Bool) → Reports-by t u ws out out′ r → among (r .answer) (buffer-short ∷ card-numbers) ≡ true
-  unfolding Reports-by any-of
+  pub reports-among : (t u : Bool) → Reports-by t u ws out out′ r → among (r .answer) (buffer-short ∷ history-numbers) ≡ true
+  unfolding Reports-by any-of history-numbers
   reports-among true u x = rw (ap (λ (y : Reported). y .answer) (x .result))
   reports-among false false x =
-      rw (x .answer) (or-right (eqb (card-refusal ws) buffer-short) (among (card-refusal ws) card-numbers) (card-among ws))
+      rw (x .answer) (or-right (eqb (open-refusal ws) buffer-short) (among (open-refusal ws) history-numbers) (open-listed ws))
   reports-among false true x = rw (x .answer)
 
   pub reports-before : (t u : Bool) → Reports-by t u ws out out′ r → (r .answer ≡ 0 → ⊥) → Reports-before out out′ r
@@ -155,22 +190,22 @@ module _ (ws : List ℕ) (r : Reported) (out out′ : List ℕ) where
   reports-before true u x n = record { short = λ e. x .buffer; line = λ e. absurd (e (ap (λ (y : Reported). y .answer) (x .result))) }
   reports-before false false x n =
       record {
-        short = λ e. absurd (omega (arith, sym (x .answer) ∙ e, card-refusal-most ws));
+        short = λ e. absurd (not-fourteen ws (sym (x .answer) ∙ e));
         line = λ e. subst (λ (a : ℕ). Filled (refused-text a) out out′ (r .length)) (sym (x .answer)) (x .text);
       }
   reports-before false true x n = absurd (n (x .answer))
 
-  pub reports-opened : (t u : Bool) → opens ≡ u → Reports-by t u ws out out′ r → r .answer ≡ 0 → card-refusal ws ≡ 0
+  pub reports-opened : (t u : Bool) → opens ≡ u → Reports-by t u ws out out′ r → r .answer ≡ 0 → open-refusal ws ≡ 0
   unfolding Reports-by
   reports-opened true u q x e = absurd (omega (arith, sym e ∙ ap (λ (y : Reported). y .answer) (x .result)))
   reports-opened false false q x e = sym (x .answer) ∙ e
-  reports-opened false true q x e = eqb-true (card-refusal ws) 0 q
+  reports-opened false true q x e = eqb-true (open-refusal ws) 0 q
 
 -- REPLAYS
 module _ (cs : List Call) (k : Log) (v : View) (xs xs′ : List ℕ) (old new : Buffers) where
-  pub replays-among : (a : ℕ) (t : Bool) → among a card-numbers ≡ true → Replays-at a t cs k xs xs′ old new v → among (answer-of v) (buffer-short ∷ card-numbers) ≡ true
-  unfolding Replays-at any-of
-  replays-among (suc a) t l r = rw (ap answer-of (r .1 .result)) (or-right (eqb (suc a) buffer-short) (among (suc a) card-numbers) l)
+  pub replays-among : (a : ℕ) (t : Bool) → among a history-numbers ≡ true → Replays-at a t cs k xs xs′ old new v → among (answer-of v) (buffer-short ∷ history-numbers) ≡ true
+  unfolding Replays-at any-of history-numbers
+  replays-among (suc a) t l r = rw (ap answer-of (r .1 .result)) (or-right (eqb (suc a) buffer-short) (among (suc a) history-numbers) l)
   replays-among zero true l r = rw (ap answer-of (r .1 .result))
   replays-among zero false l r = rw (shown-answer _ v old new (r .1))
 

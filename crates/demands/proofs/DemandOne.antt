@@ -5,14 +5,17 @@
 -- line. (That every call ends, and that nothing is required of the caller, is what each function's own proof says.)
 -- Assumes nothing.
 use mathlib.Core.Path.{_≡_, refl, sym, ap, _∙_}
-use mathlib.Core.Bool.{true}
+use mathlib.Core.Bool.{true, cond}
 use mathlib.Core.List.{List, _∷_}
 use Prim.Native.Nat.{ℕ}
 use lib.Dec.{ltb, eqb}
 use lib.ListN.{length}
-use Rattle.instance.specs.Refusals.{buffer-short}
-use Rattle.card_format.specs.Card.{card-refusal}
+use Rattle.base.specs.Lists.{any-of}
+use Rattle.base.proofs.BoolLaws.{or-right}
+use Rattle.instance.specs.Refusals.{buffer-short, invalid-board}
+use Rattle.card_format.specs.Card.{card-refusal, instance-in, card-of}
 use Rattle.card.specs.declared.write.Written.{Written}
+use Rattle.commands.specs.Model.{opened}
 use Rattle.commands.specs.Valid.{valid}
 use Rattle.commands.specs.Commands.{Command, command-numbers}
 use Rattle.board.specs.ModelOf.{model-of, instance-of}
@@ -30,6 +33,8 @@ use Rattle.command_list.specs.CommandList.{ListResult, list-answered, list-numb
 use Rattle.command_list.proofs.AppliedLaws.{Singly, list-valid, list-accepted}
 use Rattle.command_list.proofs.ListNumberLaws.{list-listed}
 use Rattle.command_list.proofs.ListCalled.{List-called, list-called}
+use Rattle.history_format.specs.HistoryCard.{open-refusal, history-model, to-plain-refusal, history-card-of}
+use Rattle.history_format.proofs.HistoryNumbers.{history-numbers, to-plain-numbers, open-listed, to-plain-listed}
 use Rattle.report_text.specs.Whole.{max-text}
 use Rattle.report.specs.declared.Reported.{Reported}
 use Rattle.report.specs.Reports.{Reports}
@@ -37,10 +42,11 @@ use Rattle.report.proofs.Learnt.{Reported-by, reported-by}
 use Rattle.planner.specs.declared.View.{View}
 use Rattle.planner.specs.Looking.{Buffers, answer-of, short-for, Looks}
 use Rattle.planner.specs.Replaying.{Replays}
-use Rattle.planner.proofs.Learnt.{Opened-by, opened-by, Looked, looked, Wrote, wrote, Checked, checked, Replayed, replayed}
+use Rattle.planner.proofs.Learnt.{Opened-by, opened-by, Looked, looked, Wrote, wrote, Wrote-history, wrote-history, Moved-to-history, moved-to-history, Moved-to-plain, moved-to-plain, Checked, checked, Replayed, replayed}
 use Rattle.planner.proofs.WritingLaws.{write-cases}
+use Rattle.planner.proofs.OrderLaws.{history-write-cases, to-history-cases, to-plain-cases}
 use Rattle.planner.proofs.OpeningLaws.{opened-answer, opened-starts}
-use Rattle.demands.proofs.CallNumbers.{card-numbers, buffer-numbers, check-numbers, among, Reports-before, card-among, opened-as-before, looks-at-among, looks-at-as-before, looks-at-valid, writes-among, writes-as-before, writes-valid, check-among, check-valid, reports-among, reports-before, reports-opened, replays-among, replays-as-before, replays-opened}
+use Rattle.demands.proofs.CallNumbers.{card-numbers, buffer-numbers, check-numbers, among, Reports-before, card-among, opened-as-before, looks-at-among, looks-at-as-before, looks-at-valid, writes-among, writes-as-before, writes-valid, stores-among, stores-as-before, stores-passed, board-passed, board-among, check-among, check-valid, reports-among, reports-before, reports-opened, replays-among, replays-as-before, replays-opened}
 use Rattle.demands.proofs.Runs.{list-called-singly}
 
 -- AN ANSWER that some public call gave
@@ -50,20 +56,26 @@ pub data Given : ℕ → Type 0 where
   by-list : {ps ps′ : List Press} {b : Board} {r : ListAnswered} → List-called ps ps′ b r → Given (r .answer)
   by-looking : {b : Board} {v : View} {old new : Buffers} → Looked b old new v → Given (answer-of v)
   by-writing : {b : Board} {r : Written} {out out′ : List ℕ} → Wrote b out out′ r → Given (r .answer)
+  by-writing-history : {b : Board} {r : Written} {out out′ : List ℕ} → Wrote-history b out out′ r → Given (r .answer)
+  by-to-history : {ws out out′ : List ℕ} {r : Written} → Moved-to-history ws out out′ r → Given (r .answer)
+  by-to-plain : {ws out out′ : List ℕ} {r : Written} → Moved-to-plain ws out out′ r → Given (r .answer)
   by-checking : {b : Board} {ps ps′ : List ℕ} {v k : ℕ} {ws ws′ : List ℕ} {r : ℕ} → Checked b ps ps′ v k ws ws′ r → Given r
   by-reporting : {ws : List ℕ} {r : Reported} {out out′ : List ℕ} → Reported-by ws out out′ r → Given (r .answer)
   by-replaying : {ws ks fs gs : List ℕ} {v : View} {xs xs′ : List ℕ} {old new : Buffers} → Replayed ws ks fs gs xs xs′ old new v → Given (answer-of v)
 
 -- the numbers of each call
 abbrev pub numbers : {a : ℕ} → Given a → List ℕ
-numbers (by-opening p) = card-numbers
+numbers (by-opening p) = history-numbers
 numbers (by-command {c = c} p) = command-numbers c
 numbers (by-list {ps = ps} p) = list-numbers (commands-in ps)
 numbers (by-looking p) = buffer-numbers
 numbers (by-writing p) = buffer-numbers
+numbers (by-writing-history p) = buffer-numbers
+numbers (by-to-history p) = buffer-short ∷ card-numbers
+numbers (by-to-plain p) = buffer-short ∷ to-plain-numbers
 numbers (by-checking p) = check-numbers
-numbers (by-reporting p) = buffer-short ∷ card-numbers
-numbers (by-replaying p) = buffer-short ∷ card-numbers
+numbers (by-reporting p) = buffer-short ∷ history-numbers
+numbers (by-replaying p) = buffer-short ∷ history-numbers
 
 -- a list that was stopped: the applied ones, made singly, are all accepted and leave its board, which is valid if the
 -- first was; "What the earlier ones did stands; the rule on refusals speaks of the refused press alone" (02, A1)
@@ -79,20 +91,26 @@ As-before (by-command {b = b} {r = r} p) = r .board ≡ b
 As-before (by-list {ps = ps} {ps′ = ps′} {b = b} {r = r} p) = List-before ps ps′ b r
 As-before (by-looking {old = old} {new = new} p) = new ≡ old
 As-before (by-writing {out = out} {out′ = out′} p) = out′ ≡ out
+As-before (by-writing-history {out = out} {out′ = out′} p) = out′ ≡ out
+As-before (by-to-history {out = out} {out′ = out′} p) = out′ ≡ out
+As-before (by-to-plain {out = out} {out′ = out′} p) = out′ ≡ out
 As-before (by-checking {ps = ps} {ps′ = ps′} {ws = ws} {ws′ = ws′} p) = (ps′ ≡ ps) × (ws′ ≡ ws)
 As-before (by-reporting {r = r} {out = out} {out′ = out′} p) = Reports-before out out′ r
 As-before (by-replaying {xs = xs} {xs′ = xs′} {old = old} {new = new} p) = (xs′ ≡ xs) × (new ≡ old)
 
--- what an accepted call leaves, where it leaves a board: a valid one
+-- what an accepted call leaves or was asked of: a valid board, or a card that is not refused
 abbrev pub Leaves-valid : {a : ℕ} → Given a → Type 0
 Leaves-valid (by-opening {o = o} p) = valid (model-of (o .board)) ≡ true
 Leaves-valid (by-command {r = r} p) = valid (model-of (r .board)) ≡ true
 Leaves-valid (by-list {r = r} p) = valid (model-of (r .board)) ≡ true
 Leaves-valid (by-looking {b = b} p) = valid (model-of b) ≡ true
 Leaves-valid (by-writing {b = b} p) = valid (model-of b) ≡ true
+Leaves-valid (by-writing-history {b = b} p) = valid (model-of b) ≡ true
+Leaves-valid (by-to-history {ws = ws} p) = card-refusal ws ≡ 0
+Leaves-valid (by-to-plain {ws = ws} p) = to-plain-refusal ws ≡ 0
 Leaves-valid (by-checking {b = b} p) = valid (model-of b) ≡ true
-Leaves-valid (by-reporting {ws = ws} p) = card-refusal ws ≡ 0
-Leaves-valid (by-replaying {ws = ws} p) = card-refusal ws ≡ 0
+Leaves-valid (by-reporting {ws = ws} p) = open-refusal ws ≡ 0
+Leaves-valid (by-replaying {ws = ws} p) = open-refusal ws ≡ 0
 
 pub record Demand-1 {a : ℕ} (g : Given a) : Type 0 where
   pub own-number : among a (numbers g) ≡ true
@@ -101,11 +119,11 @@ pub record Demand-1 {a : ℕ} (g : Given a) : Type 0 where
 
 -- THE DEMAND
 pub demand-1 : {a : ℕ} (g : Given a) → Demand-1 g
-unfolding Looks Reports Replays
+unfolding Looks Reports Replays any-of history-numbers to-plain-numbers
 demand-1 (by-opening {ws = ws} {o = o} p) =
     let e = opened-answer ws o (opened-by p) in
     record {
-      own-number = rw e (card-among ws);
+      own-number = rw e (open-listed ws);
       as-before = opened-as-before ws o (opened-by p);
       leaves-valid = λ z. opened-starts ws o (opened-by p) (sym e ∙ z) .good;
     }
@@ -144,6 +162,33 @@ demand-1 (by-writing {b = b} {r = r} {out = out} {out′ = out′} p) =
       as-before = writes-as-before b r out out′ w;
       leaves-valid = writes-valid b r out out′ w;
     }
+demand-1 (by-writing-history {b = b} {r = r} {out = out} {out′ = out′} p) =
+    let k = cond (valid (model-of b)) 0 invalid-board in
+    let card = history-card-of (model-of b) in
+    let w = history-write-cases b r out out′ (wrote-history p) in
+    record {
+      own-number = stores-among k card out out′ r buffer-numbers (board-among (valid (model-of b))) refl refl w;
+      as-before = stores-as-before k card out out′ r w;
+      leaves-valid = λ z. board-passed (valid (model-of b)) (stores-passed k card out out′ r w z);
+    }
+demand-1 (by-to-history {ws = ws} {out = out} {out′ = out′} {r = r} p) =
+    let k = card-refusal ws in
+    let card = history-card-of (opened (instance-in ws)) in
+    let w = to-history-cases ws out out′ r (moved-to-history p) in
+    record {
+      own-number = stores-among k card out out′ r (buffer-short ∷ card-numbers) (or-right (eqb k buffer-short) (among k card-numbers) (card-among ws)) refl refl w;
+      as-before = stores-as-before k card out out′ r w;
+      leaves-valid = stores-passed k card out out′ r w;
+    }
+demand-1 (by-to-plain {ws = ws} {out = out} {out′ = out′} {r = r} p) =
+    let k = to-plain-refusal ws in
+    let card = card-of (history-model ws .instance) in
+    let w = to-plain-cases ws out out′ r (moved-to-plain p) in
+    record {
+      own-number = stores-among k card out out′ r (buffer-short ∷ to-plain-numbers) (or-right (eqb k buffer-short) (among k to-plain-numbers) (to-plain-listed ws)) refl refl w;
+      as-before = stores-as-before k card out out′ r w;
+      leaves-valid = stores-passed k card out out′ r w;
+    }
 demand-1 (by-checking {b = b} {ps = ps} {v = v} {k = k} {ws = ws} p) =
     let c = checked p in
     record {
@@ -154,7 +199,7 @@ demand-1 (by-checking {b = b} {ps = ps} {v = v} {k = k} {ws = ws} p) =
 demand-1 (by-reporting {ws = ws} {r = r} {out = out} {out′ = out′} p) =
     let x = reported-by p in
     let t = ltb (length out) max-text in
-    let u = eqb (card-refusal ws) 0 in
+    let u = eqb (open-refusal ws) 0 in
     record {
       own-number = reports-among ws r out out′ t u x;
       as-before = reports-before ws r out out′ t u x;
@@ -163,7 +208,7 @@ demand-1 (by-reporting {ws = ws} {r = r} {out = out} {out′ = out′} p) =
 demand-1 (by-replaying {ws = ws} {v = v} {xs = xs} {xs′ = xs′} {old = old} {new = new} p) =
     let r = replayed p in
     record {
-      own-number = replays-among _ _ v xs xs′ old new (card-refusal ws) _ (card-among ws) r;
-      as-before = replays-as-before _ _ v xs xs′ old new (card-refusal ws) _ r;
-      leaves-valid = replays-opened _ _ v xs xs′ old new (card-refusal ws) _ r;
+      own-number = replays-among _ _ v xs xs′ old new (open-refusal ws) _ (open-listed ws) r;
+      as-before = replays-as-before _ _ v xs xs′ old new (open-refusal ws) _ r;
+      leaves-valid = replays-opened _ _ v xs xs′ old new (open-refusal ws) _ r;
     }

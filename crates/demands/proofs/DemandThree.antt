@@ -1,6 +1,6 @@
 -- DEMAND 3, of the public calls themselves and for every caller: one claim about every list of commands on a freshly
--- opened card, refused ones included, made singly or handed over in lists, looks, writes and checks between them or
--- not. Assumes nothing.
+-- opened card of either kind, refused ones included, made singly or handed over in lists, looks, writes and checks
+-- between them or not. Assumes nothing.
 use mathlib.Core.Path.{_≡_, sym, ap, _∙_, subst}
 use mathlib.Core.Bool.{Bool, true, false, true≢false}
 use mathlib.Core.List.{List}
@@ -9,15 +9,15 @@ use lib.ListN.{take}
 use Rattle.instance.specs.Instance.{Instance}
 use Rattle.theory.specs.Readings.{States-read}
 use Rattle.theory.proofs.StateLaws.{states-read}
-use Rattle.card_format.specs.Card.{card-refusal, instance-in}
-use Rattle.commands.specs.Log.{new-log}
 use Rattle.commands.specs.LogLists.{Input, input-answers, input-after}
 use Rattle.commands.specs.Effective.{effective}
 use Rattle.board.specs.ModelOf.{instance-of}
 use Rattle.board.specs.declared.Board.{Board}
 use Rattle.board.specs.declared.Answered.{Answered}
+use Rattle.history_format.specs.HistoryCard.{open-refusal, model-in}
 use Rattle.planner.specs.declared.View.{View}
 use Rattle.planner.specs.Looking.{Buffers, short-for, Looks-at}
+use Rattle.planner.specs.Replaying.{log-in}
 use Rattle.planner.proofs.CallSteps.{states-front, looks-valid}
 use Rattle.planner.proofs.Learnt.{Opened-by, opened-by, Looked, looked}
 use Rattle.planner.proofs.OpeningLaws.{opened-starts}
@@ -28,16 +28,17 @@ use Rattle.demands.proofs.Runs.{Run, run-follows}
 -- feed trees of the card's positions, root and prices under the standing marks, within the standing budget." The last
 -- words are amended: "The claim about presses and the rule on reduced prices now use the larger of the budget and the
 -- cheapest total" (02, A2). A list of presses is answered by "how many were applied and the refusal number, or 0" (02,
--- A1), and the book has both from the presses themselves.
+-- A1), and the book has both from the presses themselves. "The claim about presses now covers take-backs of records
+-- that came on a card" (02, A8): the log of a card, `log-in`, begins with them.
 pub record Demand-3 (ws : List ℕ) (is : List Input) (xs : List ℕ) (old new : Buffers) (v : View) : Type 0 where
-  pub answers : xs ≡ input-answers is (new-log (instance-in ws))
-  pub last-look : Looks-at true (short-for (instance-in ws .n) old) (effective (input-after is (new-log (instance-in ws)))) old new v
+  pub answers : xs ≡ input-answers is (log-in ws)
+  pub last-look : Looks-at true (short-for (model-in ws .instance .n) old) (effective (input-after is (log-in ws))) old new v
   -- the n times n states in the buffer, read in the documents' words and in both directions: closed exactly when no
   -- arborescence of the effective instance within that limit uses the arc, open exactly when some do and some don't,
   -- sure exactly when there is one and all use it
   pub states-shown :
-      short-for (instance-in ws .n) old ≡ false →
-      States-read (effective (input-after is (new-log (instance-in ws)))) (take (instance-in ws .n * instance-in ws .n) (new .states))
+      short-for (model-in ws .instance .n) old ≡ false →
+      States-read (effective (input-after is (log-in ws))) (take (model-in ws .instance .n * model-in ws .instance .n) (new .states))
 
 shown-states : (t : Bool) (s : Instance) (v : View) (old new : Buffers) → Looks-at true t s old new v → t ≡ false → States-read s (take (s .n * s .n) (new .states))
 unfolding Looks-at
@@ -45,19 +46,19 @@ shown-states true s v old new l e = absurd (true≢false e)
 shown-states false s v old new x e = subst (States-read s) (sym (states-front s v old new x)) (states-read s)
 
 pub demand-3 :
-    (ws : List ℕ) (is : List Input) (o : Answered) (xs : List ℕ) (last : Board) (v : View) (old new : Buffers) → card-refusal ws ≡ 0 →
+    (ws : List ℕ) (is : List Input) (o : Answered) (xs : List ℕ) (last : Board) (v : View) (old new : Buffers) → open-refusal ws ≡ 0 →
     Opened-by ws o → Run is (o .board) xs last → Looked last old new v → Demand-3 ws is xs old new v
 demand-3 ws is o xs last v old new z p run l =
     let s = opened-starts ws o (opened-by p) z in
-    let r = run-follows run (new-log (instance-in ws)) (record { is-valid = s .good; tied = s .tied }) in
+    let r = run-follows run (log-in ws) (record { is-valid = s .good; tied = s .tied }) in
     let shown = looks-valid last v old new (r .follows .is-valid) (looked l) in
-    let t = short-for (instance-in ws .n) old in
-    let k = input-after is (new-log (instance-in ws)) in
+    let t = short-for (model-in ws .instance .n) old in
+    let k = input-after is (log-in ws) in
     let same = r .follows .tied .same-instance in
     let looks : Looks-at true t (effective k) old new v =
     subst (λ (i : Instance). Looks-at true t i old new v) same
     (subst (λ (n : ℕ). Looks-at true (short-for n old) (instance-of last) old new v) (r .same-n ∙ s .same-n) shown) in
-    let n : effective k .n ≡ instance-in ws .n = sym (ap (λ (i : Instance). i .n) same) ∙ r .same-n ∙ s .same-n in
+    let n : effective k .n ≡ model-in ws .instance .n = sym (ap (λ (i : Instance). i .n) same) ∙ r .same-n ∙ s .same-n in
     record {
       answers = r .same-answers;
       last-look = looks;

@@ -5,6 +5,8 @@ pub mod DemandOne
 pub mod DemandTwo
 pub mod DemandThree
 pub mod RoundTrips
+pub mod ShapedRuns
+pub mod HistoryTrips
 pub mod SixRetired
 pub mod SeveralMarks
 pub mod CommandLists

@@ -20,12 +20,10 @@ use Rattle.instance.proofs.ArborescenceLaws.{parents-size}
 use Rattle.theory.proofs.MarkLaws.{pinned-used, banned-unused}
 use Rattle.theory.proofs.OutcomeLaws.{outcome-reads}
 use Rattle.theory.proofs.SameOutcomes.{arcs-same}
-use Rattle.card_format.specs.Card.{card-refusal, instance-in}
 use Rattle.certificate.specs.Certificate.{certificate-refusal}
 use Rattle.certificate.specs.Readings.{Accepted}
 use Rattle.certificate.proofs.CertificateLaws.{same-refusal, accepted-reads, accepted-least, no-tree-refused}
 use Rattle.commands.specs.Valid.{valid}
-use Rattle.commands.specs.Log.{new-log}
 use Rattle.commands.specs.LogLists.{Input, input-after}
 use Rattle.commands.specs.Effective.{effective}
 use Rattle.commands.specs.SameBoard.{Same-board}
@@ -41,6 +39,8 @@ use Rattle.planner.specs.declared.View.the-variants.{Shown, Refused}
 use Rattle.planner.specs.Looking.{Buffers, short-for, Looks-at, Looks}
 use Rattle.planner.specs.Checking.{check-answer}
 use Rattle.planner.proofs.Learnt.{Opened-by, opened-by, Looked, looked, Checked, checked}
+use Rattle.history_format.specs.HistoryCard.{open-refusal}
+use Rattle.planner.specs.Replaying.{log-in}
 use Rattle.planner.proofs.OpeningLaws.{opened-starts}
 use Rattle.demands.proofs.DemandTwo.{Keeps-marks, Proved-tree, Demand-2, demand-2}
 use Rattle.demands.proofs.Runs.{Run, run-follows}
@@ -166,12 +166,12 @@ own-accepted {b} {u} {old} {new} {w} {k} {ps′} {ws′} {r} l e c =
 
 -- AFTER ANY RUN on a freshly opened card a plan is judged by the log's marks
 pub check-follows :
-    (ws : List ℕ) (is : List Input) (o : Answered) (xs : List ℕ) (last : Board) → card-refusal ws ≡ 0 → Opened-by ws o → Run is (o .board) xs last →
+    (ws : List ℕ) (is : List Input) (o : Answered) (xs : List ℕ) (last : Board) → open-refusal ws ≡ 0 → Opened-by ws o → Run is (o .board) xs last →
     {ps ps′ : List ℕ} {v k : ℕ} {us us′ : List ℕ} {r : ℕ} → Checked last ps ps′ v k us us′ r →
-    r ≡ certificate-refusal (effective (input-after is (new-log (instance-in ws)))) ps v k us
+    r ≡ certificate-refusal (effective (input-after is (log-in ws))) ps v k us
 check-follows ws is o xs last z p run {ps} {ps′} {v} {k} {us} {us′} {r} c =
     let s = opened-starts ws o (opened-by p) z in
-    let f = run-follows run (new-log (instance-in ws)) (record { is-valid = s .good; tied = s .tied }) .follows in
+    let f = run-follows run (log-in ws) (record { is-valid = s .good; tied = s .tied }) .follows in
     checked c .result ∙ rw (f .is-valid) (ap (λ (i : Instance). certificate-refusal i ps v k us) (f .tied .same-instance))
 
 -- BOARDS THAT ARE CALLED EQUAL answer alike

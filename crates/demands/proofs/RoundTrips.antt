@@ -22,25 +22,31 @@ use Rattle.instance.specs.Valid.{valid-instance}
 use Rattle.card_format.specs.Card.{card-refusal, instance-in, on-card, bytes-needed, card-of}
 use Rattle.card.specs.Write.{written-to, buffer-after}
 use Rattle.card.specs.declared.write.Written.{Written}
-use Rattle.card_format.proofs.OpensLaws.{opened-length, weights-long, opened-elsewhere}
+use Rattle.card_format.proofs.OpensLaws.{opened-length}
 use Rattle.card_format.proofs.LengthLaws.{length-card-of}
 use Rattle.card_format.proofs.CardAgain.{card-round-trip}
 use Rattle.card_format.proofs.InstanceAgain.{written-opens, instance-round-trip, instance-back}
 use Rattle.card_format.proofs.SameCard.{same-card}
 use Rattle.commands.specs.Valid.{valid}
 use Rattle.commands.specs.Commands.{Command}
-use Rattle.commands.specs.Log.{Log, new-log, log-after}
+use Rattle.commands.specs.Model.{Model, opened}
+use Rattle.commands.specs.Log.{Log, log-after}
 use Rattle.commands.specs.LogLists.{Input}
 use Rattle.commands.specs.Effective.{effective}
 use Rattle.commands.specs.SameBoard.{Same-board}
-use Rattle.commands.proofs.ValidLaws.{valid-fields}
+use Rattle.commands.proofs.ValidLaws.{Valid, valid-fields, valid-parts}
 use Rattle.commands.proofs.LogListsLaws.{input-commands, input-after-commands}
-use Rattle.commands.proofs.EffectiveLaws.{new-on-arcs, log-on-arcs, effective-cell-elsewhere}
+use Rattle.commands.proofs.EffectiveLaws.{On-arcs, new-on-arcs, log-on-arcs, effective-cell-elsewhere}
 use Rattle.commands.proofs.SameBoardLaws.{same-valid}
 use Rattle.board.specs.ModelOf.{model-of, instance-of}
 use Rattle.board.specs.declared.Board.{Board}
 use Rattle.board.specs.declared.Answered.{Answered}
+use Rattle.history_format.specs.HistoryCard.{is-history, open-refusal, model-in}
+use Rattle.history_format.proofs.ModelAgain.{As-read}
+use Rattle.history_format.proofs.HistoryAgain.{model-in-valid, model-of-card, model-in-as-read}
+use Rattle.history_format.proofs.Moves.{card-not-history, plain-card-opens}
 use Rattle.planner.specs.Opening.{opened-from}
+use Rattle.planner.specs.Replaying.{log-in}
 use Rattle.planner.proofs.Learnt.{Opened-by, opened-by, Wrote, wrote}
 use Rattle.planner.proofs.OpeningLaws.{opened-starts, opened-answer, opened-instance}
 use Rattle.planner.proofs.WritingLaws.{Write-case, refused-board, refused-buffer, stored, write-cases}
@@ -59,13 +65,20 @@ written-card ws s r out out′ e y z h p q =
     let long : ltb (length out) (bytes-needed (instance-in ws .n)) ≡ false = le-ltb (length out) (bytes-needed (instance-in ws .n)) (omega arith) in
     record { result = p ∙ rw (e, long, ← l); buffer = q ∙ rw (e, long, card-round-trip ws y z) }
 
-pub card-back : {ws : List ℕ} {o : Answered} {r : Written} {out out′ : List ℕ} → are-bytes ws ≡ true → Opened-by ws o → o .answer ≡ 0
+-- a plain card is judged and read by the old definitions
+plain-card : (ws : List ℕ) → is-history ws ≡ false → (open-refusal ws ≡ card-refusal ws) × (model-in ws .instance ≡ instance-in ws)
+unfolding open-refusal opened
+plain-card ws k = (rw k, ap (λ (m : Model). m .instance) (model-of-card ws k))
+
+-- of a plain card; of a history card it is `history-card-back`
+pub card-back : {ws : List ℕ} {o : Answered} {r : Written} {out out′ : List ℕ} → are-bytes ws ≡ true → is-history ws ≡ false → Opened-by ws o → o .answer ≡ 0
     → Wrote (o .board) out out′ r → length ws ≤ length out → Same-card ws out out′ r
-card-back {ws} {o} {r} {out} {out′} y p a w h =
+card-back {ws} {o} {r} {out} {out′} y k p a w h =
     let e = opened-by p in
     let z = sym (opened-answer ws o e) ∙ a in
     let good = opened-starts ws o e z .good in
-    written-card ws (instance-of (o .board)) r out out′ (opened-instance ws o e z) y z h (wrote w .result ∙ rw good) (wrote w .buffer ∙ rw good)
+    let c = plain-card ws k in
+    written-card ws (instance-of (o .board)) r out out′ (opened-instance ws o e z ∙ c .1) y (sym (c .0) ∙ z) h (wrote w .result ∙ rw good) (wrote w .buffer ∙ rw good)
 
 -- FROM A BOARD AND BACK
 -- what was written, and can be opened again, is the board's card
@@ -89,7 +102,8 @@ stored-card {b} {r} {out} {out′} w z = go (write-cases b r out out′ (wrote w
 reopened : (b : Board) (ws : List ℕ) (o : Answered) → Stored b ws → o ≡ opened-from ws → (o .answer ≡ 0) × (instance-of (o .board) ≡ instance-in (card-of (instance-of b)))
 reopened b ws o c e =
     let z : card-refusal ws ≡ 0 = ap card-refusal (c .card) ∙ written-opens (instance-of b) (c .fields) in
-    (opened-answer ws o e ∙ z, opened-instance ws o e z ∙ ap instance-in (c .card))
+    let y = plain-card-opens ws z in
+    (opened-answer ws o e ∙ y, opened-instance ws o e y ∙ plain-card ws (card-not-history ws z) .1 ∙ ap instance-in (c .card))
 
 pub record Same-fields (b : Board) (o : Answered) : Type 0 where
   pub opens : o .answer ≡ 0
@@ -106,36 +120,50 @@ no-arc-off : (s : Instance) (i : ℕ) → on-card (s .n) (s .root) i ≡ false �
 unfolding on-card is-arc
 no-arc-off s i e = rw e
 
-module _ (ws : List ℕ) (cs : List Command) where
-  abbrev after : Log
-  after = log-after cs (new-log (instance-in ws))
+-- whatever commands were made on a card that opens, a cell that can never be an arc is as the card has it
+module _ (ws : List ℕ) (z : open-refusal ws ≡ 0) (cs : List Command) where
+  abbrev S : Instance
+  S = model-in ws .instance
 
-  same-log-card : after .card ≡ instance-in ws
-  same-log-card = log-on-arcs (instance-in ws) cs (new-log (instance-in ws)) (new-on-arcs (instance-in ws)) .card
+  abbrev after : Log
+  after = log-after cs (log-in ws)
+
+  parts : Valid (model-in ws)
+  parts = valid-parts (model-in ws) (model-in-valid ws z)
+
+  changed : On-arcs S after
+  changed = log-on-arcs S (parts .n-high) cs (log-in ws) (new-on-arcs S (model-in ws .history) (parts .records-ok))
 
   off-card : (i : ℕ) → i < cells → on-card (effective after .n) (effective after .root) i ≡ false → (weight-at (effective after) i ≡ no-arc) × (mark-at (effective after) i ≡ free)
   unfolding effective
   off-card i l q =
-      let off : on-card (instance-in ws .n) (instance-in ws .root) i ≡ false = rw same-log-card at q in
-      let none = opened-elsewhere ws i l off in
-      (rw same-log-card (none .0), effective-cell-elsewhere (instance-in ws) cs i l (no-arc-off (instance-in ws) i off) ∙ none .1)
+      let off : on-card (S .n) (S .root) i ≡ false = rw (changed .card .n, changed .card .root) at q in
+      let none = model-in-as-read ws .elsewhere i l off in
+      (rw (changed .card .weights) (none .0), effective-cell-elsewhere S (parts .n-high) (model-in ws .history) (parts .records-ok) cs i l (no-arc-off S i off) ∙ none .1)
+
+  pub reached-as-read : As-read (effective after)
+  unfolding effective
+  reached-as-read =
+      record {
+        weights-long = ap length (changed .card .weights) ∙ model-in-as-read ws .weights-long;
+        marks-long = length-tabulate cells _;
+        elsewhere = off-card;
+      }
 
   reached-back : valid-instance (effective after) ≡ true → instance-in (card-of (effective after)) ≡ effective after
-  unfolding effective
-  reached-back v =
-      instance-back (effective after) v (ap (λ (s : Instance). length (s .weights)) same-log-card ∙ weights-long ws) (length-tabulate cells _) off-card
+  reached-back v = instance-back (effective after) v (reached-as-read .weights-long) (reached-as-read .marks-long) (reached-as-read .elsewhere)
 
-pub run-back : {ws : List ℕ} {o : Answered} {is : List Input} {xs : List ℕ} {last : Board} {r : Written} {out out′ : List ℕ} {q : Answered} → card-refusal ws ≡ 0
+pub run-back : {ws : List ℕ} {o : Answered} {is : List Input} {xs : List ℕ} {last : Board} {r : Written} {out out′ : List ℕ} {q : Answered} → open-refusal ws ≡ 0
     → Opened-by ws o → Run is (o .board) xs last → Wrote last out out′ r → r .answer ≡ 0 → Opened-by (take (r .length) out′) q → instance-of (q .board) ≡ instance-of last
 run-back {ws} {o} {is} {xs} {last} {r} {out} {out′} {q} z p run w a u =
     let s = opened-starts ws o (opened-by p) z in
-    let k = new-log (instance-in ws) in
+    let k = log-in ws in
     let f = run-follows run k (record { is-valid = s .good; tied = s .tied }) in
     let cs = input-commands is k in
     let same = f .follows .tied .same-instance ∙ ap effective (input-after-commands is k) in
     let c = stored-card w a in
     let e = reopened last (take (r .length) out′) q c (opened-by u) in
-    e .1 ∙ ap (λ (x : Instance). instance-in (card-of x)) same ∙ reached-back ws cs (subst (λ (x : Instance). valid-instance x ≡ true) same (c .fields)) ∙ sym same
+    e .1 ∙ ap (λ (x : Instance). instance-in (card-of x)) same ∙ reached-back ws z cs (subst (λ (x : Instance). valid-instance x ≡ true) same (c .fields)) ∙ sym same
 
 -- BOARDS THAT ARE CALLED EQUAL are written alike
 pub same-write : {a b : Board} {r q : Written} {out r′ q′ : List ℕ} → Same-board (model-of a) (model-of b) → Wrote a out r′ r → Wrote b out q′ q → (r ≡ q) × (r′ ≡ q′)

@@ -26,7 +26,7 @@ use Rattle.command_list.proofs.FollowLaws.{List-tied, list-tied}
 use Rattle.command_list.proofs.ListCalled.{List-called, list-called}
 use Rattle.planner.specs.declared.View.{View}
 use Rattle.planner.specs.Looking.{Buffers}
-use Rattle.planner.proofs.Learnt.{Looked, Wrote, Checked}
+use Rattle.planner.proofs.Learnt.{Looked, Wrote, Wrote-history, Checked}
 
 -- a run: "each later one the board as the call before left it, refused or not; looks and writes may come between", and
 -- checks of plans made elsewhere (02, A6), which leave the board too. A command is a single one or a group: "The press
@@ -44,6 +44,8 @@ pub data Run : List Input → Board → (answers : List ℕ) → (last : Board) 
       {is : List Input} {b : Board} {xs : List ℕ} {e : Board} {v : View} {old new : Buffers} → Looked b old new v → Run is b xs e → Run is b xs e
   then-write :
       {is : List Input} {b : Board} {xs : List ℕ} {e : Board} {r : Written} {out out′ : List ℕ} → Wrote b out out′ r → Run is b xs e → Run is b xs e
+  then-write-history :
+      {is : List Input} {b : Board} {xs : List ℕ} {e : Board} {r : Written} {out out′ : List ℕ} → Wrote-history b out out′ r → Run is b xs e → Run is b xs e
   then-check :
       {is : List Input} {b : Board} {xs : List ℕ} {e : Board} {ps ps′ : List ℕ} {v k : ℕ} {ws ws′ : List ℕ} {r : ℕ} → Checked b ps ps′ v k ws ws′ r → Run is b xs e →
       Run is b xs e
@@ -114,6 +116,7 @@ run-follows (then-list {ps = ps} l rest) k f =
     }
 run-follows (then-look l rest) k f = run-follows rest k f
 run-follows (then-write l rest) k f = run-follows rest k f
+run-follows (then-write-history l rest) k f = run-follows rest k f
 run-follows (then-check l rest) k f = run-follows rest k f
 
 -- WHAT A RUN GIVES, without a log and on any board: what the contents of its first board say
@@ -152,6 +155,7 @@ run-gives (then-list {is = is} {r = r} l rest) =
     }
 run-gives (then-look l rest) = run-gives rest
 run-gives (then-write l rest) = run-gives rest
+run-gives (then-write-history l rest) = run-gives rest
 run-gives (then-check l rest) = run-gives rest
 
 -- SINGLE COMMANDS alone: what the model gives for them, and every record place of the last board

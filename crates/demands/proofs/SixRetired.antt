@@ -13,9 +13,10 @@ use Rattle.commands.specs.Log.{Log, unnoted, note}
 use Rattle.commands.proofs.LogLaws.{note-listed}
 use Rattle.command_list.specs.CommandList.{commands-in}
 use Rattle.command_list.proofs.ListNumberLaws.{lists-lack}
+use Rattle.history_format.proofs.HistoryNumbers.{history-numbers, to-plain-numbers}
 use Rattle.planner.specs.Replaying.{Call, command, look, write, log-call, call-answers}
 use Rattle.demands.proofs.CallNumbers.{among}
-use Rattle.demands.proofs.DemandOne.{Given, by-opening, by-command, by-list, by-looking, by-writing, by-checking, by-reporting, by-replaying, numbers, demand-1}
+use Rattle.demands.proofs.DemandOne.{Given, by-opening, by-command, by-list, by-looking, by-writing, by-writing-history, by-to-history, by-to-plain, by-checking, by-reporting, by-replaying, numbers, demand-1}
 
 -- ONE CALL
 -- 6 is among the numbers of no command
@@ -28,12 +29,15 @@ commands-lack-six undo = refl
 
 -- nor of any other call
 all-lack-six : {a : ℕ} (g : Given a) → among 6 (numbers g) ≡ false
-unfolding any-of
+unfolding any-of history-numbers to-plain-numbers
 all-lack-six (by-opening p) = refl
 all-lack-six (by-command {c = c} p) = commands-lack-six c
 all-lack-six (by-list {ps = ps} p) = lists-lack (eqb 6) refl commands-lack-six (commands-in ps)
 all-lack-six (by-looking p) = refl
 all-lack-six (by-writing p) = refl
+all-lack-six (by-writing-history p) = refl
+all-lack-six (by-to-history p) = refl
+all-lack-six (by-to-plain p) = refl
 all-lack-six (by-checking p) = refl
 all-lack-six (by-reporting p) = refl
 all-lack-six (by-replaying p) = refl

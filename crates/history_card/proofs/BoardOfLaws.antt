@@ -17,7 +17,7 @@ use Rattle.board.specs.Create.{stored, board-of}
 use Rattle.board.specs.declared.UndoRecord.{UndoRecord}
 use Rattle.board.proofs.ModelOfLaws.{history-more}
 use Rattle.history_format.proofs.HistoryLaws.{All-writable, All-shaped, all-writable}
-use Rattle.history_card.proofs.RecordReadLaws.{stored-back}
+use Rattle.history_card.proofs.RecordLaws.{stored-back}
 
 length-stored : (h : List Replaced) (rs : List UndoRecord) → length (stored h rs) ≡ length rs
 unfolding stored

@@ -1,6 +1,6 @@
 -- Laws that the proofs of reading and writing cite. Assumes nothing.
-pub mod RecordReadLaws
-pub mod RecordsReadLaws
+pub mod RecordLaws
+pub mod RecordsLaws
 pub mod PutLaws
 pub mod WriteLaws
 pub mod OpenLaws

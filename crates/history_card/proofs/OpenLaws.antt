@@ -1,18 +1,17 @@
 -- How the three steps of opening, the header, the cells and what stands behind them, make up what a card opens as.
 -- Assumes nothing.
 use mathlib.Core.Path.{_≡_, refl, sym, ap, _∙_}
-use mathlib.Core.Bool.{Bool, true, false, _||_, not, cond}
+use mathlib.Core.Bool.{Bool, true, false, cond}
 use mathlib.Core.List.{List, []}
-use Prim.Native.Nat.{ℕ, zero, suc, _+_, _*_, _≤_, _<_}
+use Prim.Native.Nat.{ℕ, zero, suc, _+_, _*_, _≤_}
 use native.Mathlib.Omega.{arith}
 use lib.Dec.{ltb, leb, eqb}
 use lib.ListN.{length, drop, replicate, length-drop}
 use lib.Seq.{drop-drop}
-use borrow.Author.Tests.{eqb-true, ltb-false, le-ltb, eq-eqb, ne-eqb}
+use borrow.Author.Tests.{eqb-true, le-ltb, eq-eqb, ne-eqb}
 use Rattle.bits.specs.Bits.{bits-in}
 use Rattle.bits.proofs.ByteLaws.{length-bits-in}
 use Rattle.instance.specs.Limits.{max-vertices, max-budget, max-records, cells}
-use Rattle.instance.specs.Refusals.{bad-record}
 use Rattle.instance.specs.Instance.{Instance}
 use Rattle.instance.specs.Matrix.{unmarked}
 use Rattle.card_format.specs.Card.{n-in, root-in, budget-in, bits-needed, min-card, max-card, instance-of-bits, cells-refusal}
@@ -27,11 +26,11 @@ use Rattle.commands.specs.Model.{Replaced}
 use Rattle.commands.specs.Valid.{record-ok}
 use Rattle.commands.proofs.ValidLaws.{record-ok-of}
 use Rattle.board.specs.ModelOf.{blank-record}
-use Rattle.board.specs.Create.{board-with, blank, stored, board-of, answered-with, opened-as}
+use Rattle.board.specs.Create.{blank, stored, board-of, answered-with, opened-as}
 use Rattle.board.specs.declared.Board.{Board}
 use Rattle.history_format.specs.RecordWidths.{marker-width, count-width}
-use Rattle.history_format.specs.RecordBits.{record-length, replaced-in, form-refusal, record-refusal}
-use Rattle.history_format.specs.HistoryCard.{is-history, behind-marker, behind-cells, count-in, history-in, history-model, records-refusal, behind-refusal, history-header-refusal, history-refusal}
+use Rattle.history_format.specs.RecordBits.{record-length, replaced-in, record-refusal}
+use Rattle.history_format.specs.HistoryCard.{is-history, behind-marker, behind-cells, count-in, history-model, records-refusal, behind-refusal, history-header-refusal, history-refusal}
 use Rattle.history_format.proofs.HeaderSteps.{History-header-known, history-header-known, history-rest, history-by-steps}
 use Rattle.history_format.proofs.InnerCard.{weights-long-from}
 use Rattle.history_format.proofs.HistoryLaws.{history-length}

@@ -1,11 +1,11 @@
--- A whole card with records, put field by field and then filled: how many bits it has, the room that each step has, and
--- the whole. Assumes nothing.
+-- A whole history card, put field by field and then filled: how many bits it has, the room that each step has, and the
+-- whole. Assumes nothing.
 use mathlib.Core.Path.{_≡_, refl}
 use mathlib.Core.Bool.{true}
 use mathlib.Core.List.{List, _++_}
 use Prim.Native.Nat.{ℕ, _+_, _*_, _/_, _≤_, _<_}
 use native.Mathlib.Omega.{arith}
-use lib.ListN.{length, replicate, length-append}
+use lib.ListN.{length, replicate}
 use borrow.Author.Tests.{lt-ltb, le-ltb}
 use Rattle.bits.specs.Bits.{bits-of, are-bytes}
 use Rattle.bits.specs.Writer.{filling, Ready, Put}
@@ -22,35 +22,37 @@ use Rattle.commands.proofs.ValidLaws.{valid-parts}
 use Rattle.history_format.specs.RecordWidths.{marker-width, history-marker, count-width}
 use Rattle.history_format.specs.HistoryCard.{records-bits, history-bits, history-bytes, history-card-of}
 use Rattle.history_format.proofs.HistoryLaws.{records-short}
+use Rattle.history_format.proofs.HistoryBits.{length-history-bits}
 use Rattle.history_card.specs.Write.{history-written-to, history-buffer-after, History-written}
 
 -- HOW MANY BITS
 module _ (m : Model) (ok : valid m ≡ true) where
-  pub length-history-bits :
+  -- by its parts, as the program adds them
+  pub history-width :
       length (history-bits m) ≡ marker-width + (bits-needed (m .instance .n) + (count-width + length (records-bits (m .history))))
-  unfolding history-bits
-  length-history-bits =
+  history-width =
       let v = valid-parts m ok in
-      simp (length-append, length-bits-of, length-instance-bits (m .instance) (v .n-high) (v .root-below))
+      let l = length-history-bits m (v .n-high) (v .root-below) in
+      omega arith
 
   -- never so many that the program cannot count them
   pub history-most : length (history-bits m) < 65536
   history-most =
       let v = valid-parts m ok in
       let n = length-known (m .instance .n) (v .n-high) in
-      omega (arith, length-history-bits, n .most, records-short (m .instance) (m .history) (v .n-high) (v .records-ok), v .few)
+      omega (arith, history-width, n .most, records-short (m .instance) (m .history) (v .n-high) (v .records-ok), v .few)
 
 -- THE BITS: marker, the bits of a card, the count, the records
 module _ (m : Model) (ok : valid m ≡ true) (out : List ℕ) (start : BitWriter) (room : Ready (length (history-bits m)) start out) where
   pub marker-room : Ready marker-width start out
-  marker-room = record { few = room .few; room = omega (arith, room .room, length-history-bits m ok) }
+  marker-room = record { few = room .few; room = omega (arith, room .room, history-width m ok) }
 
   module _ (ys : List ℕ) (q : BitWriter) (u : Put (bits-of marker-width history-marker) start out ys q) where
     marker-done : 8 * q .at + q .count ≡ 8 * start .at + start .count + marker-width
     marker-done = omega (arith, u .moved, length-bits-of marker-width history-marker)
 
     pub instance-room : Ready (bits-needed (m .instance .n)) q ys
-    instance-room = record { few = u .few; room = omega (arith, room .room, length-history-bits m ok, marker-done, u .long) }
+    instance-room = record { few = u .few; room = omega (arith, room .room, history-width m ok, marker-done, u .long) }
 
     module _ (zs : List ℕ) (p : BitWriter) (v : Put (instance-bits (m .instance)) q ys zs p) where
       instance-done : 8 * p .at + p .count ≡ 8 * q .at + q .count + bits-needed (m .instance .n)
@@ -59,7 +61,7 @@ module _ (m : Model) (ok : valid m ≡ true) (out : List ℕ) (start : BitWriter
           omega (arith, v .moved, length-instance-bits (m .instance) (k .n-high) (k .root-below))
 
       pub count-room : Ready count-width p zs
-      count-room = record { few = v .few; room = omega (arith, room .room, length-history-bits m ok, marker-done, u .long, instance-done, v .long) }
+      count-room = record { few = v .few; room = omega (arith, room .room, history-width m ok, marker-done, u .long, instance-done, v .long) }
 
       module _ (k : ℕ) (e : length (m .history) ≡ k) (xs : List ℕ) (o : BitWriter) (w : Put (bits-of count-width k) p zs xs o) where
         pub records-room : Ready (length (records-bits (m .history))) o xs
@@ -70,7 +72,7 @@ module _ (m : Model) (ok : valid m ≡ true) (out : List ℕ) (start : BitWriter
                   omega (
                     arith,
                     room .room,
-                    length-history-bits m ok,
+                    history-width m ok,
                     marker-done,
                     u .long,
                     instance-done,

@@ -13,8 +13,8 @@ use Rattle.history_format.specs.HistoryCard.{max-history-card}
 abbrev pub last-place : ℕ
 last-place = 16 * max-history-card
 
-abbrev pub last-end : ℕ
-last-end = 32 * max-history-card
+abbrev pub last-bit : ℕ
+last-bit = 32 * max-history-card
 
 -- the bits of the mark of a head, none if it is not in the set
 unfoldable pub one-mark : (heads marks head : ℕ) → List ℕ

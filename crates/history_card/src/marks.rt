@@ -4,16 +4,15 @@ ghost use mathlib.Core.Path.{_≡_};
 ghost use mathlib.Core.Bool.{cond};
 ghost use Prim.Native.Nat.{_+_, _*_, _≤_, _<_};
 ghost use lib.ListN.{length};
-ghost use Rattle.base.specs.Bounded.{count-below};
-ghost use Rattle.base.specs.Digits.{from-digits, digit};
-ghost use Rattle.bits.specs.Bits.{bits-of, bits-in, field};
+ghost use Rattle.base.specs.Digits.{from-digits};
+ghost use Rattle.bits.specs.Bits.{bits-in, field};
 ghost use Rattle.bits.specs.Writer.{Ready, Put};
 ghost use Rattle.instance.specs.Limits.{max-vertices, free};
 ghost use Rattle.instance.specs.Cuts.{inside};
 ghost use Rattle.card_format.specs.Widths.{mark-width};
 ghost use Rattle.heads.specs.RecordMarks.{record-marks};
 ghost use Rattle.history_format.specs.RecordBits.{mark-offset, mark-bits};
-ghost use Rattle.history_card.specs.Marks.{last-end, one-mark};
+ghost use Rattle.history_card.specs.Marks.{last-bit, one-mark};
 use bits::BitWriter;
 use card::widths::MARK_WIDTH;
 use checks::sets::is_inside;
@@ -36,7 +35,7 @@ pub fn marks_width(heads: u32) -> usize
 
 // The marks of these heads, from the bits at `at` on; 0 at any other head.
 pub fn read_marks(card: &[u8], at: usize, heads: u32) -> u64
-    requires { ⌜ (at + mark-offset heads max-vertices ≤ 8 * length (now card)) × (at ≤ last-end) ⌝ }
+    requires { ⌜ (at + mark-offset heads max-vertices ≤ 8 * length (now card)) × (at ≤ last-bit) ⌝ }
     ensures { λ r. ⌜ r ≡ from-digits 4 max-vertices (λ h. cond (inside heads h) (field (at + mark-offset heads h) mark-width (bits-in (now (card .entry)))) free) ⌝ }
 {
     let mut value: u64 = 0;

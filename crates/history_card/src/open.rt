@@ -1,6 +1,5 @@
 // A card of any bytes opened as a board with its history, or refused.
 ghost use mathlib.Core.Path.{_≡_};
-ghost use Rattle.card.specs.Read.{no-header};
 ghost use Rattle.board.specs.Create.{blank, answered-with};
 ghost use Rattle.history_format.specs.HistoryCard.{is-history};
 ghost use Rattle.history_card.specs.Open.{history-header-of, history-opened};

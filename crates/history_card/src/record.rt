@@ -7,7 +7,7 @@ ghost use Rattle.bits.specs.Bits.{bits-in};
 ghost use Rattle.instance.specs.Limits.{max-vertices, cells};
 ghost use Rattle.instance.specs.Matrix.{unmarked};
 ghost use Rattle.history_format.specs.RecordBits.{kind-in, form-refusal, record-refusal};
-ghost use Rattle.history_card.specs.Marks.{last-place, last-end};
+ghost use Rattle.history_card.specs.Marks.{last-place, last-bit};
 ghost use Rattle.history_card.specs.Record.{no-record, Record-read};
 use crate::marks::marks_width;
 use crate::marks::read_marks;
@@ -33,7 +33,7 @@ use instance::refusals::BAD_RECORD;
 // Whether bits that end at `end` run past the end of the card: counted in bytes, since a card may have more bits than
 // a word can count.
 pub fn runs_past(card: &[u8], end: usize) -> bool
-    requires { ⌜ end ≤ last-end ⌝ }
+    requires { ⌜ end ≤ last-bit ⌝ }
     ensures { λ r. ⌜ r ≡ ltb (8 * length (now (card .entry))) end ⌝ }
 {
     card.len() < (end + 7) / 8

@@ -1,5 +1,5 @@
 -- What is read of the first bits of a list is the same whatever follows them: a field, the cells of a card, and so the
--- instance. A history card has an old card at its front (InnerCard), and an input that is too long has there all that
+-- instance. A history card has a plain card at its front (InnerCard), and an input that is too long has there all that
 -- is looked at (LongHistory). Assumes nothing.
 use mathlib.Core.Path.{_≡_, refl, sym, _∙_}
 use mathlib.Core.Bool.{Bool, true, false, cond}

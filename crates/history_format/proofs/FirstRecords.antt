@@ -1,5 +1,5 @@
--- A record on a card is judged by its first 103 bits at most, and records that pass take 101 bits each: so records are
--- judged by the first bits, whatever follows them. A byte more than they can take is left over behind them. Assumes
+-- A record on a card is judged by its first 103 bits at most, and records that pass take 101 bits at most: so records
+-- are judged by the first bits, whatever follows them. A byte more than they can take is left over behind them. Assumes
 -- nothing.
 use mathlib.Core.Path.{_≡_, refl, _∙_}
 use mathlib.Core.Bool.{Bool, true, false, cond}

@@ -36,7 +36,7 @@ use Rattle.commands.proofs.ValidLaws.{opened-valid}
 use Rattle.history_format.specs.RecordWidths.{marker-width, history-marker, count-width}
 use Rattle.history_format.specs.HistoryCard.{is-history, behind-marker, behind-cells, count-in, history-in, history-model, end-refusal, history-refusal, open-refusal, model-in, records-bits, history-bits, history-bytes, history-card-of}
 use Rattle.history_format.proofs.HeaderSteps.{History-opens, history-opens}
-use Rattle.history_format.proofs.InnerCard.{old-are-bits, inner-valid, inner-written}
+use Rattle.history_format.proofs.InnerCard.{behind-marker-bits, inner-valid, inner-written}
 use Rattle.history_format.proofs.HistoryLaws.{All-shaped, rest-in, history-length, history-shaped, rest-passes, history-ok, history-again}
 use Rattle.history_format.proofs.ModelAgain.{As-read}
 
@@ -54,7 +54,7 @@ end-passes bs e =
 behind-are-bits : (ws : List ℕ) → are-bits (drop count-width (behind-cells ws)) ≡ true
 behind-are-bits ws =
     all-of-drop (λ b. ltb b 2) count-width (behind-cells ws)
-    (all-of-drop (λ b. ltb b 2) (bits-needed (n-in (behind-marker ws))) (behind-marker ws) (old-are-bits ws))
+    (all-of-drop (λ b. ltb b 2) (bits-needed (n-in (behind-marker ws))) (behind-marker ws) (behind-marker-bits ws))
 
 module _ (ws : List ℕ) (o : History-opens ws) where
   abbrev s : Instance
@@ -83,10 +83,10 @@ module _ (ws : List ℕ) (o : History-opens ws) where
   count-again : bits-of count-width (length h) ++ records ≡ behind-cells ws
   count-again =
       rw count-known
-      (field-written 0 count-width (behind-cells ws) (all-of-drop (λ b. ltb b 2) (bits-needed (n-in (behind-marker ws))) (behind-marker ws) (old-are-bits ws)) (o .counted))
+      (field-written 0 count-width (behind-cells ws) (all-of-drop (λ b. ltb b 2) (bits-needed (n-in (behind-marker ws))) (behind-marker ws) (behind-marker-bits ws)) (o .counted))
 
-  old-again : instance-bits s ++ behind-cells ws ≡ behind-marker ws
-  old-again = rw (inner-written ws (o .header) (o .cells-pass)) (take-append-drop (bits-needed (n-in (behind-marker ws))) (behind-marker ws))
+  behind-marker-again : instance-bits s ++ behind-cells ws ≡ behind-marker ws
+  behind-marker-again = rw (inner-written ws (o .header) (o .cells-pass)) (take-append-drop (bits-needed (n-in (behind-marker ws))) (behind-marker ws))
 
   marker-again : bits-of marker-width history-marker ++ behind-marker ws ≡ bits-in ws
   unfolding is-history
@@ -96,7 +96,7 @@ module _ (ws : List ℕ) (o : History-opens ws) where
 
   all-again : history-bits (history-model ws) ++ rest ≡ bits-in ws
   unfolding history-bits history-model
-  all-again = simp append-assoc (rw (records-again, count-again, old-again) marker-again)
+  all-again = simp append-assoc (rw (records-again, count-again, behind-marker-again) marker-again)
 
   -- THE BYTES
   left : (length rest < 8) × (all-of (λ b. eqb b 0) rest ≡ true)

@@ -1,5 +1,5 @@
 -- A history card is refused by 1 to 5, 7, 8 or 27 and by no other number, so 6 is retired there too; opening a card of
--- either kind answers one of these, and a move to an old card 28 besides. Nothing is asked of the card: its numbers
+-- either kind answers one of these, and a move to a plain card 28 besides. Nothing is asked of the card: its numbers
 -- need not be bytes. Assumes nothing.
 use mathlib.Core.Path.{_≡_, refl, sym, _∙_}
 use mathlib.Core.Bool.{Bool, true, false, _||_, not, cond, true≢false}
@@ -25,12 +25,12 @@ use Rattle.commands.specs.Valid.{record-ok}
 use Rattle.history_format.specs.RecordWidths.{count-width}
 use Rattle.history_format.specs.RecordBits.{kind-in, record-length, replaced-in, form-refusal, record-refusal}
 use Rattle.history_format.specs.HistoryCard.{is-history, behind-marker, behind-cells, count-in, history-model, end-refusal, records-refusal, behind-refusal, history-header-refusal, history-refusal, open-refusal, to-plain-refusal}
-use Rattle.history_format.proofs.InnerCard.{old-are-bits}
+use Rattle.history_format.proofs.InnerCard.{behind-marker-bits}
 
 unfoldable pub history-numbers : List ℕ
 history-numbers = 0 ∷ card-short ∷ bad-count ∷ bad-length ∷ bad-root ∷ bad-card-budget ∷ bad-mark ∷ bad-filling ∷ bad-record ∷ []
 
--- of a move to an old card
+-- of a move to a plain card
 unfoldable pub to-plain-numbers : List ℕ
 to-plain-numbers = has-records ∷ history-numbers
 
@@ -116,7 +116,7 @@ history-listed ws =
     (either-listed (ltb (length bs) (bits-needed n)) bad-length _ refl
     (either-listed (leb n (root-in bs)) bad-root _ refl
     (either-listed (ltb max-budget (budget-in bs)) bad-card-budget _ refl
-    (either-listed (eqb c 0) _ c (behind-listed s (behind-cells ws)) (cells-listed bs (old-are-bits ws))))))))
+    (either-listed (eqb c 0) _ c (behind-listed s (behind-cells ws)) (cells-listed bs (behind-marker-bits ws))))))))
 
 pub card-listed : (ws : List ℕ) → any-of (eqb (card-refusal ws)) history-numbers ≡ true
 unfolding card-refusal header-refusal instance-in history-numbers any-of

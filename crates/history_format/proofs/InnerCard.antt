@@ -1,7 +1,7 @@
--- The old card within a history card. Put out of it (its bits taken, filled with zeros, packed into bytes) it is a card
--- that the old definitions judge and read alike: so what is proved of old cards holds of it. Its instance is the one
--- that the history card is read as, its refusal that of the cells, and the instance's bits are the ones that stood on
--- the card. Assumes nothing.
+-- The plain card within a history card. Taken out of it (its bits taken, filled with zeros, packed into bytes) it is a
+-- card that the old definitions judge and read alike: so what is proved of plain cards holds of it. Its instance is the
+-- one that the history card is read as, its refusal that of the cells, and the instance's bits are the ones that stood
+-- on the card. Assumes nothing.
 use mathlib.Core.Path.{_≡_, refl, sym, ap, _∙_}
 use mathlib.Core.Bool.{true, not, cond}
 use mathlib.Core.List.{List, _++_}
@@ -34,11 +34,11 @@ use Rattle.history_format.specs.HistoryCard.{behind-marker}
 use Rattle.history_format.proofs.FirstBits.{field-front, instance-front}
 use Rattle.history_format.proofs.HeaderSteps.{History-header-known}
 
--- the bits of the old card: "the bits of the old card without filling"
+-- the bits of the plain card: "the bits of the old card without filling"
 abbrev pub inner-bits : (card : List ℕ) → List ℕ
 inner-bits ws = take (bits-needed (n-in (behind-marker ws))) (behind-marker ws)
 
--- and the old card that has these bits
+-- and the plain card that has these bits
 unfoldable pub inner-card : (card : List ℕ) → List ℕ
 inner-card ws = let n = n-in (behind-marker ws) in packed (bytes-needed n) (inner-bits ws ++ filling-bits n)
 
@@ -57,10 +57,10 @@ or-zero : (c : ℕ) → cond (not (eqb c 0)) c 0 ≡ c
 or-zero zero = refl
 or-zero (suc c) = rw (ne-eqb (suc c) 0 (λ z. omega arith))
 
-pub old-are-bits : (ws : List ℕ) → are-bits (behind-marker ws) ≡ true
-old-are-bits ws = all-of-drop (λ b. ltb b 2) marker-width (bits-in ws) (bits-in-are-bits ws)
+pub behind-marker-bits : (ws : List ℕ) → are-bits (behind-marker ws) ≡ true
+behind-marker-bits ws = all-of-drop (λ b. ltb b 2) marker-width (bits-in ws) (bits-in-are-bits ws)
 
--- lists are as long as the old card's, whatever the bits are
+-- lists are as long as the plain card's, whatever the bits are
 module _ (bs : List ℕ) where
   pub weights-long-from : length (instance-of-bits bs .weights) ≡ cells
   weights-long-from = length-fields 0 weight-width no-arc (n-in bs) (root-in bs) bs
@@ -80,7 +80,7 @@ module _ (ws : List ℕ) (h : History-header-known ws) where
   inner-long = length-take-le (bits-needed n) (behind-marker ws) (h .fits)
 
   inner-are-bits : are-bits (inner-bits ws) ≡ true
-  inner-are-bits = all-of-take (λ b. ltb b 2) (bits-needed n) (behind-marker ws) (old-are-bits ws)
+  inner-are-bits = all-of-take (λ b. ltb b 2) (bits-needed n) (behind-marker ws) (behind-marker-bits ws)
 
   whole-long : (bs : List ℕ) → length bs ≡ bits-needed n → length (bs ++ filling-bits n) ≡ 8 * bytes-needed n
   whole-long bs e =

@@ -2,13 +2,14 @@
 pub mod FirstBits
 pub mod HeaderSteps
 pub mod InnerCard
-pub mod OldConsole
+pub mod OldReader
 pub mod HistoryNumbers
 pub mod MemberMarks
 pub mod RecordFits
 pub mod RecordLaws
 pub mod RecordLength
 pub mod HistoryLaws
+pub mod ShapedLaws
 pub mod FirstRecords
 pub mod LongHistory
 pub mod HistoryBits

@@ -1,17 +1,16 @@
--- Bytes that are more than any card has, with records or without: they are refused, and by the first 5,175 of them
+-- Bytes that are more than any card of either kind has: they are refused, and by the first 5,175 of them
 -- alike, so the first bytes of a long input answer for all of it. Assumes nothing.
 --
 -- The bits of the first bytes are followed by those of the others. Header and cells lie within the first bits, which
--- are 41,400 at least: they are read alike, and so is the count. Behind it there are 20,208 bits at least, which is what
--- 200 records can take and a byte: so the records are judged alike, and where they pass, whole bytes remain on either
--- side.
+-- are 41,400 at least: they are read alike, and so is the count. Behind it there are 20,208 bits at least, which is
+-- what 200 records can take and a byte: so the records are judged alike, and where they pass, whole bytes remain on
+-- either side.
 use mathlib.Core.Path.{_≡_, refl, sym, ap, _∙_}
 use mathlib.Core.Bool.{Bool, true, false, _||_, not, cond}
 use mathlib.Core.List.{List, _++_}
 use mathlib.Core.Logic.{⊎-elim}
-use Prim.Native.Nat.{ℕ, suc, _+_, _*_, _-_, _≤_, _<_}
+use Prim.Native.Nat.{ℕ, suc, _+_, _-_, _≤_, _<_}
 use native.Mathlib.Omega.{arith}
-use native.Mathlib.Nat.{mul-le-mul}
 use lib.Dec.{ltb, eqb}
 use lib.ListN.{length, take, drop, length-append, length-take, length-drop, take-append-drop}
 use lib.Seq.{drop-append-le}
@@ -25,35 +24,28 @@ use Rattle.instance.specs.Refusals.{bad-count, bad-length}
 use Rattle.instance.specs.Instance.{Instance}
 use Rattle.card_format.specs.Widths.{n-width, root-width, budget-width}
 use Rattle.card_format.specs.Card.{n-in, bits-needed, min-card, instance-of-bits, cells-refusal}
+use Rattle.card_format.proofs.LengthLaws.{most-bits, needed-most}
 use Rattle.card_format.proofs.TooLong.{too-long-refused, too-long-by-part}
 use Rattle.history_format.specs.RecordWidths.{marker-width, count-width}
 use Rattle.history_format.specs.HistoryCard.{is-history, behind-marker, behind-cells, count-in, max-history-card, behind-refusal, history-header-refusal, history-refusal, open-refusal}
 use Rattle.history_format.proofs.FirstBits.{field-front, instance-front}
 use Rattle.history_format.proofs.HeaderSteps.{History-header-known, history-header-known, history-rest, history-by-steps, history-opens}
-use Rattle.history_format.proofs.InnerCard.{old-are-bits}
+use Rattle.history_format.proofs.InnerCard.{behind-marker-bits}
 use Rattle.history_format.proofs.FirstRecords.{room, first-alike, records-refused, behind-front}
-
--- "36 + 22 times (n − 1) squared bits", at 32 positions
-abbrev most-bits : ℕ
-most-bits = 21178
-
-needed-most : (n : ℕ) → n ≤ max-vertices → bits-needed n ≤ most-bits
-unfolding bits-needed
-needed-most n h = let m : (n - 1) * (n - 1) ≤ 31 * 31 = mul-le-mul {n₂ = 31} {m₂ = 31} (omega arith) (omega arith) in omega arith
 
 -- WHAT IS LEFT of so many bytes
 module _ (vs : List ℕ) (h : max-history-card < length vs) where
   -- behind the six bits
-  old-long : most-bits + count-width + room max-records ≤ length (behind-marker vs)
-  old-long = rw (length-drop marker-width (bits-in vs)) (omega (arith, length-bits-in vs))
+  behind-marker-long : most-bits + count-width + room max-records ≤ length (behind-marker vs)
+  behind-marker-long = rw (length-drop marker-width (bits-in vs)) (omega (arith, length-bits-in vs))
 
   -- behind the cells
   behind-long : n-in (behind-marker vs) ≤ max-vertices → count-width + room max-records ≤ length (behind-cells vs)
   behind-long few =
-      rw (length-drop (bits-needed (n-in (behind-marker vs))) (behind-marker vs)) (omega (arith, old-long, needed-most (n-in (behind-marker vs)) few))
+      rw (length-drop (bits-needed (n-in (behind-marker vs))) (behind-marker vs)) (omega (arith, behind-marker-long, needed-most (n-in (behind-marker vs)) few))
 
   behind-are-bits : are-bits (behind-cells vs) ≡ true
-  behind-are-bits = all-of-drop (λ b. ltb b 2) (bits-needed (n-in (behind-marker vs))) (behind-marker vs) (old-are-bits vs)
+  behind-are-bits = all-of-drop (λ b. ltb b 2) (bits-needed (n-in (behind-marker vs))) (behind-marker vs) (behind-marker-bits vs)
 
   history-refused : history-refusal vs ≡ 0 → ⊥
   history-refused e =
@@ -79,18 +71,18 @@ module _ (ws vs zs : List ℕ) (e : bits-in ws ≡ bits-in vs ++ zs) (hw : max-h
   unfolding is-history
   kind-alike = rw (e, field-front 0 marker-width (bits-in vs) zs (omega (arith, length-bits-in vs)))
 
-  old-front : behind-marker ws ≡ behind-marker vs ++ zs
-  old-front = rw e (drop-append-le marker-width (bits-in vs) zs (omega (arith, length-bits-in vs)))
+  behind-marker-front : behind-marker ws ≡ behind-marker vs ++ zs
+  behind-marker-front = rw e (drop-append-le marker-width (bits-in vs) zs (omega (arith, length-bits-in vs)))
 
   n-front : n-in (behind-marker vs ++ zs) ≡ n-in (behind-marker vs)
-  n-front = field-front 0 n-width (behind-marker vs) zs (omega (arith, old-long vs hv))
+  n-front = field-front 0 n-width (behind-marker vs) zs (omega (arith, behind-marker-long vs hv))
 
   both-fit : eqb (n-in (behind-marker vs)) 0 || ltb max-vertices (n-in (behind-marker vs)) ≡ false →
       ltb (length (behind-marker vs ++ zs)) (bits-needed (n-in (behind-marker vs))) ≡ ltb (length (behind-marker vs)) (bits-needed (n-in (behind-marker vs)))
   both-fit q =
       let n = n-in (behind-marker vs) in
       let few = needed-most n (ltb-false max-vertices n (or-false-right (eqb n 0) (ltb max-vertices n) q)) in
-      let long = old-long vs hv in
+      let long = behind-marker-long vs hv in
       rw (le-ltb (length (behind-marker vs)) (bits-needed n) (omega arith)) (le-ltb (length (behind-marker vs ++ zs)) (bits-needed n) (omega (arith, length-append (behind-marker vs) zs)))
 
   header-alike : history-header-refusal ws 0 ≡ history-header-refusal vs 0
@@ -102,10 +94,10 @@ module _ (ws vs zs : List ℕ) (e : bits-in ws ≡ bits-in vs ++ zs) (hw : max-h
         le-ltb (length ws) min-card (omega arith),
         le-ltb (length vs) min-card (omega arith),
         kind-alike,
-        old-front,
+        behind-marker-front,
         n-front,
-        field-front n-width root-width bs zs (omega (arith, old-long vs hv)),
-        field-front (n-width + root-width) budget-width bs zs (omega (arith, old-long vs hv)),
+        field-front n-width root-width bs zs (omega (arith, behind-marker-long vs hv)),
+        field-front (n-width + root-width) budget-width bs zs (omega (arith, behind-marker-long vs hv)),
       )
       (chain (not (is-history vs)) (eqb n 0 || ltb max-vertices n) (ltb (length (bs ++ zs)) (bits-needed n)) (ltb (length bs) (bits-needed n)) _ both-fit)
 
@@ -114,8 +106,8 @@ module _ (ws vs zs : List ℕ) (e : bits-in ws ≡ bits-in vs ++ zs) (hw : max-h
   rest-alike h =
       let bs = behind-marker vs in
       let n = n-in bs in
-      let s : instance-of-bits (behind-marker ws) ≡ instance-of-bits bs = rw old-front (instance-front bs zs (omega (arith, old-long vs hv)) (omega (arith, h .end, h .fits))) in
-      let b : behind-cells ws ≡ behind-cells vs ++ zs = rw (old-front, n-front) (drop-append-le (bits-needed n) bs zs (h .fits)) in
+      let s : instance-of-bits (behind-marker ws) ≡ instance-of-bits bs = rw behind-marker-front (instance-front bs zs (omega (arith, behind-marker-long vs hv)) (omega (arith, h .end, h .fits))) in
+      let b : behind-cells ws ≡ behind-cells vs ++ zs = rw (behind-marker-front, n-front) (drop-append-le (bits-needed n) bs zs (h .fits)) in
       let r : behind-refusal (instance-of-bits bs) (behind-cells ws) ≡ behind-refusal (instance-of-bits bs) (behind-cells vs) =
       rw b (behind-front (instance-of-bits bs) (h .n-high) (behind-cells vs) zs (behind-are-bits vs hv) (behind-long vs hv (h .n-high))) in
       ap (λ (i : Instance). rest-of i (behind-cells ws)) s

@@ -1,17 +1,21 @@
--- "the longest is 5,174 bytes": no board's history card is longer, and there is one that is as long. Assumes nothing.
+-- "the longest is 5,174 bytes": no board's history card is longer, nor any that opens, and there is one that is as long
+-- and opens. Assumes nothing.
 --
 -- A record of a valid board has 101 bits at most, and there are 200 of them at most: with the six bits, those of an
 -- instance of 32 vertices and the count that is 41,392 bits, which is 5,174 bytes. There are so many where 200 records
 -- name every arc from the root. That card is not computed: its length is that of its parts.
 use mathlib.Core.Path.{_≡_, refl}
-use mathlib.Core.Bool.{true}
+use mathlib.Core.Bool.{true, false}
+use mathlib.Core.List.{List}
+use mathlib.Core.Logic.{⊎-elim}
 use Prim.Native.Nat.{ℕ, zero, suc, _*_, _-_, _/_, _%_, _≤_, _<_}
 use native.Mathlib.Omega.{arith}
-use native.Mathlib.Nat.{mul-le-mul}
+use lib.Dec.{ltb}
 use lib.ListN.{length, replicate, length-append, length-replicate, getD-replicate}
+use borrow.Author.Tests.{ltb-true, ltb-false}
 use Rattle.base.specs.Bounded.{all-below, any-below, sum-below, count-below}
 use Rattle.base.specs.Lists.{tabulate-from, tabulate}
-use Rattle.base.proofs.BoolLaws.{cond-true}
+use Rattle.base.proofs.BoolLaws.{test, cond-true}
 use Rattle.base.proofs.BoundedLaws.{all-intro}
 use Rattle.base.proofs.PartLaws.{all-of-replicate}
 use Rattle.instance.specs.Limits.{max-vertices, max-budget, max-weight, no-arc, free, max-records, cells}
@@ -19,23 +23,22 @@ use Rattle.instance.specs.Instance.{Instance, weight, can-be-arc, is-arc}
 use Rattle.instance.specs.Cuts.{inside}
 use Rattle.instance.specs.Valid.{cell-ok, cell-valid}
 use Rattle.card_format.specs.Card.{bits-needed}
+use Rattle.card_format.proofs.LengthLaws.{needed-most}
 use Rattle.commands.specs.Model.{Replaced, old-marks, Model}
 use Rattle.commands.specs.Valid.{head-ok, record-ok, valid}
 use Rattle.commands.proofs.ValidLaws.{valid-parts, parts-valid}
 use Rattle.history_format.specs.RecordBits.{record-bits}
-use Rattle.history_format.specs.HistoryCard.{max-history-card, records-bits, history-bytes, history-card-of}
+use Rattle.history_format.specs.HistoryCard.{max-history-card, history-refusal, records-bits, history-bytes, history-card-of}
 use Rattle.history_format.proofs.RecordFits.{Shaped}
 use Rattle.history_format.proofs.RecordLaws.{length-marks}
 use Rattle.history_format.proofs.RecordLength.{longest-valid}
 use Rattle.history_format.proofs.HistoryLaws.{All-shaped, records-short}
 use Rattle.history_format.proofs.HistoryBits.{length-history-bits, length-history-card}
+use Rattle.history_format.proofs.LongHistory.{long-refused}
+use Rattle.history_format.proofs.ModelAgain.{history-opens-again}
+use Rattle.history_format.proofs.Moves.{history-card-opens}
 
 -- NONE IS LONGER
--- "36 + 22 times (n − 1) squared bits", at 32 positions
-needed-most : (n : ℕ) → n ≤ max-vertices → bits-needed n ≤ 21178
-unfolding bits-needed
-needed-most n h = let q : (n - 1) * (n - 1) ≤ 31 * 31 = mul-le-mul {n₂ = 31} {m₂ = 31} (omega arith) (omega arith) in omega arith
-
 pub longest-history : (m : Model) → valid m ≡ true → length (history-card-of m) ≤ max-history-card
 unfolding history-bytes
 longest-history m e =
@@ -46,6 +49,12 @@ longest-history m e =
     let n = needed-most (m .instance .n) (v .n-high) in
     let w = length-history-card m in
     omega arith
+
+-- of any bytes: a history card that opens is not longer
+pub opened-history-short : (ws : List ℕ) → history-refusal ws ≡ 0 → length ws ≤ max-history-card
+opened-history-short ws e =
+    ⊎-elim (λ (q : ltb max-history-card (length ws) ≡ true). absurd (long-refused ws (ltb-true max-history-card (length ws) q) (history-card-opens ws e)))
+    (λ (q : ltb max-history-card (length ws) ≡ false). ltb-false max-history-card (length ws) q) (test (ltb max-history-card (length ws)))
 
 -- ONE IS AS LONG
 -- every arc from the root, free before
@@ -112,3 +121,7 @@ full-long =
       length-history-bits full-model (omega arith) (omega arith),
       repeated-long max-records all-heads heads-long,
     )
+
+-- and it opens
+pub full-opens : history-refusal (history-card-of full-model) ≡ 0
+full-opens = history-opens-again full-model full-valid full-shaped

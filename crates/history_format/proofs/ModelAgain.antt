@@ -1,8 +1,8 @@
 -- Every valid board, written as a history card and opened again, is the same board, records and all, and its card
 -- opens. One whose instance is as a card is read comes back exactly. Assumes nothing.
 --
--- Behind the six bits the card has the bits of the instance, as the old card of the instance has them. What is read of
--- them does not depend on what follows: so the instance that is read is that of the old card, whose laws are in
+-- Behind the six bits the card has the bits of the instance, as the plain card of the instance has them. What is read
+-- of them does not depend on what follows: so the instance that is read is that of the plain card, whose laws are in
 -- card_format. Behind it the count is read, then the records (HistoryLaws), and fewer than eight zeros are left.
 use mathlib.Core.Path.{_≡_, refl, sym, ap, _∙_}
 use mathlib.Core.Bool.{true, false, cond}
@@ -17,19 +17,18 @@ use borrow.Author.Tests.{le-ltb, lt-leb, ne-eqb}
 use Rattle.base.specs.Lists.{all-of}
 use Rattle.base.proofs.AllOfLaws.{all-of-eq}
 use Rattle.base.proofs.PartLaws.{all-of-replicate}
-use Rattle.bits.specs.Bits.{bits-of, bits-in}
-use Rattle.bits.proofs.NumberLaws.{length-bits-of, are-bits-append, zeros-are-bits}
-use Rattle.bits.proofs.ByteLaws.{bits-in-packed}
+use Rattle.bits.specs.Bits.{bits-of}
+use Rattle.bits.proofs.NumberLaws.{length-bits-of}
 use Rattle.bits.proofs.FieldLaws.{field-read}
 use Rattle.instance.specs.Limits.{max-vertices, max-budget, no-arc, free, max-records, cells}
 use Rattle.instance.specs.Instance.{Instance, weight-at, mark-at}
 use Rattle.instance.specs.Valid.{valid-instance}
 use Rattle.instance.specs.Same.{Same-instance}
 use Rattle.card_format.specs.Widths.{n-width, root-width}
-use Rattle.card_format.specs.Card.{n-in, root-in, budget-in, on-card, bits-needed, bytes-needed, min-card, instance-of-bits, instance-in, cells-refusal, instance-bits, filling-bits, card-of}
+use Rattle.card_format.specs.Card.{n-in, root-in, budget-in, on-card, bits-needed, min-card, instance-of-bits, instance-in, cells-refusal, instance-bits, filling-bits, card-of}
 use Rattle.card_format.proofs.LengthLaws.{length-known}
 use Rattle.card_format.proofs.OffsetLaws.{offset-end}
-use Rattle.card_format.proofs.WrittenBits.{length-instance-bits, instance-are-bits}
+use Rattle.card_format.proofs.WrittenBits.{length-instance-bits, card-bits-in}
 use Rattle.card_format.proofs.OpensLaws.{opens, marks-long}
 use Rattle.card_format.proofs.InstanceAgain.{written-opens, instance-round-trip, instance-back}
 use Rattle.commands.specs.Model.{Replaced, Model}
@@ -43,20 +42,11 @@ use Rattle.history_format.proofs.FirstBits.{field-front, instance-front
 use Rattle.history_format.proofs.HistoryLaws.{All-writable, All-shaped, all-writable, history-read, refusal-read}
 use Rattle.history_format.proofs.HistoryBits.{length-history-bits, history-filling, bytes-room, filling-short, length-history-card, written-bits-in, history-kind-again}
 
--- THE BITS OF AN INSTANCE, whatever follows them, are read as its old card is
+-- THE BITS OF AN INSTANCE, whatever follows them, are read as its plain card is
 module _ (s : Instance) (e : valid-instance s ≡ true) (few : s .n ≤ max-vertices) (inner : s .root < s .n) where
-  card-bits-in : bits-in (card-of s) ≡ instance-bits s ++ filling-bits (s .n)
-  unfolding card-of
-  card-bits-in =
-      let k = length-known (s .n) few in
-      let z = 8 * bytes-needed (s .n) - bits-needed (s .n) in
-      bits-in-packed (bytes-needed (s .n)) (instance-bits s ++ filling-bits (s .n))
-      (length-append (instance-bits s) (filling-bits (s .n)) ∙ omega (arith, length-instance-bits s few inner, length-replicate {A = ℕ} z 0, k .whole))
-      (are-bits-append (instance-bits s) (filling-bits (s .n)) (instance-are-bits s) (zeros-are-bits z))
-
   card-instance : instance-in (card-of s) ≡ instance-of-bits (instance-bits s ++ filling-bits (s .n))
   unfolding instance-in
-  card-instance = ap (λ (bs : List ℕ). instance-of-bits bs) card-bits-in
+  card-instance = ap (λ (bs : List ℕ). instance-of-bits bs) (card-bits-in s few inner)
 
   n-written : n-in (instance-bits s) ≡ s .n
   n-written =
@@ -126,11 +116,11 @@ module _ (m : Model) (e : valid m ≡ true) (shaped : All-shaped (m .history)) w
   abbrev rest : List ℕ
   rest = bits-of count-width (length h) ++ records
 
-  old-written : behind-marker ws ≡ instance-bits s ++ rest
-  old-written = rw (written-bits-in m) (drop-at (bits-of marker-width history-marker) (instance-bits s ++ rest) marker-width (length-bits-of marker-width history-marker))
+  behind-marker-written : behind-marker ws ≡ instance-bits s ++ rest
+  behind-marker-written = rw (written-bits-in m) (drop-at (bits-of marker-width history-marker) (instance-bits s ++ rest) marker-width (length-bits-of marker-width history-marker))
 
   instance-read : instance-of-bits (behind-marker ws) ≡ t
-  instance-read = ap (λ (bs : List ℕ). instance-of-bits bs) old-written ∙ instance-followed s s-valid (v .n-high) (v .root-below) rest
+  instance-read = ap (λ (bs : List ℕ). instance-of-bits bs) behind-marker-written ∙ instance-followed s s-valid (v .n-high) (v .root-below) rest
 
   n-read : n-in (behind-marker ws) ≡ s .n
   n-read = ap (λ (i : Instance). i .n) instance-read ∙ same .same-n
@@ -143,7 +133,7 @@ module _ (m : Model) (e : valid m ≡ true) (shaped : All-shaped (m .history)) w
 
   behind-written : behind-cells ws ≡ rest
   behind-written =
-      rw (n-read, old-written) (drop-at (instance-bits s) rest (bits-needed (s .n)) (length-instance-bits s (v .n-high) (v .root-below)))
+      rw (n-read, behind-marker-written) (drop-at (instance-bits s) rest (bits-needed (s .n)) (length-instance-bits s (v .n-high) (v .root-below)))
 
   count-read : count-in (behind-cells ws) ≡ length h
   count-read =
@@ -165,8 +155,8 @@ module _ (m : Model) (e : valid m ≡ true) (shaped : All-shaped (m .history)) w
       let k = length-known (s .n) (v .n-high) in
       omega (arith, length-history-card m, bytes-room m, length-history-bits m (v .n-high) (v .root-below), k .header)
 
-  old-long : bits-needed (s .n) ≤ length (behind-marker ws)
-  old-long = rw old-written (omega (arith, length-append (instance-bits s) rest, length-instance-bits s (v .n-high) (v .root-below)))
+  behind-marker-long : bits-needed (s .n) ≤ length (behind-marker ws)
+  behind-marker-long = rw behind-marker-written (omega (arith, length-append (instance-bits s) rest, length-instance-bits s (v .n-high) (v .root-below)))
 
   header-passes : (x : ℕ) → history-header-refusal ws x ≡ x
   unfolding history-header-refusal
@@ -181,7 +171,7 @@ module _ (m : Model) (e : valid m ≡ true) (shaped : All-shaped (m .history)) w
         budget-read,
         ne-eqb (s .n) 0 some,
         le-ltb max-vertices (s .n) (v .n-high),
-        le-ltb (length (behind-marker ws)) (bits-needed (s .n)) old-long,
+        le-ltb (length (behind-marker ws)) (bits-needed (s .n)) behind-marker-long,
         lt-leb (s .n) (s .root) (v .root-below),
         le-ltb max-budget (s .budget) (v .budget-most),
       )

@@ -1,9 +1,9 @@
 -- "A card moves old to new with no records, and new to old only without records; there and back gives the same bytes."
 -- Either kind of card opens as the same board as the other. Assumes nothing.
 --
--- An old card that opens moves to the history card of its board, which has no records; a history card with none moves
--- to the old card of its board's instance. What is written is read as the very board (ModelAgain), since the board came
--- off a card; and what was read is written as the very bytes (HistoryAgain, CardAgain of card_format).
+-- A plain card that opens moves to the history card of its board, which has no records; a history card with none moves
+-- to the plain card of its board's instance. What is written is read as the very board (ModelAgain), since the board
+-- came off a card; and what was read is written as the very bytes (HistoryAgain, CardAgain of card_format).
 use mathlib.Core.Path.{_≡_, refl, sym, ap, _∙_}
 use mathlib.Core.Bool.{true, false, cond}
 use mathlib.Core.List.{List, [], _∷_}
@@ -32,30 +32,30 @@ use Rattle.history_format.proofs.ModelAgain.{history-opens-again, model
 use Rattle.history_format.proofs.HistoryAgain.{history-card-round-trip, history-model-valid, history-model-as-read, card-as-read, model-of-history, model-of-card}
 
 -- THE KINDS APART
--- 63 is more than 32 positions
+-- 63 is more than 32 vertices
 pub card-not-history : (ws : List ℕ) → card-refusal ws ≡ 0 → is-history ws ≡ false
 unfolding is-history
 card-not-history ws e =
     let few = opens ws e .header .n-high in
     ne-eqb (n-in (bits-in ws)) history-marker (λ q. omega arith)
 
--- "Old cards still open", and new ones do
-pub old-still-opens : (ws : List ℕ) → card-refusal ws ≡ 0 → open-refusal ws ≡ 0
+-- "Old cards still open", and history cards do
+pub plain-card-opens : (ws : List ℕ) → card-refusal ws ≡ 0 → open-refusal ws ≡ 0
 unfolding open-refusal
-old-still-opens ws e = rw (card-not-history ws e) e
+plain-card-opens ws e = rw (card-not-history ws e) e
 
-pub new-opens : (ws : List ℕ) → history-refusal ws ≡ 0 → open-refusal ws ≡ 0
+pub history-card-opens : (ws : List ℕ) → history-refusal ws ≡ 0 → open-refusal ws ≡ 0
 unfolding open-refusal
-new-opens ws e = rw (history-opens ws e .header .kind) e
+history-card-opens ws e = rw (history-opens ws e .header .kind) e
 
 -- THE MOVES
-abbrev pub moved-new : (card : List ℕ) → List ℕ
-moved-new ws = history-card-of (opened (instance-in ws))
+abbrev pub as-history-card : (card : List ℕ) → List ℕ
+as-history-card ws = history-card-of (opened (instance-in ws))
 
-abbrev pub moved-old : (card : List ℕ) → List ℕ
-moved-old ws = card-of (history-model ws .instance)
+abbrev pub as-plain-card : (card : List ℕ) → List ℕ
+as-plain-card ws = card-of (history-model ws .instance)
 
--- OLD TO NEW
+-- PLAIN TO HISTORY
 module _ (ws : List ℕ) (e : card-refusal ws ≡ 0) where
   abbrev m : Model
   m = opened (instance-in ws)
@@ -63,27 +63,27 @@ module _ (ws : List ℕ) (e : card-refusal ws ≡ 0) where
   m-valid : valid m ≡ true
   m-valid = opened-valid (instance-in ws) (card-valid ws e)
 
-  no-records : history-model (moved-new ws) ≡ m
+  no-records : history-model (as-history-card ws) ≡ m
   unfolding opened
   no-records = model-back m m-valid tt (card-as-read ws)
 
-  moved-opens : history-refusal (moved-new ws) ≡ 0
+  moved-opens : history-refusal (as-history-card ws) ≡ 0
   unfolding opened
   moved-opens = history-opens-again m m-valid tt
 
-  moved-plain : to-plain-refusal (moved-new ws) ≡ 0
+  moved-plain : to-plain-refusal (as-history-card ws) ≡ 0
   unfolding to-plain-refusal opened
   moved-plain = rw (moved-opens, no-records)
 
-  pub same-board-new : model-in (moved-new ws) ≡ model-in ws
-  same-board-new =
-      model-of-history (moved-new ws) (history-kind-again m) ∙ no-records ∙ sym (model-of-card ws (card-not-history ws e))
+  pub same-board-history : model-in (as-history-card ws) ≡ model-in ws
+  same-board-history =
+      model-of-history (as-history-card ws) (history-kind-again m) ∙ no-records ∙ sym (model-of-card ws (card-not-history ws e))
 
-pub there-and-back-old : (ws : List ℕ) → are-bytes ws ≡ true → card-refusal ws ≡ 0 → (to-plain-refusal (moved-new ws) ≡ 0) × (moved-old (moved-new ws) ≡ ws)
+pub plain-there-and-back : (ws : List ℕ) → are-bytes ws ≡ true → card-refusal ws ≡ 0 → (to-plain-refusal (as-history-card ws) ≡ 0) × (as-plain-card (as-history-card ws) ≡ ws)
 unfolding opened
-there-and-back-old ws b e = (moved-plain ws e, ap (λ (x : Model). card-of (x .instance)) (no-records ws e) ∙ card-round-trip ws b e)
+plain-there-and-back ws b e = (moved-plain ws e, ap (λ (x : Model). card-of (x .instance)) (no-records ws e) ∙ card-round-trip ws b e)
 
--- NEW TO OLD
+-- HISTORY TO PLAIN
 -- a move that is not refused: the card opens, and there is no record
 none-left : (h : List Replaced) → cond (eqb (length h) 0) 0 has-records ≡ 0 → h ≡ []
 none-left [] e = refl
@@ -108,20 +108,20 @@ module _ (ws : List ℕ) (e : to-plain-refusal ws ≡ 0) where
   s-valid : valid-instance s ≡ true
   s-valid = valid-fields (history-model ws) (history-model-valid ws (plain-passed ws e .0))
 
-  old-opens : card-refusal (moved-old ws) ≡ 0
-  old-opens = written-opens s s-valid
+  plain-reopens : card-refusal (as-plain-card ws) ≡ 0
+  plain-reopens = written-opens s s-valid
 
-  instance-same : instance-in (moved-old ws) ≡ s
+  instance-same : instance-in (as-plain-card ws) ≡ s
   instance-same = let a = history-model-as-read ws in instance-back s s-valid (a .weights-long) (a .marks-long) (a .elsewhere)
 
-  board-same : opened (instance-in (moved-old ws)) ≡ history-model ws
+  board-same : opened (instance-in (as-plain-card ws)) ≡ history-model ws
   board-same = ap opened instance-same ∙ without (history-model ws) (plain-passed ws e .1)
 
-  pub same-board-old : model-in (moved-old ws) ≡ model-in ws
-  same-board-old =
-      model-of-card (moved-old ws) (card-not-history (moved-old ws) old-opens) ∙ board-same
+  pub same-board-plain : model-in (as-plain-card ws) ≡ model-in ws
+  same-board-plain =
+      model-of-card (as-plain-card ws) (card-not-history (as-plain-card ws) plain-reopens) ∙ board-same
       ∙ sym (model-of-history ws (history-opens ws (plain-passed ws e .0) .header .kind))
 
-pub there-and-back-new : (ws : List ℕ) → are-bytes ws ≡ true → to-plain-refusal ws ≡ 0 → (card-refusal (moved-old ws) ≡ 0) × (moved-new (moved-old ws) ≡ ws)
-there-and-back-new ws b e =
-    (old-opens ws e, ap history-card-of (board-same ws e) ∙ history-card-round-trip ws b (plain-passed ws e .0))
+pub history-there-and-back : (ws : List ℕ) → are-bytes ws ≡ true → to-plain-refusal ws ≡ 0 → (card-refusal (as-plain-card ws) ≡ 0) × (as-history-card (as-plain-card ws) ≡ ws)
+history-there-and-back ws b e =
+    (plain-reopens ws e, ap history-card-of (board-same ws e) ∙ history-card-round-trip ws b (plain-passed ws e .0))

@@ -19,7 +19,7 @@ use Rattle.commands.specs.Valid.{record-ok}
 use Rattle.history_format.specs.RecordBits.{member-marks, record-length, replaced-in, form-refusal, record-refusal, record-bits}
 use Rattle.history_format.specs.HistoryCard.{is-history, history-in, history-model, end-refusal, records-refusal, behind-refusal, history-header-refusal, history-refusal, open-refusal, to-plain-refusal, records-bits, history-bits, history-bytes, history-card-of}
 
--- ONE CARD: P9, whose budget was 7 until it was set, and whose link 0→1 was pinned until it was cleared after that. The
+-- ONE CARD: P9, whose budget was 7 until it was set, and whose arc 0→1 was pinned until it was cleared after that. The
 -- history has the latest first.
 unfoldable pub p9-model : Model
 p9-model = record { instance = p9; history = old-mark 0 1 pinned ∷ old-budget 7 ∷ [] }
@@ -51,9 +51,9 @@ unfolding
 p9-history-opens = refl
 
 -- "An old console refuses every new card by 2"
-pub p9-history-old-console : card-refusal p9-history-card ≡ bad-count
+pub p9-history-old-reader : card-refusal p9-history-card ≡ bad-count
 unfolding card-refusal header-refusal bits-in bits-of field number-from
-p9-history-old-console = refl
+p9-history-old-reader = refl
 
 -- REFUSALS, 0 for a card that opens
 abbrev card : (answer : ℕ) → (bytes : List ℕ) → Card
@@ -64,7 +64,7 @@ history-cards =
     -- "card under 5 bytes", whatever they say: no byte, and n = 1 in four
     card card-short []
     ∷ card card-short (0xfc ∷ 0x10 ∷ 0x00 ∷ 0x00 ∷ [])
-    -- "A move handed the other kind is 2": old cards, and six bits 62
+    -- "A move handed the other kind is 2": plain cards, and six bits 62
     ∷ card bad-count (0x04 ∷ 0x00 ∷ 0x00 ∷ 0x00 ∷ 0x00 ∷ [])
     ∷ card bad-count (0x08 ∷ 0x00 ∷ 0x00 ∷ 0x00 ∷ 0x50 ∷ 0x00 ∷ 0x05 ∷ 0x00 ∷ [])
     ∷ card bad-count (0xf8 ∷ 0x10 ∷ 0x00 ∷ 0x00 ∷ 0x00 ∷ 0x00 ∷ 0x00 ∷ [])
@@ -88,7 +88,7 @@ history-cards =
     ∷ card 0 (0xfc ∷ 0x10 ∷ 0x7b ∷ 0xff ∷ 0xf0 ∷ 0x80 ∷ 0x00 ∷ [])
     ∷ card bad-card-budget (0xfc ∷ 0x10 ∷ 0x7b ∷ 0xff ∷ 0xf0 ∷ 0xc0 ∷ 0x00 ∷ [])
     ∷ card bad-card-budget (0xfc ∷ 0x10 ∷ 0x7b ∷ 0xff ∷ 0xf0 ∷ 0xc0 ∷ [])
-    -- mark 3, and a marked no link; before the count is looked for, and before a count of 201
+    -- mark 3, and a mark where there is no arc; before the count is looked for, and before a count of 201
     ∷ card bad-mark (0xfc ∷ 0x20 ∷ 0x00 ∷ 0x00 ∷ 0x01 ∷ 0x40 ∷ 0x00 ∷ 0x17 ∷ 0x00 ∷ [])
     ∷ card bad-mark (0xfc ∷ 0x20 ∷ 0x00 ∷ 0x00 ∷ 0x01 ∷ 0x7f ∷ 0xff ∷ 0xfd ∷ 0x00 ∷ [])
     ∷ card bad-mark (0xfc ∷ 0x20 ∷ 0x00 ∷ 0x00 ∷ 0x01 ∷ 0x40 ∷ 0x00 ∷ 0x17 ∷ [])
@@ -98,13 +98,13 @@ history-cards =
     ∷ card bad-record (0xfc ∷ 0x10 ∷ 0x00 ∷ 0x00 ∷ 0x00 ∷ 0x3f ∷ 0xc0 ∷ [])
     ∷ card bad-record (0xfc ∷ 0x10 ∷ 0x00 ∷ 0x00 ∷ 0x00 ∷ 0x32 ∷ 0x40 ∷ 0x00 ∷ [])
     ∷ card bad-length (0xfc ∷ 0x10 ∷ 0x00 ∷ 0x00 ∷ 0x00 ∷ 0x32 ∷ 0x00 ∷ [])
-    -- "3 where it runs past the end": the record of a link and that of a budget, whole and a byte shorter; one of two
+    -- "3 where it runs past the end": the record of an arc and that of a budget, whole and a byte shorter; one of two
     ∷ card 0 (0xfc ∷ 0x20 ∷ 0x00 ∷ 0x00 ∷ 0x01 ∷ 0x40 ∷ 0x00 ∷ 0x14 ∷ 0x01 ∷ 0x00 ∷ 0x14 ∷ [])
     ∷ card bad-length (0xfc ∷ 0x20 ∷ 0x00 ∷ 0x00 ∷ 0x01 ∷ 0x40 ∷ 0x00 ∷ 0x14 ∷ 0x01 ∷ 0x00 ∷ [])
     ∷ card 0 (0xfc ∷ 0x20 ∷ 0x00 ∷ 0x00 ∷ 0x01 ∷ 0x40 ∷ 0x00 ∷ 0x14 ∷ 0x01 ∷ 0x40 ∷ 0x00 ∷ 0x00 ∷ 0xe0 ∷ [])
     ∷ card bad-length (0xfc ∷ 0x20 ∷ 0x00 ∷ 0x00 ∷ 0x01 ∷ 0x40 ∷ 0x00 ∷ 0x14 ∷ 0x01 ∷ 0x40 ∷ 0x00 ∷ 0x00 ∷ [])
     ∷ card bad-length (0xfc ∷ 0x20 ∷ 0x00 ∷ 0x00 ∷ 0x01 ∷ 0x40 ∷ 0x00 ∷ 0x14 ∷ 0x02 ∷ 0x40 ∷ 0x00 ∷ 0x00 ∷ 0xe0 ∷ [])
-    -- "each whole record in turn": 1→0, which is no link, before a second record that runs past the end, and before
+    -- "each whole record in turn": 1→0, which is no arc, before a second record that runs past the end, and before
     -- whole bytes that remain; mark 3 behind a budget that passes; "kind 3 (two bits long)"
     ∷ card bad-record (0xfc ∷ 0x20 ∷ 0x00 ∷ 0x00 ∷ 0x01 ∷ 0x40 ∷ 0x00 ∷ 0x14 ∷ 0x02 ∷ 0x02 ∷ 0x00 ∷ [])
     ∷ card bad-record (0xfc ∷ 0x20 ∷ 0x00 ∷ 0x00 ∷ 0x01 ∷ 0x40 ∷ 0x00 ∷ 0x14 ∷ 0x01 ∷ 0x02 ∷ 0x00 ∷ 0x00 ∷ [])
@@ -130,7 +130,7 @@ unfolding
     count-below sum-below inside
 history-refusals = refl
 
--- BOTH KINDS: "A card moves old to new with no records"; "Old cards still open", and new ones do
+-- BOTH KINDS: "A card moves old to new with no records"; "Old cards still open", and history cards do
 pub p9-moved : history-card-of (opened p9) ≡ (0xfc ∷ 0x20 ∷ 0x00 ∷ 0x00 ∷ 0x01 ∷ 0x40 ∷ 0x00 ∷ 0x14 ∷ 0x00 ∷ [])
 unfolding
     opened p9 history-card-of history-bytes history-bits records-bits record-bits packed instance-bits cell-bits on-card can-be-arc bits-of number-from
@@ -143,10 +143,10 @@ unfolding
     bits-in bits-of field number-from bits-needed all-of count-below sum-below inside
 p9-both-open = refl
 
--- MOVES to an old card, 0 for one that is made: "new to old only without records"
+-- MOVES to a plain card, 0 for one that is made: "new to old only without records"
 unfoldable pub moved-cards : List Card
 moved-cards =
-    -- no record; an old card; two records
+    -- no record; a plain card; two records
     card 0 (0xfc ∷ 0x20 ∷ 0x00 ∷ 0x00 ∷ 0x01 ∷ 0x40 ∷ 0x00 ∷ 0x14 ∷ 0x00 ∷ [])
     ∷ card bad-count p9-card
     ∷ card has-records p9-history-card

@@ -8,7 +8,7 @@ use Rattle.base.specs.Bounded.{all-below, any-below, sum-below, count-below}
 use Rattle.base.specs.Lists.{tabulate-from, tabulate, all-of}
 use Rattle.bits.specs.Bits.{bits-of, number-from, field}
 use Rattle.instance.specs.Refusals.{bad-length, bad-filling, bad-record}
-use Rattle.instance.specs.Instance.{Instance, weight, can-be-arc, is-arc}
+use Rattle.instance.specs.Instance.{weight, can-be-arc, is-arc}
 use Rattle.instance.specs.Cuts.{inside}
 use Rattle.instance.proofs.WorkedCases.{filled, instance-from, instance-q}
 use Rattle.commands.specs.Model.{Replaced, old-mark, old-marks, old-budget}
@@ -17,7 +17,7 @@ use Rattle.history_format.specs.RecordBits.{member-marks, record-length,
 use Rattle.history_format.specs.HistoryCard.{history-in, end-refusal, records-refusal, records-bits}
 
 -- ONE OF EACH KIND
-pub record Written : Type 0 where
+pub record Written-case : Type 0 where
   pub replaced : Replaced
   pub bits : List ℕ
 
@@ -25,7 +25,7 @@ pub record Written : Type 0 where
 abbrev marks-at : (one three : ℕ) → List ℕ
 marks-at a b = 0 ∷ a ∷ 0 ∷ b ∷ replicate 28 0
 
-unfoldable pub written : List Written
+unfoldable pub written : List Written-case
 written =
     -- "0 a link (feeder 5, fed 5, replaced mark 2)": 2→5, pinned
     record { replaced = old-mark 2 5 1; bits = 0 ∷ 0 ∷ 0 ∷ 0 ∷ 0 ∷ 1 ∷ 0 ∷ 0 ∷ 0 ∷ 1 ∷ 0 ∷ 1 ∷ 0 ∷ 1 ∷ [] } ∷

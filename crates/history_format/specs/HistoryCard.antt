@@ -1,5 +1,5 @@
--- The history card (02, A8: a new card; an old card is a plain card here): layout, refusals, reading and writing. Assumes
--- nothing: these are definitions.
+-- The history card (02, A8: a new card; an old card is a plain card here): layout, refusals, reading and writing.
+-- Assumes nothing: these are definitions.
 use mathlib.Core.Bool.{Bool, _||_, not, cond}
 use mathlib.Core.List.{List, [], _∷_, _++_}
 use Prim.Native.Nat.{ℕ, zero, suc, _+_, _*_, _-_, _/_}
@@ -25,7 +25,7 @@ is-history ws = eqb (field 0 marker-width (bits-in ws)) history-marker
 abbrev pub behind-marker : (card : List ℕ) → List ℕ
 behind-marker ws = drop marker-width (bits-in ws)
 
--- "then an 8-bit count of recorded presses, then the records": what follows the bits of the old card
+-- "then an 8-bit count of recorded presses, then the records": what follows the bits of the plain card
 abbrev pub behind-cells : (card : List ℕ) → List ℕ
 behind-cells ws = drop (bits-needed (n-in (behind-marker ws))) (behind-marker ws)
 
@@ -94,7 +94,8 @@ open-refusal ws = cond (is-history ws) (history-refusal ws) (card-refusal ws)
 unfoldable pub model-in : (card : List ℕ) → Model
 model-in ws = cond (is-history ws) (history-model ws) (opened (instance-in ws))
 
--- the move of a history card to a plain one: "new to old only without records"; "after these, 28 for a move to old with records"
+-- the move of a history card to a plain one: "new to old only without records"; "after these, 28 for a move to old with
+-- records"
 unfoldable pub to-plain-refusal : (card : List ℕ) → ℕ
 to-plain-refusal ws = cond (eqb (history-refusal ws) 0) (cond (eqb (length (history-model ws .history)) 0) 0 has-records) (history-refusal ws)
 

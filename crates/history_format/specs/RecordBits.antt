@@ -1,5 +1,5 @@
--- One record on a card (02, A8): its length, what it says, its refusals, and the bits it is written as. A record is read
--- from the bits that begin with it. Assumes nothing: these are definitions.
+-- One record on a card (02, A8): its length, what it says, its refusals, and the bits it is written as. A record is
+-- read from the bits that begin with it. Assumes nothing: these are definitions.
 use mathlib.Core.Bool.{cond}
 use mathlib.Core.List.{List, [], _++_}
 use Prim.Native.Nat.{ℕ, zero, suc, _+_, _*_}
@@ -26,7 +26,7 @@ kind-in bs = field 0 kind-width bs
 abbrev pub tail-in : (bits : List ℕ) → ℕ
 tail-in bs = field kind-width vertex-width bs
 
--- "set 32", the most significant bit first as every field: bit h for position h
+-- "set 32", the most significant bit first as every field: bit h for head h
 abbrev pub heads-in : (bits : List ℕ) → ℕ
 heads-in bs = field head-start heads-width bs
 
@@ -38,9 +38,9 @@ mark-offset c h = mark-width * count-below h (inside c)
 unfoldable pub member-marks : (heads : ℕ) → (bits : List ℕ) → List ℕ
 member-marks c bs = tabulate max-vertices (λ h. cond (inside c h) (field (marks-start + mark-offset c h) mark-width bs) free)
 
--- How many bits the record has: of a group by every member of the set, whether or not there is such a link; "kind 3
+-- How many bits the record has: of several arcs by every head of the set, whether or not there is such an arc; "kind 3
 -- (two bits long)". Where there are not so many bits, the record "runs past the end": where there is no whole kind too,
--- since what there is of it is 0 or 1 then, and no record is shorter than a kind (`record-length-least`).
+-- since no record is shorter than a kind (`record-length-least`).
 unfoldable pub record-length : (bits : List ℕ) → ℕ
 record-length bs =
     cond (eqb (kind-in bs) 0) mark-record-width

@@ -3,7 +3,7 @@
 use Prim.Native.Nat.{ℕ, _+_}
 use Rattle.card_format.specs.Widths.{n-width, budget-width, mark-width}
 
--- "A new card starts with six bits 63": as wide as the field of the positions, which an old console reads there
+-- "A new card starts with six bits 63": as wide as the field of n, which an old reader reads there
 abbrev pub marker-width : ℕ
 marker-width = n-width
 

@@ -93,7 +93,7 @@ overcharged = 24
 abbrev pub wrong-values : ℕ
 wrong-values = 25
 
--- new cards (02, A8): opening gives "no board" after 27; a move leaves the buffer as it was after both
+-- history cards (02, A8: new cards): opening gives "no board" after 27; a move leaves the buffer as it was after both
 
 -- "27 for a count above 200, kind 3 (two bits long), or a record naming a non-link, an empty group or a value out of
 -- range"; A9: "27 use the new limits"

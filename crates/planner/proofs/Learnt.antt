@@ -13,7 +13,8 @@ use Rattle.board.specs.declared.Board.{Board}
 use Rattle.board.specs.declared.Answered.{Answered}
 use Rattle.planner.specs.declared.View.{View}
 use Rattle.planner.specs.Opening.{opened-from}
-use Rattle.planner.specs.Writing.{Writes}
+use Rattle.planner.specs.Writing.{Writes, Writes-history}
+use Rattle.planner.specs.Moving.{Moves-to-history, Moves-to-plain}
 use Rattle.planner.specs.Looking.{Buffers, buffers, Looks}
 use Rattle.planner.specs.Checking.{Checks}
 use Rattle.planner.specs.Replaying.{Replays}
@@ -23,6 +24,12 @@ use Rattle.planner.proofs.looking.look.Reads as look-reads
 use Rattle.planner.proofs.looking.look.Kinds as look-kinds
 use Rattle.planner.proofs.writing.write_card.Reads as write-reads
 use Rattle.planner.proofs.writing.write_card.Kinds as write-kinds
+use Rattle.planner.proofs.writing.write_history_card.Reads as write-history-reads
+use Rattle.planner.proofs.writing.write_history_card.Kinds as write-history-kinds
+use Rattle.planner.proofs.moving.to_history_card.Reads as to-history-reads
+use Rattle.planner.proofs.moving.to_history_card.Kinds as to-history-kinds
+use Rattle.planner.proofs.moving.to_plain_card.Reads as to-plain-reads
+use Rattle.planner.proofs.moving.to_plain_card.Kinds as to-plain-kinds
 use Rattle.planner.proofs.checking.check_plan.Reads as check-reads
 use Rattle.planner.proofs.checking.check_plan.Kinds as check-kinds
 use Rattle.planner.proofs.replaying.replay.Reads as replay-reads
@@ -43,6 +50,21 @@ pub data Wrote : Board → (out out′ : List ℕ) → Written → Type 0 where
       (κs : Lfts 1) (a : Dens κs write-kinds.ps) (r : Written) (e : AtExit (endedOf 1 write-kinds.ps write-kinds.r) κs) → write-reads.Learnt κs a r e →
       Wrote (a .0) (now (a .1 .0)) (now (e .1 .0)) r
 
+pub data Wrote-history : Board → (out out′ : List ℕ) → Written → Type 0 where
+  by-write-history :
+      (κs : Lfts 1) (a : Dens κs write-history-kinds.ps) (r : Written) (e : AtExit (endedOf 1 write-history-kinds.ps write-history-kinds.r) κs) →
+      write-history-reads.Learnt κs a r e → Wrote-history (a .0) (now (a .1 .0)) (now (e .1 .0)) r
+
+pub data Moved-to-history : (card out out′ : List ℕ) → Written → Type 0 where
+  by-to-history :
+      (κs : Lfts 2) (a : Dens κs to-history-kinds.ps) (r : Written) (e : AtExit (endedOf 2 to-history-kinds.ps to-history-kinds.r) κs) →
+      to-history-reads.Learnt κs a r e → Moved-to-history (now (a .0)) (now (a .1 .0)) (now (e .1 .0)) r
+
+pub data Moved-to-plain : (card out out′ : List ℕ) → Written → Type 0 where
+  by-to-plain :
+      (κs : Lfts 2) (a : Dens κs to-plain-kinds.ps) (r : Written) (e : AtExit (endedOf 2 to-plain-kinds.ps to-plain-kinds.r) κs) →
+      to-plain-reads.Learnt κs a r e → Moved-to-plain (now (a .0)) (now (a .1 .0)) (now (e .1 .0)) r
+
 pub opened-by : {ws : List ℕ} {o : Answered} → Opened-by ws o → o ≡ opened-from ws
 opened-by (by-open κs a o e l) = l
 
@@ -51,6 +73,15 @@ looked (by-look κs a v e l) = l
 
 pub wrote : {b : Board} {r : Written} {out out′ : List ℕ} → Wrote b out out′ r → Writes b out out′ r
 wrote (by-write κs a r e l) = l
+
+pub wrote-history : {b : Board} {r : Written} {out out′ : List ℕ} → Wrote-history b out out′ r → Writes-history b out out′ r
+wrote-history (by-write-history κs a r e l) = l
+
+pub moved-to-history : {ws out out′ : List ℕ} {r : Written} → Moved-to-history ws out out′ r → Moves-to-history ws out out′ r
+moved-to-history (by-to-history κs a r e l) = l
+
+pub moved-to-plain : {ws out out′ : List ℕ} {r : Written} → Moved-to-plain ws out out′ r → Moves-to-plain ws out out′ r
+moved-to-plain (by-to-plain κs a r e l) = l
 
 pub data Checked : Board → (ps ps′ : List ℕ) → (total count : ℕ) → (ws ws′ : List ℕ) → (answer : ℕ) → Type 0 where
   by-check :

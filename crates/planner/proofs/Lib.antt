@@ -2,6 +2,7 @@
 pub mod OpeningLaws
 pub mod MovingLaws
 pub mod WritingLaws
+pub mod OrderLaws
 pub mod LookingLaws
 pub mod CallKinds
 pub mod CallSteps

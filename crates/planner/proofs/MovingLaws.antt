@@ -16,7 +16,7 @@ use Rattle.commands.specs.Model.{Model, opened}
 use Rattle.commands.specs.Valid.{valid}
 use Rattle.commands.proofs.ValidLaws.{opened-valid}
 use Rattle.board.specs.ModelOf.{model-of, instance-of}
-use Rattle.board.specs.Create.{board-of, answered-with, opened-as}
+use Rattle.board.specs.Create.{board-of}
 use Rattle.board.specs.declared.Answered.{Answered}
 use Rattle.history_format.specs.HistoryCard.{history-refusal, history-model, to-plain-refusal}
 use Rattle.history_format.proofs.HistoryAgain.{history-model-valid, history-model-shaped}
@@ -27,7 +27,7 @@ use Rattle.planner.specs.Opening.{plain-opened}
 use Rattle.planner.specs.Moving.{not-moved, Moves-to-history, Moves-to-plain}
 use Rattle.planner.proofs.OpeningLaws.{answer-by, board-by}
 
--- OLD TO NEW
+-- PLAIN TO HISTORY
 module _ (ws out : List ℕ) (o : Answered) (e : o ≡ plain-opened ws) where
   plain-answer : o .answer ≡ card-refusal ws
   unfolding plain-opened
@@ -60,7 +60,7 @@ module _ (ws out : List ℕ) (o : Answered) (e : o ≡ plain-opened ws) where
         let t = eq-eqb (card-refusal ws) 0 opens in
         record { result = rw t (v .result); buffer = rw t (v .buffer) }
 
--- NEW TO OLD
+-- HISTORY TO PLAIN
 module _ (ws out : List ℕ) (o : Answered) (e : o ≡ history-opened ws) where
   history-answer : o .answer ≡ history-refusal ws
   unfolding history-opened

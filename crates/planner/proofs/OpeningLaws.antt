@@ -3,8 +3,10 @@ use mathlib.Core.Path.{_≡_, refl, sym, ap, _∙_, subst}
 use mathlib.Core.Bool.{Bool, true, false, cond}
 use mathlib.Core.List.{List}
 use Prim.Native.Nat.{ℕ}
+use native.Mathlib.Omega.{arith}
 use lib.Dec.{eqb}
 use borrow.Author.Tests.{eq-eqb, ne-eqb, eqb-true}
+use Rattle.instance.specs.Refusals.{bad-count}
 use Rattle.card_format.specs.Card.{card-refusal, instance-in}
 use Rattle.card.specs.Read.{contents-of, contents-with, no-contents}
 use Rattle.card.specs.declared.read.Contents.{Contents}
@@ -16,8 +18,9 @@ use Rattle.board.specs.ModelOf.{model-of, instance-of}
 use Rattle.board.specs.Create.{board-with, blank, stored, board-of, answered-with, opened-as}
 use Rattle.board.specs.declared.Board.{Board}
 use Rattle.board.specs.declared.Answered.{Answered}
-use Rattle.history_format.specs.HistoryCard.{is-history, open-refusal, model-in, history-refusal, history-model}
+use Rattle.history_format.specs.HistoryCard.{is-history, open-refusal, model-in, history-refusal}
 use Rattle.history_format.proofs.HistoryAgain.{model-in-valid, model-in-shaped, model-in-long}
+use Rattle.history_format.proofs.OldReader.{old-reader-refuses}
 use Rattle.history_card.specs.Open.{history-opened}
 use Rattle.history_card.proofs.BoardOfLaws.{model-of-board}
 use Rattle.planner.specs.Opening.{plain-opened, opened-from}
@@ -45,9 +48,17 @@ pub kind-opened : (ws : List ℕ) → is-history ws ≡ true → history-opened 
 unfolding history-opened opened-from open-refusal model-in
 kind-opened ws e = rw e
 
+-- whatever does not begin with the six bits 63 is opened as before, or refused as before
 pub kind-plain : (ws : List ℕ) → is-history ws ≡ false → plain-opened ws ≡ opened-from ws
 unfolding plain-opened opened-from open-refusal model-in
 kind-plain ws e = rw e
+
+-- an old reader has `plain-opened` for its contract: "An old console refuses every new card by 2", with no board
+pub old-reader-opens-none : (ws : List ℕ) → history-refusal ws ≡ 0 → plain-opened ws ≡ answered-with bad-count blank
+unfolding plain-opened
+old-reader-opens-none ws e =
+    let r = old-reader-refuses ws e in
+    blank-by (card-refusal ws) (opened (instance-in ws)) (λ z. omega arith) ∙ ap (λ (k : ℕ). answered-with k blank) r
 
 -- WHAT IS OPENED
 -- the answer is the card's refusal
@@ -83,7 +94,7 @@ opened-starts ws o e z =
       same-n = ap (λ (x : Model). x .instance .n) m;
     }
 
--- WHAT AN OLD CARD SAYS
+-- WHAT A PLAIN CARD SAYS
 -- contents with the refusal they come with
 refusal-said : (ws : List ℕ) → contents-of ws .answer ≡ card-refusal ws
 unfolding contents-of no-contents

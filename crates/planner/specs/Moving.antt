@@ -16,13 +16,13 @@ use Rattle.history_card.specs.Write.{history-written-to, history-buffer-after}
 abbrev pub not-moved : (answer : ℕ) → Written
 not-moved k = record { answer = k; length = 0 }
 
--- old to new: the old card's own refusals, which give 2 to every new card (`old-console`): "A move handed the other
--- kind is 2"; "then 14"
+-- plain to history: the plain card's own refusals, which give 2 to every history card (`old-reader`): "A move handed
+-- the other kind is 2"; "then 14"
 pub record Moves-to-history (ws out out′ : List ℕ) (r : Written) : Type 0 where
   pub result : r ≡ cond (eqb (card-refusal ws) 0) (history-written-to (opened (instance-in ws)) out) (not-moved (card-refusal ws))
   pub buffer : out′ ≡ cond (eqb (card-refusal ws) 0) (history-buffer-after (opened (instance-in ws)) out) out
 
--- new to old: the refusals of a new card, "after these, 28 for a move to old with records, then 14"
+-- history to plain: the refusals of a history card, "after these, 28 for a move to old with records, then 14"
 pub record Moves-to-plain (ws out out′ : List ℕ) (r : Written) : Type 0 where
   pub result : r ≡ cond (eqb (to-plain-refusal ws) 0) (written-to (history-model ws .instance) out) (not-moved (to-plain-refusal ws))
   pub buffer : out′ ≡ cond (eqb (to-plain-refusal ws) 0) (buffer-after (history-model ws .instance) out) out

@@ -7,7 +7,7 @@ use Rattle.board.specs.Create.{opened-as}
 use Rattle.board.specs.declared.Answered.{Answered}
 use Rattle.history_format.specs.HistoryCard.{open-refusal, model-in}
 
--- Every card opens as a board or gets one of its refusals, and "no board", the blank one. An old card: "A board opened
+-- Every card opens as a board or gets one of its refusals, and "no board", the blank one. A plain card: "A board opened
 -- from a card has that card's marks and budget and no recorded press."
 unfoldable pub plain-opened : (card : List ℕ) → Answered
 plain-opened ws = opened-as (card-refusal ws) (opened (instance-in ws))

@@ -18,7 +18,7 @@ use Rattle.card_format.proofs.InstanceAgain.{written-opens, instance-back}
 use Rattle.commands.specs.Model.{Model, opened}
 use Rattle.history_format.specs.HistoryCard.{open-refusal, model-in}
 use Rattle.history_format.proofs.HistoryAgain.{model-of-card}
-use Rattle.history_format.proofs.Moves.{card-not-history, old-still-opens}
+use Rattle.history_format.proofs.Moves.{card-not-history, plain-card-opens}
 use Rattle.survey.specs.Survey.{Parents-by}
 use Rattle.report_text.specs.Whole.{report-text, max-text}
 use Rattle.report_text.proofs.LongestText.{star, star-cell, star-parents, star-valid, star-only, star-outcome, longest}
@@ -55,5 +55,5 @@ printed old new next x =
 pub longest-printed : (old new : List ℕ) (r : Reported) → max-text ≤ length old → Reports (card-of star) old new r → r .length ≡ max-text
 unfolding Reports Reports-by
 longest-printed old new r h x =
-    let shown = rw (le-ltb (length old) max-text h, eq-eqb (open-refusal (card-of star)) 0 (old-still-opens (card-of star) (written-opens star star-valid))) at x in
+    let shown = rw (le-ltb (length old) max-text h, eq-eqb (open-refusal (card-of star)) 0 (plain-card-opens (card-of star) (written-opens star star-valid))) at x in
     printed old new (r .length) (subst (λ (s : Instance). Reports-instance s old new (r .length)) star-model (shown .reports))

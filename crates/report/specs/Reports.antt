@@ -27,7 +27,7 @@ pub record Refuses (old new : List ℕ) (r : Reported) : Type 0 where
   pub result : r ≡ record { answer = buffer-short; length = 0 }
   pub buffer : new ≡ old
 
--- 1 to 5, 7, 8, and 27 of a card with records (02, A8): "A refused card prints one line only, as 'refused 3'."
+-- 1 to 5, 7, 8, and 27 of a history card (02, A8): "A refused card prints one line only, as 'refused 3'."
 pub record Reports-refusal (card old new : List ℕ) (r : Reported) : Type 0 where
   pub answer : r .answer ≡ open-refusal card
   pub text : Filled (refused-text (open-refusal card)) old new (r .length)

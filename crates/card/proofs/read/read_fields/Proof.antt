@@ -1,6 +1,6 @@
 -- `read_fields` meets its contract: a field behind the start is one of the bits without those before it. Assumes
 -- nothing.
-use mathlib.Core.Path.{_≡_, _∙_, sym}
+use mathlib.Core.Path.{_∙_, sym}
 use Prim.Native.Nat.{_+_}
 use borrow.Author.Tests.{lt-ltb, le-ltb, le-leb, lt-leb}
 use borrow.Author.Needs.{needs}

@@ -1,12 +1,11 @@
 -- `read_marks` has read the marks of the heads below `head`; each stands behind those of the members below it. Assumes
 -- nothing.
-use mathlib.Core.Path.{_≡_, refl, sym, ap, _∙_}
+use mathlib.Core.Path.{_≡_, sym, _∙_}
 use mathlib.Core.Bool.{Bool, true, false, cond}
 use mathlib.Core.List.{List}
 use mathlib.Core.Logic.{⊎-elim}
-use Prim.Native.Nat.{ℕ, suc, _+_, _-_, _≤_, _<_}
+use Prim.Native.Nat.{ℕ, _+_, _-_, _≤_, _<_}
 use native.Mathlib.Omega.{arith}
-use native.Mathlib.Numerals.{add-one}
 use Rattle.base.specs.Digits.{from-digits}
 use Rattle.base.proofs.DigitLaws.{digits-none}
 use Rattle.bits.specs.Bits.{bits-in, field}
@@ -16,7 +15,7 @@ use Rattle.instance.specs.Limits.{max-vertices, free}
 use Rattle.instance.specs.Cuts.{inside}
 use Rattle.card_format.specs.Widths.{mark-width}
 use Rattle.history_format.specs.RecordBits.{mark-offset}
-use Rattle.history_format.proofs.MemberMarks.{offset-none, offset-more, offset-most}
+use Rattle.history_format.proofs.MemberMarks.{offset-none, offset-most}
 use Rattle.heads.proofs.LoopLaws.{mark-fits, mark-more, mark-skip}
 use Rattle.history_card.proofs.PutLaws.{offset-in, offset-out, offset-rises}
 use borrow.Author.Needs.{needs}

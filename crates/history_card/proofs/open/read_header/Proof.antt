@@ -1,20 +1,19 @@
 -- `read_header` meets its contract: each return is the case of `history-header-of` that the tests before it leave.
 -- Assumes nothing.
-use mathlib.Core.Path.{_≡_, _∙_, sym}
-use Prim.Native.Nat.{_+_, _*_, _≤_}
+use mathlib.Core.Path.{_∙_, sym}
+use Prim.Native.Nat.{_+_, _*_}
 use native.Mathlib.Omega.{arith}
-use lib.ListN.{length, length-drop}
+use lib.ListN.{length}
 use borrow.Author.Tests.{lt-ltb, le-ltb, ltb-false, eq-eqb, ne-eqb, not-true, not-false}
 use Rattle.bits.specs.Bits.{bits-in}
-use Rattle.bits.proofs.ByteLaws.{length-bits-in}
 use Rattle.bits.proofs.FieldLaws.{field-drop}
-use Rattle.card_format.specs.Widths.{n-width, header-width}
-use Rattle.card_format.specs.Card.{n-in, bits-needed}
+use Rattle.card_format.specs.Widths.{n-width}
+use Rattle.card_format.specs.Card.{bits-needed}
 use Rattle.card_format.proofs.LengthLaws.{length-known}
 use Rattle.history_format.specs.RecordWidths.{marker-width}
-use Rattle.history_format.specs.HistoryCard.{is-history, behind-marker, history-header-refusal}
+use Rattle.history_format.specs.HistoryCard.{history-header-refusal}
 use Rattle.history_card.specs.Open.{history-header-of}
-use Rattle.history_card.proofs.RecordReadLaws.{short-here, whole-here}
+use Rattle.history_card.proofs.RecordLaws.{short-here, whole-here}
 use Rattle.history_card.proofs.OpenLaws.{fields-last}
 use borrow.Author.Needs.{needs}
 use Rattle.history_card.proofs.open.read_header.Statement.{statement}

@@ -11,7 +11,7 @@ use Rattle.bits.proofs.FieldLaws.{field-drop}
 use Rattle.history_format.specs.RecordWidths.{kind-width}
 use Rattle.history_format.specs.RecordBits.{kind-in}
 use Rattle.history_format.proofs.RecordLength.{record-length-least}
-use Rattle.history_card.proofs.RecordReadLaws.{whole-here, past-read, three-read}
+use Rattle.history_card.proofs.RecordLaws.{whole-here, past-read, three-read}
 use borrow.Author.Needs.{needs}
 use Rattle.history_card.proofs.record.read_any_record.Statement.{statement}
 use Rattle.history_card.proofs.record.read_any_record.Tie as tie

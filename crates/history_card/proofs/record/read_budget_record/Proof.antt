@@ -6,7 +6,7 @@ use lib.ListN.{length}
 use borrow.Author.Tests.{ltb-false}
 use Rattle.history_format.specs.RecordWidths.{budget-record-width}
 use Rattle.history_format.proofs.RecordLaws.{read-budget-length}
-use Rattle.history_card.proofs.RecordReadLaws.{past-read, budget-read}
+use Rattle.history_card.proofs.RecordLaws.{past-read, budget-read}
 use borrow.Author.Needs.{needs}
 use Rattle.history_card.proofs.record.read_budget_record.Statement.{statement}
 use Rattle.history_card.proofs.record.read_budget_record.Tie as tie

@@ -10,7 +10,7 @@ use Rattle.bits.proofs.FieldLaws.{field-below}
 use Rattle.card_format.specs.Widths.{mark-width}
 use Rattle.history_format.specs.RecordWidths.{kind-width, vertex-width, head-start, mark-start, mark-record-width}
 use Rattle.history_format.proofs.RecordLaws.{read-mark-length}
-use Rattle.history_card.proofs.RecordReadLaws.{past-read, mark-read}
+use Rattle.history_card.proofs.RecordLaws.{past-read, mark-read}
 use borrow.Author.Needs.{needs}
 use Rattle.history_card.proofs.record.read_mark_record.Statement.{statement}
 use Rattle.history_card.proofs.record.read_mark_record.Tie as tie

@@ -12,7 +12,7 @@ use Rattle.history_format.specs.RecordWidths.{kind-width, vertex-width, marks-s
 use Rattle.history_format.specs.RecordBits.{mark-offset}
 use Rattle.history_format.proofs.MemberMarks.{offset-most}
 use Rattle.history_format.proofs.RecordLaws.{read-marks-length}
-use Rattle.history_card.proofs.RecordReadLaws.{past-read, marks-long, marks-read}
+use Rattle.history_card.proofs.RecordLaws.{past-read, marks-long, marks-read}
 use borrow.Author.Needs.{needs}
 use Rattle.history_card.proofs.record.read_marks_record.Statement.{statement}
 use Rattle.history_card.proofs.record.read_marks_record.Tie as tie

@@ -2,7 +2,7 @@
 use mathlib.Core.Path.{_∙_, sym}
 use borrow.Author.Tests.{not-true, not-false}
 use Rattle.instance.specs.Matrix.{unmarked}
-use Rattle.history_card.proofs.RecordReadLaws.{form-refused, same-record, record-refused, record-taken}
+use Rattle.history_card.proofs.RecordLaws.{form-refused, same-record, record-refused, record-taken}
 use borrow.Author.Needs.{needs}
 use Rattle.history_card.proofs.record.read_record.Statement.{statement}
 use Rattle.history_card.proofs.record.read_record.Tie as tie

@@ -1,7 +1,7 @@
 -- `runs_past` counts in bytes. Assumes nothing.
 use lib.ListN.{length}
 use borrow.Author.Needs.{needs}
-use Rattle.history_card.proofs.RecordReadLaws.{past-bytes}
+use Rattle.history_card.proofs.RecordLaws.{past-bytes}
 use Rattle.history_card.proofs.record.runs_past.Statement.{statement}
 use Rattle.history_card.proofs.record.runs_past.Tie as tie
 

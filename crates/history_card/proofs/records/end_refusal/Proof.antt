@@ -1,7 +1,7 @@
 -- `end_refusal` meets its contract: whole bytes are left exactly if there are more bytes than the last bit lies in.
 -- Assumes nothing.
 use native.Mathlib.Omega.{arith}
-use Rattle.history_card.proofs.RecordsReadLaws.{bytes-left, filling-left, nothing-left}
+use Rattle.history_card.proofs.RecordsLaws.{bytes-left, filling-left, nothing-left}
 use borrow.Author.Needs.{needs}
 use Rattle.history_card.proofs.records.end_refusal.Statement.{statement}
 use Rattle.history_card.proofs.records.end_refusal.Tie as tie

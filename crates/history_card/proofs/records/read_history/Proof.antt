@@ -6,7 +6,7 @@ use lib.ListN.{length}
 use borrow.Author.Tests.{ltb-false}
 use Rattle.instance.specs.Matrix.{unmarked}
 use Rattle.history_format.specs.RecordWidths.{count-width}
-use Rattle.history_card.proofs.RecordsReadLaws.{count-past, count-refused, count-read}
+use Rattle.history_card.proofs.RecordsLaws.{count-past, count-refused, count-read}
 use borrow.Author.Needs.{needs}
 use Rattle.history_card.proofs.records.read_history.Statement.{statement}
 use Rattle.history_card.proofs.records.read_history.Tie as tie

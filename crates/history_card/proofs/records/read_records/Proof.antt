@@ -1,14 +1,10 @@
 -- `read_records` meets its contract: the loop's invariant is `Reading`. Assumes nothing.
-use mathlib.Core.Path.{_≡_, ap, _∙_}
+use mathlib.Core.Path.{ap}
 use Prim.Native.Nat.{_-_}
 use native.Mathlib.Omega.{arith}
-use lib.ListN.{length-replicate}
-use Rattle.instance.specs.Limits.{max-records}
 use Rattle.instance.specs.Matrix.{unmarked}
-use Rattle.board.specs.ModelOf.{blank-record}
-use Rattle.board.specs.declared.UndoRecord.{UndoRecord}
 use Rattle.history_card.specs.declared.records.History.{History}
-use Rattle.history_card.proofs.RecordsReadLaws.{Reading, reading-begun, record-stops, record-more, all-read}
+use Rattle.history_card.proofs.RecordsLaws.{Reading, reading-begun, record-stops, record-more, all-read}
 use borrow.Author.Needs.{needs}
 use Rattle.history_card.proofs.records.read_records.Statement.{statement}
 use Rattle.history_card.proofs.records.read_records.Tie as tie

@@ -3,7 +3,7 @@ use native.Mathlib.Omega.{arith}
 use Rattle.commands.proofs.ValidLaws.{valid-parts}
 use Rattle.board.specs.ModelOf.{model-of}
 use Rattle.board.proofs.ModelOfLaws.{length-history}
-use Rattle.history_card.proofs.WriteLaws.{length-history-bits, history-most}
+use Rattle.history_card.proofs.WriteLaws.{history-width, history-most}
 use Rattle.history_card.proofs.write.history_width.Statement.{statement}
 use Rattle.history_card.proofs.write.history_width.Tie as tie
 
@@ -18,7 +18,7 @@ records-width-requires c κs =
 returns : tie.Need-returns
 returns c =
     let s = c .before .before .before in
-    omega (arith, c .before .needed-bits .ensures, c .records-width .ensures, length-history-bits (model-of (s .args .b)) (s .pre))
+    omega (arith, c .before .needed-bits .ensures, c .records-width .ensures, history-width (model-of (s .args .b)) (s .pre))
 
 add-result-3 : tie.Need-add-result-3
 add-result-3 c = let s = c .before .before .before in record { fits = omega (arith, returns c, history-most (model-of (s .args .b)) (s .pre)) }

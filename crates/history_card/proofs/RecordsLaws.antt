@@ -1,17 +1,16 @@
--- What reading the records gives: the loop goes through them as the definitions do, so what is left to read and to judge
--- would complete the whole; behind the last one whole bytes or the filling. Assumes nothing.
+-- What reading the records gives: the loop goes through them as the definitions do, so what is left to read and to
+-- judge would complete the whole; behind the last one whole bytes or the filling. Assumes nothing.
 use mathlib.Core.Path.{_≡_, refl, sym, ap, _∙_}
-use mathlib.Core.Bool.{Bool, true, false, cond}
+use mathlib.Core.Bool.{true, false, cond}
 use mathlib.Core.List.{List, [], _∷_}
-use Prim.Native.Nat.{ℕ, zero, suc, _+_, _*_, _-_, _/_, _≤_, _<_}
+use Prim.Native.Nat.{ℕ, suc, _+_, _*_, _-_, _/_, _≤_, _<_}
 use native.Mathlib.Omega.{arith}
 use native.Mathlib.Numerals.{add-one}
 use native.Mathlib.Nat.{add-zero}
-use lib.Dec.{ltb, leb, eqb}
+use lib.Dec.{ltb, eqb}
 use lib.ListN.{length, set, drop, replicate, length-drop}
 use lib.Seq.{drop-drop}
-use borrow.Author.Tests.{ltb-false, lt-ltb, le-ltb, le-leb, lt-leb, eq-eqb, ne-eqb}
-use Rattle.base.specs.Lists.{all-of}
+use borrow.Author.Tests.{lt-ltb, le-ltb, le-leb, lt-leb, eq-eqb, ne-eqb}
 use Rattle.bits.specs.Bits.{bits-in, field}
 use Rattle.bits.proofs.ByteLaws.{length-bits-in}
 use Rattle.bits.proofs.FieldLaws.{field-rest-zero, field-drop}
@@ -20,7 +19,6 @@ use Rattle.instance.specs.Refusals.{bad-length, bad-filling, bad-record}
 use Rattle.instance.specs.Instance.{Instance}
 use Rattle.commands.specs.Model.{Replaced}
 use Rattle.board.specs.ModelOf.{blank-record}
-use Rattle.board.specs.Calls.{record-of}
 use Rattle.board.specs.Create.{stored}
 use Rattle.board.specs.declared.UndoRecord.{UndoRecord}
 use Rattle.history_format.specs.RecordWidths.{count-width}
@@ -32,7 +30,7 @@ use Rattle.history_card.specs.Record.{Record-read}
 use Rattle.history_card.specs.Records.{no-history, Records-read}
 use Rattle.history_card.specs.declared.record.RecordRead.{RecordRead}
 use Rattle.history_card.specs.declared.records.History.{History}
-use Rattle.history_card.proofs.RecordReadLaws.{rest-bits, short-here, whole-here}
+use Rattle.history_card.proofs.RecordLaws.{rest-bits, short-here, whole-here}
 
 -- BEHIND THE LAST RECORD
 module _ (ws : List ℕ) (end : ℕ) (inside : end ≤ 8 * length ws) where

@@ -1,13 +1,13 @@
 -- What reading a record gives, by its kind: refused where it runs past the end, else what its fields say. A record is
 -- read at a place of the card's bits; the definitions speak of the bits from that place on. Assumes nothing.
 use mathlib.Core.Path.{_≡_, refl, sym, ap, _∙_, subst}
-use mathlib.Core.Bool.{Bool, true, false, not, cond}
+use mathlib.Core.Bool.{Bool, true, false, cond}
 use mathlib.Core.List.{List}
 use Prim.Native.Nat.{ℕ, _+_, _*_, _-_, _/_, _^_, _≤_, _<_}
 use native.Mathlib.Omega.{arith}
 use native.Mathlib.Nat.{zero-lt-suc}
 use native.Mathlib.Decide.{decLt}
-use lib.Dec.{ltb, eqb}
+use lib.Dec.{ltb}
 use lib.ListN.{length, getD, drop, length-drop}
 use borrow.Author.Tests.{lt-ltb, le-ltb, ltb-true, ltb-false, eq-eqb, ne-eqb}
 use Rattle.base.specs.Digits.{from-digits, digit}
@@ -25,14 +25,13 @@ use Rattle.card_format.specs.Widths.{budget-width, mark-width}
 use Rattle.commands.specs.Model.{Replaced, old-mark, old-marks, old-budget}
 use Rattle.commands.specs.Valid.{record-ok}
 use Rattle.heads.specs.RecordMarks.{record-marks}
-use Rattle.heads.proofs.RecordMarksLaws.{record-marks-at}
 use Rattle.board.specs.Calls.{record-of}
 use Rattle.board.specs.ModelOf.{replaced-of}
 use Rattle.board.specs.declared.UndoRecord.{UndoRecord}
 use Rattle.board.specs.declared.Replaced as declared-replaced
 use Rattle.board.specs.declared.Replaced.the-variants.{OldMark, OldBudget, OldMarks}
 use Rattle.history_format.specs.RecordWidths.{kind-width, vertex-width, head-start, mark-start, mark-record-width, budget-record-width, heads-width, marks-start}
-use Rattle.history_format.specs.RecordBits.{kind-in, tail-in, heads-in, mark-offset, member-marks, record-length, replaced-in, form-refusal, record-refusal}
+use Rattle.history_format.specs.RecordBits.{kind-in, heads-in, mark-offset, member-marks, record-length, replaced-in, form-refusal, record-refusal}
 use Rattle.history_format.proofs.MemberMarks.{of-members, member-at}
 use Rattle.history_format.proofs.RecordFits.{Writable, read-fits}
 use Rattle.history_format.proofs.RecordLaws.{whole-passes, read-mark-length, read-budget-length, read-marks-length, read-mark, read-budget, read-marks}

@@ -1,4 +1,4 @@
--- "An old console refuses every new card by 2": the six bits 63 stand where an old card has its positions. The other
+-- "An old console refuses every new card by 2": the six bits 63 stand where a plain card has n. The other
 -- way round, what does not begin with them is no history card, and is refused by 2 as one. Under five bytes both kinds
 -- are refused by 1. Assumes nothing.
 use mathlib.Core.Path.{_≡_, refl}
@@ -18,15 +18,15 @@ pub marker-read : (ws : List ℕ) → is-history ws ≡ true → n-in (bits-in w
 unfolding is-history
 marker-read ws e = eqb-true (n-in (bits-in ws)) history-marker e
 
-pub old-console : (ws : List ℕ) → is-history ws ≡ true → min-card ≤ length ws → card-refusal ws ≡ bad-count
+pub old-reader : (ws : List ℕ) → is-history ws ≡ true → min-card ≤ length ws → card-refusal ws ≡ bad-count
 unfolding card-refusal header-refusal
-old-console ws e h = rw (le-ltb (length ws) min-card h, marker-read ws e)
+old-reader ws e h = rw (le-ltb (length ws) min-card h, marker-read ws e)
 
--- every new card that a new console opens
-pub old-console-refuses : (ws : List ℕ) → history-refusal ws ≡ 0 → card-refusal ws ≡ bad-count
-old-console-refuses ws e = let o = history-opens ws e in old-console ws (o .header .kind) (o .header .long)
+-- every history card that opens
+pub old-reader-refuses : (ws : List ℕ) → history-refusal ws ≡ 0 → card-refusal ws ≡ bad-count
+old-reader-refuses ws e = let o = history-opens ws e in old-reader ws (o .header .kind) (o .header .long)
 
--- a move that is handed an old card
+-- a move that is handed a plain card
 pub not-history : (ws : List ℕ) → is-history ws ≡ false → min-card ≤ length ws → history-refusal ws ≡ bad-count
 unfolding history-refusal history-header-refusal
 not-history ws e h = rw (le-ltb (length ws) min-card h, e)
