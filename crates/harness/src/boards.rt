@@ -2,7 +2,7 @@
 use crate::records;
 use board::Board;
 use board::UndoRecord;
-use reference::log::RECORDS;
+use reference::history::RECORDS;
 use reference::problem;
 use reference::problem::CELLS;
 use reference::problem::Problem;

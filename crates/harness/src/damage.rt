@@ -3,7 +3,7 @@ use crate::records;
 use board::Board;
 use board::UndoRecord;
 use reference::access;
-use reference::log::RECORDS;
+use reference::history::RECORDS;
 use reference::problem;
 use reference::problem::MAX_BUDGET;
 use reference::problem::MAX_VERTICES;

@@ -6,7 +6,7 @@ use board::Replaced;
 use board::UndoRecord;
 use reference::access;
 use reference::group;
-use reference::log::RECORDS;
+use reference::history::RECORDS;
 use reference::problem;
 use reference::shown;
 

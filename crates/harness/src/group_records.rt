@@ -9,7 +9,7 @@ use board::Board;
 use board::UndoRecord;
 use reference::access;
 use reference::group;
-use reference::log::RECORDS;
+use reference::history::RECORDS;
 use reference::problem::BANNED;
 use reference::problem::MAX_VERTICES;
 use reference::problem::NO_ARC;

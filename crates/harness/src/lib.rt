@@ -8,6 +8,8 @@ pub mod counts; // counts.rt: conditions as numbers
 pub mod damage; // damage.rt: a board with one field changed
 pub mod faults; // faults.rt: a board with a fault planted
 pub mod group_records; // group_records.rt: records of group presses, sound and damaged
+pub mod histories; // histories.rt: the records of a board, as the reference holds them
+pub mod history_calls; // history_calls.rt: the planner's calls on cards with records
 pub mod records; // records.rt: records of a board's history
 pub mod replays; // replays.rt: a list of calls handed over whole
 pub mod replies; // replies.rt: a call's answer, and whether it touched anything

@@ -2,6 +2,7 @@
 use crate::boards;
 use crate::buffers;
 use crate::calls;
+use crate::history_calls;
 use crate::verdict;
 use board::Answered;
 use board::Board;
@@ -45,6 +46,16 @@ pub fn of_look(b: Board, parents: u32, states: u32, cuts: u32) -> Reply {
 // Of a write with so many bytes lent.
 pub fn of_write(b: Board, room: u32) -> Reply {
     let w = calls::write_with(b, room);
+    let bytes = w.bytes;
+    Reply {
+        answer: w.answer,
+        untouched: buffers::bytes_untouched(&bytes, 0, CARD_ROOM as u32),
+    }
+}
+
+// Of a write as a history card.
+pub fn of_history_write(b: Board, room: u32) -> Reply {
+    let w = history_calls::write_with(b, room);
     let bytes = w.bytes;
     Reply {
         answer: w.answer,

@@ -1,7 +1,8 @@
-// A board opened from a card, beside the log of the calls that were made on it.
+// A board opened from a card, of either kind, beside the log of the calls that were made on it.
 use crate::buffers;
 use crate::calls;
 use crate::calls::CardOut;
+use crate::history_calls;
 use crate::replies;
 use crate::replies::Reply;
 use crate::verdict;
@@ -10,6 +11,9 @@ use reference::access;
 use reference::call::Call;
 use reference::card::CARD_ROOM;
 use reference::card::Card;
+use reference::history;
+use reference::history::History;
+use reference::history_card;
 use reference::log;
 use reference::log::Log;
 use reference::problem::Problem;
@@ -17,7 +21,6 @@ use reference::problem::Problem;
 pub struct Session {
     pub board: Board,
     pub log: Log,
-    pub card: Problem,
 }
 
 // What a call gave: the board's reply, the log's answer, and where the session has come to.
@@ -29,28 +32,47 @@ pub struct Called {
 
 // A session on a card that opens; where it does not, every call after is refused with 15 and reported.
 pub fn opened(p: Problem) -> Session {
-    let o = calls::open(reference::card::build(p));
+    opened_from(reference::card::build(p), p, history::empty())
+}
+
+// The same on a card with records.
+pub fn opened_with(p: Problem, h: History) -> Session {
+    opened_from(history_card::build(p, h), p, h)
+}
+
+// The same on a card that the reference opens.
+pub fn opened_on(c: Card) -> Session {
+    let bytes = c.bytes;
+    let r = history_card::open(access::front(&bytes, c.length));
+    opened_from(c, r.problem, r.history)
+}
+
+fn opened_from(c: Card, p: Problem, h: History) -> Session {
+    let o = calls::open(c);
     let board = o.board;
     Session {
         board: board,
-        log: log::empty(),
-        card: p,
+        log: log::opened(p, h),
     }
+}
+
+// The card's instance, with its sizes and prices; its marks and its budget are those of now, where nothing stands.
+pub fn card_of(s: Session) -> Problem {
+    let log = s.log;
+    log.card
 }
 
 // A call on the board, and in the log.
 pub fn with_call(s: Session, c: Call) -> Called {
     let board = s.board;
     let log = s.log;
-    let card = s.card;
     let made = calls::made(board, c);
-    let noted = log::note(log, card, c);
+    let noted = log::note(log, c);
     let board_after = made.board;
     let log_after = noted.log;
     let session = Session {
         board: board_after,
         log: log_after,
-        card: card,
     };
     Called {
         reply: replies::of_call(board, made),
@@ -62,8 +84,7 @@ pub fn with_call(s: Session, c: Call) -> Called {
 // The card's instance under what the log says.
 pub fn problem_now(s: Session) -> Problem {
     let log = s.log;
-    let card = s.card;
-    log::problem_now(log, card)
+    log::problem_now(log)
 }
 
 // Whether a look at the board shows that.
@@ -92,4 +113,14 @@ pub fn is_written(w: CardOut, c: Card) -> bool {
 pub fn write_right(s: Session) -> bool {
     let board = s.board;
     is_written(calls::write(board), reference::card::build(problem_now(s)))
+}
+
+// Whether the board is written as the history card with that and with what the log says was replaced.
+pub fn history_write_right(s: Session) -> bool {
+    let board = s.board;
+    let log = s.log;
+    is_written(
+        history_calls::write(board),
+        history_card::build(problem_now(s), log::records_now(log)),
+    )
 }

@@ -7,8 +7,13 @@ pub mod card; // card.rt: cards, bit by bit
 pub mod certificate; // certificate.rt: plans made elsewhere, and the answers to them
 pub mod dual; // dual.rt: a planner of another kind
 pub mod families; // families.rt: instances of 32 vertices
+pub mod fields; // fields.rt: bits of a card, and fields of several bits
 pub mod group; // group.rt: group presses, one feeder and a set of fed positions
+pub mod history; // history.rt: recorded presses, and what is restored by taking them back
+pub mod history_card; // history_card.rt: history cards, bit by bit
+pub mod history_sample; // history_sample.rt: random recorded presses, sound and bad
 pub mod log; // log.rt: the log of document 01, "The book for demand 3"
+pub mod moves; // moves.rt: cards moved from one kind to the other
 pub mod outcome; // outcome.rt: what a look has to show, from the listing
 pub mod problem; // problem.rt: instances, and the arcs that remain
 pub mod random; // random.rt: numbers that look random

@@ -1,12 +1,18 @@
-// The log of document 01, "The book for demand 3": kept from the card and the calls' arguments alone.
+// The log of document 01, "The book for demand 3": kept from the card and the calls' arguments alone. The card may have
+// records (02, A8).
 use crate::access::plus;
 use crate::call;
 use crate::call::Call;
 use crate::group;
+use crate::history;
+use crate::history::History;
+use crate::history::RECORDS;
+use crate::history::Record;
 use crate::problem;
 use crate::problem::BANNED;
 use crate::problem::FREE;
 use crate::problem::MAX_BUDGET;
+use crate::problem::MAX_VERTICES;
 use crate::problem::PINNED;
 use crate::problem::Problem;
 use crate::refusals::BAD_BUDGET;
@@ -15,11 +21,11 @@ use crate::refusals::HISTORY_FULL;
 use crate::refusals::NO_SUCH_ARC;
 use crate::refusals::NO_VERTEX;
 
-// "At most 200 presses are recorded".
-pub const RECORDS: usize = 200;
-
-// The effective commands, oldest first.
+// The card, with its records, which "lie under the standing presses and set nothing"; and the effective commands,
+// oldest first.
 pub struct Log {
+    pub card: Problem,
+    pub below: History,
     pub count: u32,
     pub calls: [Call; RECORDS],
 }
@@ -29,12 +35,21 @@ pub struct Logged {
     pub log: Log,
 }
 
-pub fn empty() -> Log {
+// "It holds the card and a list of standing presses, empty at first".
+pub fn opened(card: Problem, records: History) -> Log {
     let none = call::take_back();
     Log {
+        card: card,
+        below: records,
         count: 0,
         calls: [none; RECORDS],
     }
+}
+
+// How many stand, those of the card too: "they count among the 200".
+pub fn standing(log: Log) -> u32 {
+    let below = log.below;
+    plus(log.count, below.count)
 }
 
 // "refused with 9 if a position is not below n, else with 10 if the card has no such link".
@@ -87,22 +102,38 @@ fn entry_of(card: Problem, c: Call) -> Call {
     entry
 }
 
+// "a take-back that reaches one is accepted, strikes it out and puts what it says in place of the card's marks or
+// budget."
+fn record_undone(log: Log) -> Log {
+    let mut l = log;
+    let card = log.card;
+    let below = log.below;
+    l.card = history::restored(card, history::latest(below));
+    l.below = history::without_latest(below);
+    l
+}
+
 // "accepted and written at the end"; of a take-back "accepted, and the last one is struck out".
-fn changed(log: Log, card: Problem, c: Call) -> Log {
+fn changed(log: Log, c: Call) -> Log {
     let mut l = log;
     if c.kind == call::TAKE_BACK {
+        if l.count == 0 {
+            return record_undone(l);
+        }
         l.count = std::num::wrapping_sub_u32(l.count, 1);
         return l;
     }
     let at = (l.count % RECORDS as u32) as usize;
+    let card = log.card;
     l.calls[at] = entry_of(card, c);
     l.count = plus(l.count, 1);
     l
 }
 
 // The log's answer to a call, and the log after it: "A refused call leaves the book as it was."
-pub fn note(log: Log, card: Problem, c: Call) -> Logged {
-    let answer = answer_to(log.count, card, c);
+pub fn note(log: Log, c: Call) -> Logged {
+    let card = log.card;
+    let answer = answer_to(standing(log), card, c);
     if answer != 0 {
         return Logged {
             answer: answer,
@@ -111,7 +142,7 @@ pub fn note(log: Log, card: Problem, c: Call) -> Logged {
     }
     Logged {
         answer: 0,
-        log: changed(log, card, c),
+        log: changed(log, c),
     }
 }
 
@@ -124,9 +155,13 @@ pub fn mark_set(kind: u32) -> u8 {
     }
 }
 
-// The instance with the marks that an entry sets.
-fn marked(p: Problem, c: Call) -> Problem {
+// The instance with what an entry sets.
+fn applied(p: Problem, c: Call) -> Problem {
     let mut q = p;
+    if c.kind == call::BUDGET {
+        q.budget = c.first;
+        return q;
+    }
     if call::is_group(c.kind) {
         return group::marked(q, c.first, c.second, mark_set(c.kind));
     }
@@ -137,17 +172,50 @@ fn marked(p: Problem, c: Call) -> Problem {
 
 // The card's instance under what the log says: an arc's mark is "the one set by the last standing press that names it,
 // or the card's if none does", the budget "that of the last standing budget press, or the card's if there is none".
-pub fn problem_now(log: Log, card: Problem) -> Problem {
-    let mut p = card;
+pub fn problem_now(log: Log) -> Problem {
+    let mut p = log.card;
     for k in 0..RECORDS as u32 {
         if k < log.count {
-            let c = log.calls[k as usize];
-            if c.kind == call::BUDGET {
-                p.budget = c.first;
-            } else {
-                p = marked(p, c);
-            }
+            p = applied(p, log.calls[k as usize]);
         }
     }
     p
+}
+
+// The record of a group that has the marks of an instance.
+fn of_group(p: Problem, tail: u32, set: u32) -> Record {
+    let mut r = history::of_group(tail, set);
+    for head in 0..MAX_VERTICES {
+        if history::names(history::GROUP, set, head) {
+            let at = problem::cell(tail, head);
+            r = history::with_mark(r, head, p.marks[at]);
+        }
+    }
+    r
+}
+
+// What an entry replaces on an instance: "the mark or budget it replaced", of a group "each replaced mark".
+fn replaced(p: Problem, c: Call) -> Record {
+    if c.kind == call::BUDGET {
+        return history::of_budget(p.budget);
+    }
+    if call::is_group(c.kind) {
+        return of_group(p, c.first, c.second);
+    }
+    let at = problem::cell(c.first, c.second);
+    history::of_link(c.first, c.second, p.marks[at])
+}
+
+// The records of the board: the card's, and what each standing press replaced.
+pub fn records_now(log: Log) -> History {
+    let mut h = log.below;
+    let mut p = log.card;
+    for k in 0..RECORDS as u32 {
+        if k < log.count {
+            let c = log.calls[k as usize];
+            h = history::with(h, replaced(p, c));
+            p = applied(p, c);
+        }
+    }
+    h
 }

@@ -77,7 +77,8 @@ pub fn mark_of(p: Problem, tail: u32, head: u32) -> u8 {
 
 // Whether head has a pinned arc from another tail.
 fn pinned_elsewhere(p: Problem, tail: u32, head: u32) -> bool {
-    for other in 0..MAX_VERTICES {
+    let n = p.n;
+    for other in 0..n {
         if other != tail {
             if mark_of(p, other, head) == PINNED {
                 return true;

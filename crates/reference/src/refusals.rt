@@ -4,7 +4,7 @@ pub const CARD_SHORT: u32 = 1; // card under 5 bytes
 
 pub const BAD_COUNT: u32 = 2; // positions field 0 or 33 to 63
 
-pub const BAD_LENGTH: u32 = 3; // card length not the needed one
+pub const BAD_LENGTH: u32 = 3; // card length not the needed one; on a history card, something runs past the end
 
 pub const BAD_ROOT: u32 = 4; // root not below positions
 
@@ -38,3 +38,8 @@ pub const BAD_CUT: u32 = 23; // a bad cut or more than 61
 pub const OVERCHARGED: u32 = 24; // a link overcharged
 
 pub const WRONG_AMOUNTS: u32 = 25; // amounts not adding up
+
+// Of a card with records (02, A8).
+pub const BAD_RECORDS: u32 = 27; // a count above 200, kind 3, a record naming a non-link or a value out of range
+
+pub const HAS_RECORDS: u32 = 28; // "a move to old with records"

@@ -32,21 +32,25 @@ const CALLS: u32 = 5;
 
 const REFUSED: u32 = 6;
 
-// The calls that are made on each board: nine that change one; a write, a look, and both with buffers too short for any
-// board here; a check of a list that is no tree, and of one that is too short.
-const KINDS_OF_CALL: u32 = 15;
+// The calls that are made on each board: nine that change one; a write as a plain card, as a history card, a look,
+// and all three with buffers too short for any board here; a check of a list that is no tree, and of one that is too short.
+const KINDS_OF_CALL: u32 = 17;
 
 const WRITE: u32 = 9;
 
-const LOOK: u32 = 10;
+const HISTORY_WRITE: u32 = 10;
 
-const SHORT_WRITE: u32 = 11;
+const LOOK: u32 = 11;
 
-const SHORT_LOOK: u32 = 12;
+const SHORT_WRITE: u32 = 12;
 
-const CHECK: u32 = 13;
+const SHORT_HISTORY_WRITE: u32 = 13;
 
-const SHORT_CHECK: u32 = 14;
+const SHORT_LOOK: u32 = 14;
+
+const CHECK: u32 = 15;
+
+const SHORT_CHECK: u32 = 16;
 
 fn nth_call(k: u32) -> Call {
     match k {
@@ -73,6 +77,7 @@ fn new_call(kind: u32, first: u32, second: u32) -> Call {
 fn reply_of(b: Board, k: u32) -> Reply {
     match k {
         WRITE => replies::of_write(b, CARD_ROOM as u32),
+        HISTORY_WRITE => replies::of_history_write(b, CARD_ROOM as u32),
         LOOK => replies::of_look(
             b,
             buffers::PARENTS as u32,
@@ -80,6 +85,7 @@ fn reply_of(b: Board, k: u32) -> Reply {
             buffers::CUTS as u32,
         ),
         SHORT_WRITE => replies::of_write(b, 4),
+        SHORT_HISTORY_WRITE => replies::of_history_write(b, 6),
         SHORT_LOOK => replies::of_look(b, 1, 3, CUT_WORDS - 1),
         CHECK => replies::of_check(b, PARENT_ROOM as u32),
         SHORT_CHECK => replies::of_check(b, 1),

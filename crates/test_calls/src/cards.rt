@@ -1,14 +1,16 @@
 // Random and damaged cards of all lengths against the reference's reading: every refusal from 1 to 8 but 6, which is
-// retired, and cards that open, written back.
+// retired, and cards that open, written back. They are plain cards; where a change makes a history card of one
+// (02, A8), it is read as that.
 use board::Answered;
-use harness::boards;
 use harness::calls;
+use harness::histories;
 use harness::session;
 use reference::access;
 use reference::card;
 use reference::card::CARD_ROOM;
 use reference::card::Card;
-use reference::card::Reading;
+use reference::history_card;
+use reference::history_card::HistoryReading;
 use reference::problem::MAX_VERTICES;
 use reference::random;
 use reference::random::Random;
@@ -21,26 +23,24 @@ const CARDS: u32 = 3;
 
 const ANSWERS: u32 = 4;
 
-fn reading_of(c: Card) -> Reading {
+fn reading_of(c: Card) -> HistoryReading {
     let bytes = c.bytes;
-    card::read(access::front(&bytes, c.length))
+    history_card::open(access::front(&bytes, c.length))
 }
 
 // Whether a card that opened gives the board that it says, and the same bytes again when written.
-fn opened_right(o: Answered, r: Reading, c: Card) -> bool {
+fn opened_right(o: Answered, r: HistoryReading, c: Card) -> bool {
     let b = o.board;
     let p = r.problem;
-    if b.count != 0 {
-        return false;
-    }
-    if !boards::equal_problems(boards::problem_of(b), p, false) {
+    let h = r.history;
+    if !histories::is_board(b, p, h) {
         return false;
     }
     session::is_written(calls::write(b), c)
 }
 
 // Whether the answer is the reference's, with the right board, or with none: one that every call refuses.
-fn is_right(o: Answered, r: Reading, c: Card) -> bool {
+fn is_right(o: Answered, r: HistoryReading, c: Card) -> bool {
     if o.answer != r.answer {
         return false;
     }
@@ -125,10 +125,13 @@ fn noise(seed: Random, length: u32) -> Card {
     c
 }
 
-// Noise of every length that there is room for.
+// A length that no plain card has which opens.
+const NOISE: u32 = 2700;
+
+// Noise of every length below that.
 fn run_noise(tally: Tally) -> Tally {
     let mut t = tally;
-    for length in 0..CARD_ROOM as u32 {
+    for length in 0..NOISE {
         t = tried(t, noise(random::seeded(length), length));
     }
     t

@@ -1,5 +1,5 @@
-// A list of 300 calls, looks and writes handed to the planner whole, against the log; and what is refused before
-// anything is touched.
+// A list of 300 calls, looks and writes handed to the planner whole, with a plain card or one with records, against the
+// log; and what is refused before anything is touched.
 use harness::buffers;
 use harness::calls;
 use harness::replays;
@@ -13,6 +13,10 @@ use reference::call;
 use reference::call::Call;
 use reference::card;
 use reference::card::Card;
+use reference::history;
+use reference::history::History;
+use reference::history_card;
+use reference::history_sample;
 use reference::log;
 use reference::log::Log;
 use reference::problem::Problem;
@@ -29,6 +33,8 @@ use reference::tally::Tally;
 const REPLAYED: u32 = 3;
 
 const REFUSED: u32 = 4;
+
+const RECORDS: u32 = 5;
 
 // Kinds of a look and a write, beside those of the calls that change a board. Every kind from ten on writes too.
 const LOOK: u32 = 5;
@@ -52,7 +58,7 @@ fn is_between(kind: u32) -> bool {
     kind == LOOK || kind == WRITE || WRITES_FROM <= kind
 }
 
-fn some_list(seed: Random, p: Problem) -> Calls {
+fn some_list(seed: Random, p: Problem, back: u32) -> Calls {
     let mut l = Calls {
         kinds: [0; CALLS],
         firsts: [0; CALLS],
@@ -60,7 +66,7 @@ fn some_list(seed: Random, p: Problem) -> Calls {
     };
     let mut g = seed;
     for k in 0..CALLS {
-        let c = call::some_call(g, p, 4);
+        let c = call::some_call(g, p, back);
         g = call::drawn(g);
         l.kinds[k] = access::narrow(kind_or_between(g, c.kind));
         l.firsts[k] = c.first;
@@ -91,7 +97,7 @@ struct Reading {
     right: bool,
 }
 
-fn after_call(r: Reading, p: Problem, c: Call, answer: u32) -> Reading {
+fn after_call(r: Reading, c: Call, answer: u32) -> Reading {
     let log = r.log;
     if is_between(c.kind) {
         return Reading {
@@ -99,7 +105,7 @@ fn after_call(r: Reading, p: Problem, c: Call, answer: u32) -> Reading {
             right: r.right && answer == 0,
         };
     }
-    let noted = log::note(log, p, c);
+    let noted = log::note(log, c);
     let after = noted.log;
     Reading {
         log: after,
@@ -107,9 +113,9 @@ fn after_call(r: Reading, p: Problem, c: Call, answer: u32) -> Reading {
     }
 }
 
-fn read(list: Calls, answers: [u32; CALLS], p: Problem) -> Reading {
+fn read(list: Calls, answers: [u32; CALLS], p: Problem, h: History) -> Reading {
     let mut r = Reading {
-        log: log::empty(),
+        log: log::opened(p, h),
         right: true,
     };
     for k in 0..CALLS {
@@ -118,21 +124,21 @@ fn read(list: Calls, answers: [u32; CALLS], p: Problem) -> Reading {
             first: list.firsts[k],
             second: list.seconds[k],
         };
-        r = after_call(r, p, c, answers[k]);
+        r = after_call(r, c, answers[k]);
     }
     r
 }
 
 // Whether a replay gave the log's answers to a list, and a last look at what the log says.
-fn is_right(r: Replayed, list: Calls, p: Problem) -> bool {
+fn is_right(r: Replayed, list: Calls, p: Problem, h: History) -> bool {
     let answers = r.answers;
-    let reading = read(list, answers, p);
+    let reading = read(list, answers, p, h);
     if !reading.right {
         return false;
     }
     let log = reading.log;
     let shown = r.shown;
-    verdict::judged(log::problem_now(log, p), shown) == 0
+    verdict::judged(log::problem_now(log), shown) == 0
 }
 
 // Whether a replay was refused with this answer and touched nothing.
@@ -185,28 +191,79 @@ fn tried_refused(tally: Tally, c: Card, list: Calls, n: u32) -> Tally {
 }
 
 // A list from a card, and the same with one call changed, which has to be reported; then the refusals.
-fn tried(tally: Tally, p: Problem, g: Random) -> Tally {
-    let c = card::build(p);
-    let list = some_list(g, p);
-    let other = with_other_call(list, random::below(g, CALLS as u32));
+fn tried(tally: Tally, c: Card, p: Problem, h: History, list: Calls, at: u32) -> Tally {
+    let other = with_other_call(list, at);
     let whole = replays::whole();
     let t = tally::checked(
         tally,
         REPLAYED,
-        is_right(replays::replay(c, list, whole), list, p),
+        is_right(replays::replay(c, list, whole), list, p, h),
     );
-    let u = tally::planted(t, !is_right(replays::replay(c, other, whole), list, p));
+    let u = tally::planted(t, !is_right(replays::replay(c, other, whole), list, p, h));
     tried_refused(tried_short(u, c, list, p.n), c, list, p.n)
+}
+
+// Whether a list takes back a record of the card.
+fn reaches_record(list: Calls, p: Problem, h: History) -> bool {
+    let end = read(list, [0; CALLS], p, h);
+    let log = end.log;
+    let below = log.below;
+    below.count != h.count
+}
+
+// A list that takes back much from a card with records. Where it takes back one of them, the same card without its
+// records has to be reported: that take-back, if nothing before it, has another answer.
+fn tried_records(tally: Tally, p: Problem, h: History, g: Random) -> Tally {
+    let c = history_card::build(p, h);
+    let list = some_list(g, p, 11);
+    let t = tally::with(tally, RECORDS, h.count);
+    let u = tried(t, c, p, h, list, random::below(g, CALLS as u32));
+    if !reaches_record(list, p, h) {
+        return u;
+    }
+    let bare = replays::replay(card::build(p), list, replays::whole());
+    tally::planted(u, !is_right(bare, list, p, h))
+}
+
+// So many lists are for a plain card, and as many as follow for a card with records, some with 200.
+const PLAIN: u32 = 105;
+
+const RECORDED: u32 = 48;
+
+fn tried_nth(tally: Tally, k: u32) -> Tally {
+    let p = sample::small_instance(k);
+    let g = random::seeded(k);
+    if k < PLAIN {
+        let list = some_list(g, p, 4);
+        return tried(
+            tally,
+            card::build(p),
+            p,
+            history::empty(),
+            list,
+            random::below(g, CALLS as u32),
+        );
+    }
+    let count = history_sample::nth_count(k / 6, g);
+    tried_records(
+        tally,
+        p,
+        history_sample::some_history(p, count, k % 4096 * 256),
+        g,
+    )
 }
 
 fn run(count: u32) -> Tally {
     let mut t = tally::zero();
     for k in 0..count {
-        t = tried(t, sample::small_instance(k), random::seeded(k));
+        t = tried_nth(t, k);
     }
     t
 }
 
 pub fn all() {
-    tally::report(run(105), b"lists of 300 handed over\nrefused\n");
+    tally::report(
+        run(PLAIN + RECORDED),
+        b"lists of 300 handed over\nrefused\nrecords on the cards\n",
+    );
 }

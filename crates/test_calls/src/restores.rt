@@ -12,7 +12,7 @@ use harness::group_records::GroupRecord;
 use harness::records;
 use reference::access;
 use reference::call;
-use reference::log::RECORDS;
+use reference::history::RECORDS;
 use reference::problem;
 use reference::problem::MAX_VERTICES;
 use reference::random;

@@ -7,6 +7,7 @@ use reference::access;
 use reference::card;
 use reference::certificate;
 use reference::certificate::Certificate;
+use reference::history_card;
 use reference::problem;
 use reference::refusals::INVALID_BOARD;
 use reference::script;
@@ -63,7 +64,7 @@ pub fn card_right(line: Line) -> bool {
     );
     let bytes = c.bytes;
     let answer = script::expected(line, 1);
-    if card::read(access::front(&bytes, c.length)).answer != answer {
+    if history_card::open(access::front(&bytes, c.length)).answer != answer {
         return false;
     }
     calls::open(c).answer == answer

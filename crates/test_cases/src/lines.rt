@@ -1,7 +1,8 @@
 // The documents' own cases, one to a line of the standard input, held against the reference and against the planner:
 // the worked outcomes with their trees, states and cards, every refusal from 1 to 15 but 6 with what it leaves behind,
-// the 200 records, group presses, plans made elsewhere.
+// the 200 records, group presses, plans made elsewhere, cards with records.
 use crate::buffer_lines;
+use crate::history_lines;
 use crate::look_lines;
 use harness::boards;
 use harness::replies;
@@ -9,6 +10,7 @@ use harness::session;
 use harness::session::Called;
 use harness::session::Session;
 use reference::access;
+use reference::history;
 use reference::log;
 use reference::outcome;
 use reference::refusals::INVALID_BOARD;
@@ -65,6 +67,10 @@ fn is_right(line: Line, s: Session) -> bool {
         b'i' => buffer_lines::buffers_right(line, s),
         b'c' => buffer_lines::card_right(line),
         b'a' => buffer_lines::plan_right(line, s),
+        b'C' => history_lines::opening_right(line),
+        b'r' => history_lines::records_right(line, s),
+        b'H' => history_lines::move_right(line, true),
+        b'P' => history_lines::move_right(line, false),
         _ => !line.expects,
     }
 }
@@ -74,8 +80,7 @@ fn damaged() -> Session {
     let p = worked::without_arcs(4, 4, 16);
     Session {
         board: boards::of_problem(p),
-        log: log::empty(),
-        card: p,
+        log: log::opened(p, history::empty()),
     }
 }
 
@@ -88,6 +93,7 @@ fn after(line: Line, s: Session) -> Session {
             script::number(line, 1),
         )),
         b'D' => damaged(),
+        b'C' => history_lines::after_opening(line, s),
         b'm' | b'g' | b'b' | b't' => session_of(called(line, s)),
         _ => s,
     }

@@ -13,7 +13,7 @@ use harness::session;
 use harness::session::Session;
 use planner::ListAnswered;
 use reference::access;
-use reference::log::RECORDS;
+use reference::history::RECORDS;
 use reference::problem;
 use reference::problem::MAX_BUDGET;
 use reference::random;
@@ -55,9 +55,6 @@ fn planted_alone(tally: Tally, a: ListAnswered, due: Due, b: Board) -> Tally {
 
 // Another board for both the list and the single calls, so that only the log can tell.
 fn planted_both(tally: Tally, a: ListAnswered, due: Due, b: Board) -> Tally {
-    if !due.has_log {
-        return tally;
-    }
     planted_alone(tally, a, dues::with_single_board(due, b), b)
 }
 
@@ -160,12 +157,15 @@ pub fn compared(tally: Tally, a: ListAnswered, due: Due) -> Tally {
     planted_there(v, a, due)
 }
 
-// The last board of a list written; and with another budget, which has to be reported.
+// The last board of a list written, as a plain card and as a history card; and with another budget, which
+// has to be reported.
 pub fn written(tally: Tally, which: u32, s: Session) -> Tally {
     let mut wrong = s;
     let mut b = s.board;
     b.budget = access::plus(b.budget % MAX_BUDGET, 1);
     wrong.board = b;
-    let t = tally::checked(tally, which, session::write_right(s));
-    tally::planted(t, !session::write_right(wrong))
+    let right = session::write_right(s) && session::history_write_right(s);
+    let t = tally::checked(tally, which, right);
+    let u = tally::planted(t, !session::write_right(wrong));
+    tally::planted(u, !session::history_write_right(wrong))
 }

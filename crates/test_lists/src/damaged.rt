@@ -12,7 +12,6 @@ use crate::making::Style;
 use board::Board;
 use harness::boards;
 use harness::changes;
-use harness::counts;
 use harness::damage::Damaged;
 use harness::session;
 use harness::session::Session;
@@ -32,11 +31,9 @@ const BOARDS: u32 = compared::OWN;
 
 const CHANGED: u32 = compared::OWN + 1;
 
-const WITHOUT_LOG: u32 = compared::OWN + 2;
+const DAMAGED: u32 = compared::OWN + 2;
 
-const DAMAGED: u32 = compared::OWN + 3;
-
-const REFUSED: u32 = compared::OWN + 4;
+const REFUSED: u32 = compared::OWN + 3;
 
 // Whether a list was refused with 15 and left this board.
 fn is_refused(a: ListAnswered, b: Board) -> bool {
@@ -110,8 +107,7 @@ fn tried_changed(tally: Tally, d: Damaged, s: Session, list: List, count: u32, d
     }
     let own = due_on_changed(b, s, list, count);
     let t = tally::with(tally, CHANGED, 1);
-    let u = tally::with(t, WITHOUT_LOG, counts::one_if(!own.has_log));
-    tried_sound(u, b, list, count, own)
+    tried_sound(t, b, list, count, own)
 }
 
 // The list on the board with each change.
@@ -147,9 +143,7 @@ const SEVERAL: u32 = 12;
 // The empty list, a take-back, and several calls.
 fn tried_lists(tally: Tally, s: Session, seed: u32) -> Tally {
     let g = random::seeded(seed);
-    let log = s.log;
-    let card = s.card;
-    let several = making::some_list(log, card, STYLE, seed);
+    let several = making::some_list(s.log, STYLE, seed);
     let t = tally::with(tally, BOARDS, 1);
     let u = tried(t, s, lists::take_backs(), 0, g);
     let v = tried(u, s, lists::take_backs(), 1, g);
@@ -161,7 +155,7 @@ const SIZES: u32 = MAX_VERTICES - 1;
 
 fn with_history(start: Session, seed: u32, count: u32) -> Session {
     let mut s = start;
-    let card = start.card;
+    let card = session::card_of(start);
     for k in 0..count {
         let g = random::seeded(access::plus(seed, k));
         let made = session::with_call(s, call::some_call(g, card, 4));
@@ -190,7 +184,7 @@ pub fn all() {
         run(31),
         b"lists on sound boards\npresses applied\nof these take-backs\nof these groups\npresses refused\n\
         answer 0:\nanswer 9:\nanswer 10:\nanswer 11:\nanswer 12:\nanswer 13:\nanother answer:\n\
-        boards\nlists on changed sound boards\nof these held to single calls alone\n\
+        boards\nlists on changed sound boards\n\
         lists on damaged boards\nrefused with 15\n",
     );
 }

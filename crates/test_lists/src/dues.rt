@@ -6,6 +6,7 @@ use board::Board;
 use harness::boards;
 use harness::calls;
 use harness::counts;
+use harness::histories;
 use harness::session::Session;
 use reference::access;
 use reference::call;
@@ -13,7 +14,6 @@ use reference::call::Call;
 use reference::log;
 use reference::log::Log;
 use reference::problem::Problem;
-use reference::refusals::HISTORY_EMPTY;
 
 // The log after a part of a list, up to the first refused call: how many were accepted, and the refusal or 0.
 pub struct LogResult {
@@ -22,9 +22,9 @@ pub struct LogResult {
     pub log: Log,
 }
 
-fn with_call(r: LogResult, card: Problem, c: Call) -> LogResult {
+fn with_call(r: LogResult, c: Call) -> LogResult {
     let log = r.log;
-    let noted = log::note(log, card, c);
+    let noted = log::note(log, c);
     let after = noted.log;
     LogResult {
         applied: access::plus(r.applied, counts::one_if(noted.answer == 0)),
@@ -34,14 +34,14 @@ fn with_call(r: LogResult, card: Problem, c: Call) -> LogResult {
 }
 
 // So many calls of a list from a place on, in the log.
-fn by_log(start: Log, card: Problem, list: List, from: u32, count: u32) -> LogResult {
+fn by_log(start: Log, list: List, from: u32, count: u32) -> LogResult {
     let mut r = LogResult {
         applied: 0,
         answer: 0,
         log: start,
     };
     for k in 0..count {
-        r = with_call(r, card, lists::nth(list, access::plus(from, k)));
+        r = with_call(r, lists::nth(list, access::plus(from, k)));
         if r.answer != 0 {
             return r;
         }
@@ -98,49 +98,33 @@ fn singly(b: Board, list: List, from: u32, count: u32) -> Singles {
     s
 }
 
-// Both, and the card's instance under what the log says then. So many records lie below the log's; and where there is
-// no log, the single calls alone say what is due.
+// Both, and the card's instance under what the log says then.
 pub struct Due {
     pub singles: Singles,
-    pub has_log: bool,
     pub by_log: LogResult,
     pub now: Problem,
-    pub below: usize,
-}
-
-fn due_above(below: usize, s: Session, list: List, from: u32, count: u32) -> Due {
-    let board = s.board;
-    let start = s.log;
-    let card = s.card;
-    let r = by_log(start, card, list, from, count);
-    let after = r.log;
-    Due {
-        singles: singly(board, list, from, count),
-        has_log: true,
-        by_log: r,
-        now: log::problem_now(after, card),
-        below: below,
-    }
 }
 
 pub fn due_for(s: Session, list: List, from: u32, count: u32) -> Due {
-    due_above(0, s, list, from, count)
+    let board = s.board;
+    let start = s.log;
+    let r = by_log(start, list, from, count);
+    let after = r.log;
+    Due {
+        singles: singly(board, list, from, count),
+        by_log: r,
+        now: log::problem_now(after),
+    }
 }
 
-// On a board whose history no log has: an empty log above the board's own instance, as long as the list takes back no
-// more than it pressed. The history has room for all of the list.
+// On a board that is none of a session: as if it were opened from a card with its marks, its budget and its records
+// (02, A8).
 pub fn due_on(b: Board, list: List, from: u32, count: u32) -> Due {
     let own = Session {
         board: b,
-        log: log::empty(),
-        card: boards::problem_of(b),
+        log: log::opened(boards::problem_of(b), histories::of_board(b)),
     };
-    let mut due = due_above(b.count, own, list, from, count);
-    let r = due.by_log;
-    if b.count != 0 {
-        due.has_log = r.answer != HISTORY_EMPTY;
-    }
-    due
+    due_for(own, list, from, count)
 }
 
 // The same with another board of the single calls.
@@ -156,12 +140,7 @@ pub fn with_single_board(due: Due, b: Board) -> Due {
 pub fn session_after(s: Session, due: Due, b: Board) -> Session {
     let r = due.by_log;
     let log = r.log;
-    let card = s.card;
-    Session {
-        board: b,
-        log: log,
-        card: card,
-    }
+    Session { board: b, log: log }
 }
 
 // The place behind the calls that were accepted and the refused one, if there is one.

@@ -4,6 +4,7 @@ use board::Board;
 use harness::boards;
 use planner::ListAnswered;
 use reference::access;
+use reference::log;
 use reference::refusals::HISTORY_FULL;
 
 // Whether as many presses were applied as the log accepts, with its answer, and the board has the marks, the budget and
@@ -18,7 +19,7 @@ fn log_right(a: ListAnswered, due: Due) -> bool {
         return false;
     }
     let log = r.log;
-    if b.count != std::num::wrapping_add_usize(due.below, log.count as usize) {
+    if b.count != log::standing(log) as usize {
         return false;
     }
     let now = due.now;
@@ -39,9 +40,6 @@ pub fn is_right(a: ListAnswered, due: Due) -> bool {
     }
     if !boards::identical(single, b) {
         return false;
-    }
-    if !due.has_log {
-        return true;
     }
     log_right(a, due)
 }

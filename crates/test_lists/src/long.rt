@@ -12,8 +12,9 @@ use harness::session;
 use reference::call;
 use reference::call::Call;
 use reference::families;
+use reference::history;
+use reference::history::RECORDS;
 use reference::log;
-use reference::log::RECORDS;
 use reference::problem::Problem;
 use reference::sample;
 use reference::tally;
@@ -48,7 +49,11 @@ const STYLE: Style = Style {
 };
 
 fn mixed(card: Problem) -> List {
-    making::some_list(log::empty(), card, STYLE, making::nth_seed(0))
+    making::some_list(
+        log::opened(card, history::empty()),
+        STYLE,
+        making::nth_seed(0),
+    )
 }
 
 // A group press that names nothing.

@@ -40,7 +40,8 @@ fn kind_due(p: Problem) -> u32 {
 // A log that lacks every press, where the outcome is of another kind without them.
 fn planted_log(tally: Tally, which: u32, s: Session) -> Tally {
     let mut wrong = s;
-    wrong.log = log::empty();
+    let log = s.log;
+    wrong.log = log::opened(log.card, log.below);
     let kind = kind_due(session::problem_now(s));
     if kind == kind_due(session::problem_now(wrong)) {
         return tally;

@@ -5,10 +5,9 @@ use crate::lists::PERIOD;
 use reference::access;
 use reference::call;
 use reference::call::Call;
+use reference::history::RECORDS;
 use reference::log;
 use reference::log::Log;
-use reference::log::RECORDS;
-use reference::problem::Problem;
 use reference::random;
 use reference::random::Random;
 
@@ -37,9 +36,9 @@ fn some_accepted(count: u32, g: Random) -> Call {
 }
 
 // A call, which is replaced if the log refuses it and it is not kept.
-fn some_call(log: Log, card: Problem, g: Random, back: u32, kept: u32) -> Call {
-    let c = call::some_call(g, card, back);
-    let noted = log::note(log, card, c);
+fn some_call(log: Log, g: Random, back: u32, kept: u32) -> Call {
+    let c = call::some_call(g, log.card, back);
+    let noted = log::note(log, c);
     if noted.answer == 0 {
         return c;
     }
@@ -47,29 +46,29 @@ fn some_call(log: Log, card: Problem, g: Random, back: u32, kept: u32) -> Call {
     if random::below(h, 16) < kept {
         return c;
     }
-    some_accepted(log.count, random::next(h))
+    some_accepted(log::standing(log), random::next(h))
 }
 
-fn nth_call(log: Log, card: Problem, g: Random, style: Style, k: u32) -> Call {
+fn nth_call(log: Log, g: Random, style: Style, k: u32) -> Call {
     if style.wound_up {
-        if PERIOD as u32 <= access::plus(log.count, k) {
+        if PERIOD as u32 <= access::plus(log::standing(log), k) {
             return call::take_back();
         }
     }
     if k < style.presses {
-        return some_call(log, card, g, 0, 0);
+        return some_call(log, g, 0, 0);
     }
-    some_call(log, card, g, style.back, style.kept)
+    some_call(log, g, style.back, style.kept)
 }
 
 // A list for a board where that log stands.
-pub fn some_list(start: Log, card: Problem, style: Style, seed: u32) -> List {
+pub fn some_list(start: Log, style: Style, seed: u32) -> List {
     let mut list = lists::take_backs();
     let mut log = start;
     for k in 0..PERIOD as u32 {
         let g = random::seeded(access::plus(seed, k));
-        let c = nth_call(log, card, g, style, k);
-        let noted = log::note(log, card, c);
+        let c = nth_call(log, g, style, k);
+        let noted = log::note(log, c);
         log = noted.log;
         list.calls[k as usize] = c;
     }

@@ -13,6 +13,8 @@ use harness::counts;
 use harness::session;
 use harness::session::Session;
 use reference::access;
+use reference::history_sample;
+use reference::log;
 use reference::problem::MAX_VERTICES;
 use reference::problem::Problem;
 use reference::random;
@@ -37,6 +39,8 @@ const LOOKS: u32 = compared::OWN + 5;
 const LACKING: u32 = compared::OWN + 6;
 
 const WRITES: u32 = compared::OWN + 7;
+
+const RECORDS: u32 = compared::OWN + 8;
 
 // How long each list is.
 const LENGTH: u32 = PERIOD as u32;
@@ -159,14 +163,33 @@ fn nth_style(k: u32) -> Style {
     }
 }
 
-fn one_session(tally: Tally, k: u32) -> Tally {
+// So many lists begin on a plain card, and as many as follow on a card with records (02, A8), some with 200.
+const PLAIN: u32 = 96;
+
+const RECORDED: u32 = 48;
+
+fn nth_session(k: u32) -> Session {
     let card = nth_card(k);
-    let s = session::opened(card);
-    let log = s.log;
-    let list = making::some_list(log, card, nth_style(k), making::nth_seed(k));
+    if k < PLAIN {
+        return session::opened(card);
+    }
+    let count = history_sample::nth_count(k / 4, random::seeded(k));
+    session::opened_with(
+        card,
+        history_sample::some_history(card, count, k % 4096 * 256),
+    )
+}
+
+fn one_session(tally: Tally, k: u32) -> Tally {
+    let s = nth_session(k);
+    let list = making::some_list(s.log, nth_style(k), making::nth_seed(k));
     let start = Progress {
         session: s,
-        tally: tally::with(tally, SESSIONS, 1),
+        tally: tally::with(
+            tally::with(tally, SESSIONS, 1),
+            RECORDS,
+            log::standing(s.log),
+        ),
         at: 0,
     };
     let end = in_pieces(start, list, k);
@@ -185,10 +208,10 @@ fn run(count: u32) -> Tally {
 
 pub fn all() {
     tally::report(
-        run(96),
+        run(PLAIN + RECORDED),
         b"pieces\npresses applied\nof these take-backs\nof these groups\npresses refused\n\
         answer 0:\nanswer 9:\nanswer 10:\nanswer 11:\nanswer 12:\nanswer 13:\nanother answer:\n\
         lists\nof these handed over to the end\nempty pieces\nwhole lists\nof these applied\nlooks\n\
-        looks held to a log that lacks something\nwrites\n",
+        looks held to a log that lacks something\nwrites\nrecords on the cards\n",
     );
 }

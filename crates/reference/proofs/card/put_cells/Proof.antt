@@ -7,10 +7,10 @@ use Rattle.reference.proofs.card.put_cells.Statement.{statement}
 use Rattle.reference.proofs.card.put_cells.Tie as tie
 
 abbrev Inv-loop : tie.InvT-loop
-Inv-loop out₀ p at₀ k₀ out at k = length out ≡ length out₀
+Inv-loop out₀ from p n root at₀ k₀ out at k = length out ≡ length out₀
 
 abbrev μ-loop : tie.MeasureT-loop
-μ-loop out₀ p at₀ k₀ out at k = 1024 - k
+μ-loop out₀ from p n root at₀ k₀ out at k = 1024 - k
 
 pub put-cells-spec : {M : Type 1} → statement M
 put-cells-spec =
@@ -19,6 +19,13 @@ put-cells-spec =
     Inv-loop
     μ-loop
     (λ c. search needs)
+    (λ c κs. search needs)
+    (λ c. search needs)
+    (λ c. search needs)
+    (λ c. search needs)
+    (λ c. search needs)
+    (λ c. search needs)
+    (λ c κs. search needs)
     (λ c κs. search needs)
     (λ c. search needs)
     (λ c. search needs)

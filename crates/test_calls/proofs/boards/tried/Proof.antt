@@ -8,7 +8,7 @@ abbrev Inv-loop : tie.InvT-loop
 Inv-loop d t₀ k₀ t k = Unit
 
 abbrev μ-loop : tie.MeasureT-loop
-μ-loop d t₀ k₀ t k = 15 - k
+μ-loop d t₀ k₀ t k = 17 - k
 
 pub tried-spec : {M : Type 1} → statement M
 tried-spec =

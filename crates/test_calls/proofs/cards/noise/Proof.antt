@@ -8,7 +8,7 @@ abbrev Inv-loop : tie.InvT-loop
 Inv-loop length c₀ g₀ k₀ c g k = Unit
 
 abbrev μ-loop : tie.MeasureT-loop
-μ-loop length c₀ g₀ k₀ c g k = 2700 - k
+μ-loop length c₀ g₀ k₀ c g k = 5200 - k
 
 pub noise-spec : {M : Type 1} → statement M
 noise-spec =

@@ -5,10 +5,10 @@ use Rattle.test_calls.proofs.replays.read.Statement.{statement}
 use Rattle.test_calls.proofs.replays.read.Tie as tie
 
 abbrev Inv-loop : tie.InvT-loop
-Inv-loop p list answers r₀ k₀ r k = Unit
+Inv-loop list answers r₀ k₀ r k = Unit
 
 abbrev μ-loop : tie.MeasureT-loop
-μ-loop p list answers r₀ k₀ r k = 300 - k
+μ-loop list answers r₀ k₀ r k = 300 - k
 
 pub read-spec : {M : Type 1} → statement M
 read-spec =

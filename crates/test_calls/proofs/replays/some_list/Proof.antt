@@ -5,10 +5,10 @@ use Rattle.test_calls.proofs.replays.some_list.Statement.{statement}
 use Rattle.test_calls.proofs.replays.some_list.Tie as tie
 
 abbrev Inv-loop : tie.InvT-loop
-Inv-loop p l₀ g₀ k₀ l g k = Unit
+Inv-loop p back l₀ g₀ k₀ l g k = Unit
 
 abbrev μ-loop : tie.MeasureT-loop
-μ-loop p l₀ g₀ k₀ l g k = 300 - k
+μ-loop p back l₀ g₀ k₀ l g k = 300 - k
 
 pub some-list-spec : {M : Type 1} → statement M
 some-list-spec =

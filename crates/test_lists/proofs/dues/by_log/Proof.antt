@@ -5,10 +5,10 @@ use Rattle.test_lists.proofs.dues.by_log.Statement.{statement}
 use Rattle.test_lists.proofs.dues.by_log.Tie as tie
 
 abbrev Inv-loop : tie.InvT-loop
-Inv-loop card list from count r₀ k₀ r k = Unit
+Inv-loop list from count r₀ k₀ r k = Unit
 
 abbrev μ-loop : tie.MeasureT-loop
-μ-loop card list from count r₀ k₀ r k = count - k
+μ-loop list from count r₀ k₀ r k = count - k
 
 pub by-log-spec : {M : Type 1} → statement M
 by-log-spec =

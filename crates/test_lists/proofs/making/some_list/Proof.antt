@@ -5,10 +5,10 @@ use Rattle.test_lists.proofs.making.some_list.Statement.{statement}
 use Rattle.test_lists.proofs.making.some_list.Tie as tie
 
 abbrev Inv-loop : tie.InvT-loop
-Inv-loop card style seed list₀ log₀ k₀ list log k = Unit
+Inv-loop style seed list₀ log₀ k₀ list log k = Unit
 
 abbrev μ-loop : tie.MeasureT-loop
-μ-loop card style seed list₀ log₀ k₀ list log k = 400 - k
+μ-loop style seed list₀ log₀ k₀ list log k = 400 - k
 
 pub some-list-spec : {M : Type 1} → statement M
 some-list-spec =

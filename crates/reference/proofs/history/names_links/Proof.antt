@@ -1,17 +1,17 @@
--- `reference::card::field` is safe and ends.
+-- `reference::history::names_links` is safe and ends.
 use Prim.Native.Nat.{_-_}
 use borrow.Author.Needs.{needs}
-use Rattle.reference.proofs.card.field.Statement.{statement}
-use Rattle.reference.proofs.card.field.Tie as tie
+use Rattle.reference.proofs.history.names_links.Statement.{statement}
+use Rattle.reference.proofs.history.names_links.Tie as tie
 
 abbrev Inv-loop : tie.InvT-loop
-Inv-loop card from width value₀ i₀ value i = Unit
+Inv-loop p r head₀ head = Unit
 
 abbrev μ-loop : tie.MeasureT-loop
-μ-loop card from width value₀ i₀ value i = width - i
+μ-loop p r head₀ head = 32 - head
 
-pub field-spec : {M : Type 1} → statement M
-field-spec =
+pub names-links-spec : {M : Type 1} → statement M
+names-links-spec =
     tie.close
     (tie.spec
     Inv-loop
@@ -19,8 +19,9 @@ field-spec =
     (λ c. search needs)
     (λ c κs. search needs)
     (λ c κs. search needs)
+    (λ c. search needs)
     (λ c κs. search needs)
-    (λ c κs. search needs)
+    (λ c. search needs)
     (λ c. search needs)
     (λ c. search needs)
     (λ c. search needs)

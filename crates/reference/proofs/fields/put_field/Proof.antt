@@ -1,10 +1,10 @@
--- `reference::card::put_field` is safe and ends.
+-- `reference::fields::put_field` is safe and ends.
 use Prim.Native.Nat.{_-_}
 use lib.ListN.{length}
 use mathlib.Core.Path.{_≡_}
 use borrow.Author.Needs.{needs}
-use Rattle.reference.proofs.card.put_field.Statement.{statement}
-use Rattle.reference.proofs.card.put_field.Tie as tie
+use Rattle.reference.proofs.fields.put_field.Statement.{statement}
+use Rattle.reference.proofs.fields.put_field.Tie as tie
 
 abbrev Inv-loop : tie.InvT-loop
 Inv-loop out₀ from width value i₀ out i = length out ≡ length out₀
