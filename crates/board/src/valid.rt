@@ -94,5 +94,13 @@ pub fn is_valid(b: Board) -> bool
     ensures { λ r. ⌜ r ≡ valid (model-of b) ⌝ }
 {
     let records = b.records;
-    parts_valid(&b.weights, &b.marks, records, b.n, b.root, b.budget, b.count)
+    parts_valid(
+        &b.weights,
+        &b.marks,
+        records,
+        b.n,
+        b.root,
+        b.budget,
+        b.count,
+    )
 }
