@@ -75,6 +75,11 @@ pub passed : (t : Bool) (k r : ℕ) → cond t (suc k) r ≡ 0 → (t ≡ false)
 passed true k r e = absurd (omega arith)
 passed false k r e = (refl, e)
 
+-- the last refusal of all was passed: its test did not fail
+pub passes-only : (f : Bool) (k : ℕ) → cond f 0 (suc k) ≡ 0 → f ≡ true
+passes-only true k e = refl
+passes-only false k e = absurd (omega arith)
+
 -- two tests after a first one have to agree only where that passes
 pub and-where : (c x y : Bool) → (c ≡ true → x ≡ y) → c && x ≡ c && y
 and-where true x y h = h refl

@@ -81,12 +81,6 @@ module _ (ws : List ℕ) where
   unfolding instance-in
   mark-in i h = field-at weight-width mark-width free (n-of ws) (root-of ws) (bits-in ws) i free h
 
-  -- a cell that can never be an arc
-  pub opened-elsewhere : (i : ℕ) → i < cells → on-card (instance-in ws .n) (instance-in ws .root) i ≡ false →
-      (weight-at (instance-in ws) i ≡ no-arc) × (mark-at (instance-in ws) i ≡ free)
-  unfolding instance-in cell-field
-  opened-elsewhere i h q = (weight-in i h ∙ rw q, mark-in i h ∙ rw q)
-
 -- VALID
 module _ (ws : List ℕ) (o : Opens ws) where
   mark-small : (i : ℕ) → on-card (n-of ws) (root-of ws) i ≡ true → mark-field (n-of ws) (root-of ws) (bits-in ws) i < 2 ^ mark-width

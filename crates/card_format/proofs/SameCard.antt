@@ -32,6 +32,10 @@ module _ (s t : Instance) (e : Same-instance s t) where
   cells-same zero i = refl
   cells-same (suc k) i = rw (cells-same k (suc i), e .same-n, e .same-root, cell-same i (on-card (t .n) (t .root) i) refl)
 
+  pub same-bits : instance-bits s ≡ instance-bits t
+  unfolding instance-bits
+  same-bits = rw (cells-same cells 0, e .same-n, e .same-root, e .same-budget)
+
   pub same-card : card-of s ≡ card-of t
-  unfolding card-of instance-bits
-  same-card = rw (cells-same cells 0, e .same-n, e .same-root, e .same-budget)
+  unfolding card-of
+  same-card = rw (same-bits, e .same-n)

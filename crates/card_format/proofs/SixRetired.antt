@@ -18,7 +18,7 @@ use Rattle.bits.proofs.FieldLaws.{field-below}
 use Rattle.instance.specs.Limits.{max-vertices, max-weight, max-budget, no-arc, free, cells}
 use Rattle.instance.specs.Refusals.{card-short, bad-count, bad-length, bad-root, bad-card-budget, bad-weight, bad-mark, bad-filling}
 use Rattle.card_format.specs.Widths.{budget-width, header-width, weight-width, cell-width}
-use Rattle.card_format.specs.Card.{on-card, bits-needed, bytes-needed, min-card, weights-in, marks-in, instance-in, unused-mark, cell-fields, cell-refusal, cells-refusal, header-refusal, card-refusal}
+use Rattle.card_format.specs.Card.{n-in, root-in, on-card, bits-needed, bytes-needed, min-card, weights-in, marks-in, instance-of-bits, instance-in, unused-mark, cell-fields, cell-refusal, cells-refusal, header-refusal, card-refusal}
 use Rattle.card_format.proofs.HeaderLaws.{n-of, root-of, budget-of}
 
 -- no link is the greatest number of a price field, and the dearest price the one before it (`no-gap` in instance); the
@@ -51,15 +51,19 @@ next-are-bits : (b : Bool) (bs : List ℕ) → are-bits bs ≡ true → are-bits
 next-are-bits true bs e = all-of-drop (λ b. ltb b 2) cell-width bs e
 next-are-bits false bs e = e
 
-cells-not-six : (n r k i : ℕ) (bs ms : List ℕ) → are-bits bs ≡ true →
+from-not-six : (n r k i : ℕ) (bs ms : List ℕ) → are-bits bs ≡ true →
     cells-refusal (cell-fields n r 0 weight-width no-arc k i bs) ms ≡ bad-weight → ⊥
 unfolding cell-fields cells-refusal
-cells-not-six n r zero i bs ms b = λ e. omega arith
-cells-not-six n r (suc k) i bs [] b = λ e. omega arith
-cells-not-six n r (suc k) i bs (m ∷ ms) b =
+from-not-six n r zero i bs ms b = λ e. omega arith
+from-not-six n r (suc k) i bs [] b = λ e. omega arith
+from-not-six n r (suc k) i bs (m ∷ ms) b =
     let w = cond (on-card n r i) (field 0 weight-width bs) no-arc in
-    neither-six (eqb (cell-refusal w m) 0) _ (cell-refusal w m) (cells-not-six n r k (suc i) _ ms (next-are-bits (on-card n r i) bs b))
+    neither-six (eqb (cell-refusal w m) 0) _ (cell-refusal w m) (from-not-six n r k (suc i) _ ms (next-are-bits (on-card n r i) bs b))
     (cell-not-six w m (weight-below (on-card n r i) bs b))
+
+-- of any bits
+pub cells-not-six : (bs : List ℕ) → are-bits bs ≡ true → cells-refusal (instance-of-bits bs .weights) (instance-of-bits bs .marks) ≡ bad-weight → ⊥
+cells-not-six bs b = from-not-six (n-in bs) (root-in bs) cells 0 (drop header-width bs) _ (all-of-drop (λ b. ltb b 2) header-width bs b)
 
 -- THE CARD
 pub six-retired : (card : List ℕ) → card-refusal card ≡ 6 → ⊥
@@ -67,13 +71,11 @@ unfolding card-refusal header-refusal instance-in
 six-retired ws =
     let bs = bits-in ws in
     let n = n-of ws in
-    let ms = marks-in n (root-of ws) bs in
-    let c = cells-refusal (weights-in n (root-of ws) bs) ms in
-    let fine = cells-not-six n (root-of ws) cells 0 (drop header-width bs) ms (all-of-drop (λ b. ltb b 2) header-width bs (bits-in-are-bits ws)) in
+    let c = cells-refusal (weights-in n (root-of ws) bs) (marks-in n (root-of ws) bs) in
     neither-six (ltb (length ws) min-card) card-short _ (λ e. omega arith)
     (neither-six (eqb n 0 || ltb max-vertices n) bad-count _ (λ e. omega arith)
     (neither-six (not (eqb (length ws) (bytes-needed n))) bad-length _ (λ e. omega arith)
     (neither-six (leb n (root-of ws)) bad-root _ (λ e. omega arith)
     (neither-six (ltb max-budget (budget-of ws)) bad-card-budget _ (λ e. omega arith)
-    (neither-six (not (eqb c 0)) c _ fine
+    (neither-six (not (eqb c 0)) c _ (cells-not-six bs (bits-in-are-bits ws))
     (neither-six (all-of (λ b. eqb b 0) (drop (bits-needed n) bs)) 0 bad-filling (λ e. omega arith) (λ e. omega arith)))))))

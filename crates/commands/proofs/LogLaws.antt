@@ -13,26 +13,26 @@ use mathlib.Core.List.{List, [], _∷_, _++_}
 use Prim.Native.Nat.{ℕ, suc, _+_, _≤_, _<_}
 use native.Mathlib.Omega.{arith}
 use lib.Dec.{ltb, leb, eqb}
-use lib.ListN.{length, getD, length-append, length-set}
+use lib.ListN.{length, length-append}
 use borrow.Author.Tests.{ltb-true, not-false}
 use Rattle.base.specs.Lists.{any-of}
 use Rattle.base.proofs.BoolLaws.{and-left, and-right}
-use Rattle.instance.specs.Limits.{max-vertices, max-budget, free, max-records, cells}
+use Rattle.instance.specs.Limits.{max-vertices, max-budget, max-records, cells}
 use Rattle.instance.specs.Refusals.{bad-budget, history-full}
 use Rattle.instance.specs.Marks.{mark-number}
-use Rattle.instance.specs.Instance.{Instance, with-budget, cell, weight, mark, is-arc}
-use Rattle.instance.specs.Cuts.{inside}
+use Rattle.instance.specs.Instance.{Instance, with-budget, weight, mark, is-arc}
 use Rattle.instance.specs.declared.Mark.{Mark}
-use Rattle.commands.specs.Heads.{heads-below, names-arc, names-any, with-marks}
-use Rattle.commands.specs.Model.{Replaced, old-mark, old-marks, old-budget, Model, with-mark, restored}
+use Rattle.commands.specs.Heads.{heads-below, names-arc, names-any}
+use Rattle.commands.specs.Model.{Replaced, old-mark, old-budget, Model, with-mark, restored}
 use Rattle.commands.specs.Valid.{valid}
 use Rattle.commands.specs.Commands.{Command, set-mark, set-marks, set-budget, undo, Result, refused, accepted, decided, arc-refusal, mark-refusal, marked, marks-refusal, several-marked, budget-refusal, budgeted, undone, applied, answered, command-numbers, answers, board-after}
 use Rattle.commands.specs.Log.{Entry, entry-mark, entry-marks, entry-budget, Log, Noted, new-log, with-entries, log-length, unnoted, noted, noted-below, note-arcs, note-mark, note-marks, note-budget, note-undo, note, log-answers, log-after}
 use Rattle.commands.specs.Effective.{effective}
-use Rattle.commands.proofs.HeadsLaws.{put-length, marks-back}
+use Rattle.commands.proofs.HeadsLaws.{marks-back}
 use Rattle.commands.proofs.CommandLaws.{mark-back, marks-result}
 use Rattle.commands.proofs.ValidLaws.{valid-parts}
 use Rattle.commands.proofs.AnsweredLaws.{answered-applied, applied-valid}
+use Rattle.commands.proofs.RestoredLaws.{restored-n, restored-long}
 use Rattle.commands.proofs.EffectiveLaws.{over, over-none, over-mark, over-marks, over-budget}
 
 -- TIED
@@ -167,19 +167,6 @@ budget-step v k rs d =
     (budget-tests (ltb max-budget v) (leb max-records (log-length k)) (on k rs) k
     (accepted (old-budget (effective k .budget)) (with-budget v (effective k)) (on k rs)) (noted (entry-budget v ∷ k .entries) k) d
     (budget-accepted v k rs d))
-
--- what a record restores leaves the number of vertices and of marks
-restored-n : (r : Replaced) (s : Instance) → restored r s .n ≡ s .n
-unfolding restored with-mark with-marks
-restored-n (old-mark t h m) s = refl
-restored-n (old-marks t c ms) s = refl
-restored-n (old-budget v) s = refl
-
-restored-long : (r : Replaced) (s : Instance) → length (restored r s .marks) ≡ length (s .marks)
-unfolding restored with-mark with-marks
-restored-long (old-mark t h m) s = length-set (s .marks) (cell t h) m
-restored-long (old-marks t c ms) s = put-length t (inside c) (λ h. getD ms h free) (s .marks)
-restored-long (old-budget v) s = refl
 
 abbrev log-of : List Entry → List Replaced → Instance → Log
 log-of es bs s = record { card = s; below = bs; entries = es }

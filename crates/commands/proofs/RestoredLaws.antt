@@ -77,6 +77,19 @@ module _ (s : Instance) (long : length (s .marks) ≡ cells) (t h : ℕ) (lt : t
       let r : cell t h % 32 ≡ h = omega arith in
       put-at u (inside c) (λ v. getD ms v free) (s .marks) (cell t h) (omega arith) ∙ rw (d, r)
 
+-- the number of vertices and that of marks stay, whatever the record
+pub restored-n : (r : Replaced) (s : Instance) → restored r s .n ≡ s .n
+unfolding restored with-mark with-marks
+restored-n (old-mark t h m) s = refl
+restored-n (old-marks t c ms) s = refl
+restored-n (old-budget v) s = refl
+
+pub restored-long : (r : Replaced) (s : Instance) → length (restored r s .marks) ≡ length (s .marks)
+unfolding restored with-mark with-marks
+restored-long (old-mark t h m) s = length-set (s .marks) (cell t h) m
+restored-long (old-marks t c ms) s = put-length t (inside c) (λ h. getD ms h free) (s .marks)
+restored-long (old-budget v) s = refl
+
 -- "puts what it says in place", and nothing else is touched
 pub restored-reads : (r : Replaced) (s : Instance) → length (s .marks) ≡ cells → Head-below r → Restored-reads r s (restored r s)
 unfolding restored mark with-mark with-marks
@@ -84,21 +97,29 @@ restored-reads (old-mark u v m) s long b =
     record {
       marks = λ t h lt lh. at-arc s long t h lt lh u v m b (ℕ-discrete (cell t h) (cell u v));
       budget = refl;
-      n = refl;
+      n = restored-n (old-mark u v m) s;
       root = refl;
       weights = refl;
-      as-long = length-set (s .marks) (cell u v) m;
+      as-long = restored-long (old-mark u v m) s;
     }
 restored-reads (old-marks u c ms) s long b =
     record {
       marks = λ t h lt lh. several-marks s long t h lt lh u c ms;
       budget = refl;
-      n = refl;
+      n = restored-n (old-marks u c ms) s;
       root = refl;
       weights = refl;
-      as-long = put-length u (inside c) (λ v. getD ms v free) (s .marks);
+      as-long = restored-long (old-marks u c ms) s;
     }
-restored-reads (old-budget v) s long b = record { marks = λ t h lt lh. refl; budget = refl; n = refl; root = refl; weights = refl; as-long = refl }
+restored-reads (old-budget v) s long b =
+    record {
+      marks = λ t h lt lh. refl;
+      budget = refl;
+      n = restored-n (old-budget v) s;
+      root = refl;
+      weights = refl;
+      as-long = restored-long (old-budget v) s;
+    }
 
 -- TAKEN BACK: "a take-back that reaches one is accepted, strikes it out and puts what it says in place"
 module _ (r : Replaced) (rs : List Replaced) (b : Head-below r) where

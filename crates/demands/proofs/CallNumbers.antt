@@ -29,8 +29,8 @@ use Rattle.report_text.specs.Whole.{refused-text}
 use Rattle.report.specs.declared.Reported.{Reported}
 use Rattle.report.specs.Reports.{Reports-by}
 use Rattle.planner.specs.declared.View.{View}
-use Rattle.history_format.specs.HistoryCard.{open-refusal, model-in}
-use Rattle.history_format.proofs.HistoryNumbers.{history-numbers, open-listed}
+use Rattle.history_format.specs.HistoryCard.{is-history, history-refusal, open-refusal, model-in}
+use Rattle.history_format.proofs.HistoryNumbers.{history-numbers, history-listed, open-listed}
 use Rattle.planner.specs.Opening.{opened-from}
 use Rattle.planner.specs.Looking.{Buffers, answer-of, Looks-at}
 use Rattle.planner.specs.Checking.{check-answer}
@@ -40,11 +40,15 @@ use Rattle.planner.proofs.WritingLaws.{Write-case, refused-board, refused-buffe
 use Rattle.planner.proofs.OrderLaws.{Store-case, refused-by, no-room, stored}
 use Rattle.planner.proofs.OpeningLaws.{blank-by, opened-answer}
 
--- THE NUMBERS OF EACH CALL, 0 for accepted. An old card: "Cards: 1 to 5 in that order; then the first faulty cell ..;
--- then 8." Of a cell it is 7: "6 is retired" (02, A9). A card of either kind may get 27 too: `history-numbers` (02,
--- A8); a move to an old card 28: `to-plain-numbers`.
+-- THE NUMBERS OF EACH CALL, 0 for accepted. A plain card: "Cards: 1 to 5 in that order; then the first faulty cell ..;
+-- then 8." Of a cell it is 7: "6 is retired" (02, A9). A history card may get 27 too: `history-numbers` (02, A8); a move
+-- to a plain card 28: `to-plain-numbers`.
 abbrev pub card-numbers : List ℕ
 card-numbers = 0 ∷ card-short ∷ bad-count ∷ bad-length ∷ bad-root ∷ bad-card-budget ∷ bad-mark ∷ bad-filling ∷ []
+
+-- a card of either kind: each has its own
+abbrev pub open-numbers : (card : List ℕ) → List ℕ
+open-numbers ws = cond (is-history ws) history-numbers card-numbers
 
 -- "14 for looks and writes"
 abbrev pub buffer-numbers : List ℕ
@@ -78,6 +82,22 @@ card-listed (suc (suc (suc (suc (suc (suc (suc (suc (suc a))))))))) h n = absurd
 
 pub card-among : (ws : List ℕ) → among (card-refusal ws) card-numbers ≡ true
 card-among ws = card-listed (card-refusal ws) (card-refusal-most ws) (six-retired ws)
+
+pub open-among : (ws : List ℕ) → among (open-refusal ws) (open-numbers ws) ≡ true
+unfolding open-refusal
+open-among ws = by (is-history ws)
+  where
+    by : (k : Bool) → among (cond k (history-refusal ws) (card-refusal ws)) (cond k history-numbers card-numbers) ≡ true
+    by true = history-listed ws
+    by false = card-among ws
+
+pub zero-among : (ws : List ℕ) → among 0 (open-numbers ws) ≡ true
+unfolding any-of history-numbers
+zero-among ws = by (is-history ws)
+  where
+    by : (k : Bool) → among 0 (cond k history-numbers card-numbers) ≡ true
+    by true = refl
+    by false = refl
 
 pub opened-as-before : (ws : List ℕ) (o : Answered) → o ≡ opened-from ws → (o .answer ≡ 0 → ⊥) → o .board ≡ blank
 unfolding opened-from
@@ -178,12 +198,12 @@ module _ (ws : List ℕ) (r : Reported) (out out′ : List ℕ) where
   abbrev opens : Bool
   opens = eqb (open-refusal ws) 0
 
-  pub reports-among : (t u : Bool) → Reports-by t u ws out out′ r → among (r .answer) (buffer-short ∷ history-numbers) ≡ true
-  unfolding Reports-by any-of history-numbers
+  pub reports-among : (t u : Bool) → Reports-by t u ws out out′ r → among (r .answer) (buffer-short ∷ open-numbers ws) ≡ true
+  unfolding Reports-by any-of
   reports-among true u x = rw (ap (λ (y : Reported). y .answer) (x .result))
   reports-among false false x =
-      rw (x .answer) (or-right (eqb (open-refusal ws) buffer-short) (among (open-refusal ws) history-numbers) (open-listed ws))
-  reports-among false true x = rw (x .answer)
+      rw (x .answer) (or-right (eqb (open-refusal ws) buffer-short) (among (open-refusal ws) (open-numbers ws)) (open-among ws))
+  reports-among false true x = rw (x .answer) (or-right (eqb 0 buffer-short) (among 0 (open-numbers ws)) (zero-among ws))
 
   pub reports-before : (t u : Bool) → Reports-by t u ws out out′ r → (r .answer ≡ 0 → ⊥) → Reports-before out out′ r
   unfolding Reports-by
@@ -203,11 +223,11 @@ module _ (ws : List ℕ) (r : Reported) (out out′ : List ℕ) where
 
 -- REPLAYS
 module _ (cs : List Call) (k : Log) (v : View) (xs xs′ : List ℕ) (old new : Buffers) where
-  pub replays-among : (a : ℕ) (t : Bool) → among a history-numbers ≡ true → Replays-at a t cs k xs xs′ old new v → among (answer-of v) (buffer-short ∷ history-numbers) ≡ true
-  unfolding Replays-at any-of history-numbers
-  replays-among (suc a) t l r = rw (ap answer-of (r .1 .result)) (or-right (eqb (suc a) buffer-short) (among (suc a) history-numbers) l)
-  replays-among zero true l r = rw (ap answer-of (r .1 .result))
-  replays-among zero false l r = rw (shown-answer _ v old new (r .1))
+  pub replays-among : (ns : List ℕ) (a : ℕ) (t : Bool) → among a ns ≡ true → among 0 ns ≡ true → Replays-at a t cs k xs xs′ old new v → among (answer-of v) (buffer-short ∷ ns) ≡ true
+  unfolding Replays-at any-of
+  replays-among ns (suc a) t l o r = rw (ap answer-of (r .1 .result)) (or-right (eqb (suc a) buffer-short) (among (suc a) ns) l)
+  replays-among ns zero true l o r = rw (ap answer-of (r .1 .result))
+  replays-among ns zero false l o r = rw (shown-answer _ v old new (r .1)) (or-right (eqb 0 buffer-short) (among 0 ns) o)
 
   pub replays-as-before : (a : ℕ) (t : Bool) → Replays-at a t cs k xs xs′ old new v → (answer-of v ≡ 0 → ⊥) → (xs′ ≡ xs) × (new ≡ old)
   unfolding Replays-at

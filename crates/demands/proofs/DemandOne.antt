@@ -34,7 +34,7 @@ use Rattle.command_list.proofs.AppliedLaws.{Singly, list-valid, list-accepted}
 use Rattle.command_list.proofs.ListNumberLaws.{list-listed}
 use Rattle.command_list.proofs.ListCalled.{List-called, list-called}
 use Rattle.history_format.specs.HistoryCard.{open-refusal, history-model, to-plain-refusal, history-card-of}
-use Rattle.history_format.proofs.HistoryNumbers.{history-numbers, to-plain-numbers, open-listed, to-plain-listed}
+use Rattle.history_format.proofs.HistoryNumbers.{history-numbers, to-plain-numbers, to-plain-listed}
 use Rattle.report_text.specs.Whole.{max-text}
 use Rattle.report.specs.declared.Reported.{Reported}
 use Rattle.report.specs.Reports.{Reports}
@@ -46,7 +46,7 @@ use Rattle.planner.proofs.Learnt.{Opened-by, opened-by, Looked, looked, Wrote, 
 use Rattle.planner.proofs.WritingLaws.{write-cases}
 use Rattle.planner.proofs.OrderLaws.{history-write-cases, to-history-cases, to-plain-cases}
 use Rattle.planner.proofs.OpeningLaws.{opened-answer, opened-starts}
-use Rattle.demands.proofs.CallNumbers.{card-numbers, buffer-numbers, check-numbers, among, Reports-before, card-among, opened-as-before, looks-at-among, looks-at-as-before, looks-at-valid, writes-among, writes-as-before, writes-valid, stores-among, stores-as-before, stores-passed, board-passed, board-among, check-among, check-valid, reports-among, reports-before, reports-opened, replays-among, replays-as-before, replays-opened}
+use Rattle.demands.proofs.CallNumbers.{card-numbers, open-numbers, buffer-numbers, check-numbers, among, Reports-before, card-among, open-among, zero-among, opened-as-before, looks-at-among, looks-at-as-before, looks-at-valid, writes-among, writes-as-before, writes-valid, stores-among, stores-as-before, stores-passed, board-passed, board-among, check-among, check-valid, reports-among, reports-before, reports-opened, replays-among, replays-as-before, replays-opened}
 use Rattle.demands.proofs.Runs.{list-called-singly}
 
 -- AN ANSWER that some public call gave
@@ -65,7 +65,7 @@ pub data Given : ℕ → Type 0 where
 
 -- the numbers of each call
 abbrev pub numbers : {a : ℕ} → Given a → List ℕ
-numbers (by-opening p) = history-numbers
+numbers (by-opening {ws = ws} p) = open-numbers ws
 numbers (by-command {c = c} p) = command-numbers c
 numbers (by-list {ps = ps} p) = list-numbers (commands-in ps)
 numbers (by-looking p) = buffer-numbers
@@ -74,8 +74,8 @@ numbers (by-writing-history p) = buffer-numbers
 numbers (by-to-history p) = buffer-short ∷ card-numbers
 numbers (by-to-plain p) = buffer-short ∷ to-plain-numbers
 numbers (by-checking p) = check-numbers
-numbers (by-reporting p) = buffer-short ∷ history-numbers
-numbers (by-replaying p) = buffer-short ∷ history-numbers
+numbers (by-reporting {ws = ws} p) = buffer-short ∷ open-numbers ws
+numbers (by-replaying {ws = ws} p) = buffer-short ∷ open-numbers ws
 
 -- a list that was stopped: the applied ones, made singly, are all accepted and leave its board, which is valid if the
 -- first was; "What the earlier ones did stands; the rule on refusals speaks of the refused press alone" (02, A1)
@@ -119,11 +119,11 @@ pub record Demand-1 {a : ℕ} (g : Given a) : Type 0 where
 
 -- THE DEMAND
 pub demand-1 : {a : ℕ} (g : Given a) → Demand-1 g
-unfolding Looks Reports Replays any-of history-numbers to-plain-numbers
+unfolding Looks Reports Replays any-of to-plain-numbers history-numbers
 demand-1 (by-opening {ws = ws} {o = o} p) =
     let e = opened-answer ws o (opened-by p) in
     record {
-      own-number = rw e (open-listed ws);
+      own-number = rw e (open-among ws);
       as-before = opened-as-before ws o (opened-by p);
       leaves-valid = λ z. opened-starts ws o (opened-by p) (sym e ∙ z) .good;
     }
@@ -208,7 +208,7 @@ demand-1 (by-reporting {ws = ws} {r = r} {out = out} {out′ = out′} p) =
 demand-1 (by-replaying {ws = ws} {v = v} {xs = xs} {xs′ = xs′} {old = old} {new = new} p) =
     let r = replayed p in
     record {
-      own-number = replays-among _ _ v xs xs′ old new (open-refusal ws) _ (open-listed ws) r;
+      own-number = replays-among _ _ v xs xs′ old new (open-numbers ws) (open-refusal ws) _ (open-among ws) (zero-among ws) r;
       as-before = replays-as-before _ _ v xs xs′ old new (open-refusal ws) _ r;
       leaves-valid = replays-opened _ _ v xs xs′ old new (open-refusal ws) _ r;
     }

@@ -13,25 +13,29 @@ use Rattle.base.proofs.FrontLaws.{front-take}
 use Rattle.bits.specs.Bits.{are-bytes}
 use Rattle.instance.specs.Limits.{cells}
 use Rattle.instance.specs.Refusals.{invalid-board}
+use Rattle.card_format.proofs.SameCard.{same-bits}
 use Rattle.card.specs.declared.write.Written.{Written}
 use Rattle.commands.specs.Model.{Model}
 use Rattle.commands.specs.Valid.{valid}
 use Rattle.commands.specs.LogLists.{Input, input-answers, input-after}
 use Rattle.commands.specs.Effective.{effective}
 use Rattle.commands.specs.SameBoard.{Same-board}
+use Rattle.commands.proofs.SameBoardLaws.{same-valid}
 use Rattle.commands.proofs.LogLaws.{Tied}
 use Rattle.commands.proofs.LogListsLaws.{input-commands, input-after-commands}
 use Rattle.board.specs.ModelOf.{model-of, instance-of}
 use Rattle.board.specs.declared.Board.{Board}
 use Rattle.board.specs.declared.Answered.{Answered}
 use Rattle.board.proofs.RunLaws.{Follows}
-use Rattle.history_format.specs.HistoryCard.{is-history, open-refusal, history-model, history-card-of, max-history-card}
+use Rattle.history_format.specs.HistoryCard.{is-history, open-refusal, history-model, history-bits, history-bytes, history-card-of, max-history-card}
 use Rattle.history_format.proofs.HistoryBits.{history-kind-again}
 use Rattle.history_format.proofs.HistoryLaws.{All-shaped}
 use Rattle.history_format.proofs.ModelAgain.{As-read, history-opens-again, history-round-trip, model-back}
 use Rattle.history_format.proofs.HistoryAgain.{history-card-round-trip, model-of-history, model-in-shaped}
 use Rattle.history_format.proofs.Moves.{history-card-opens, plain-there-and-back, history-there-and-back}
 use Rattle.history_format.proofs.Longest.{longest-history}
+use Rattle.history_card.specs.Write.{history-written-to, history-buffer-after}
+use Rattle.history_card.proofs.BoardOfLaws.{All-heads-fit, board-shaped}
 use Rattle.planner.specs.Replaying.{log-in}
 use Rattle.planner.proofs.Learnt.{Opened-by, opened-by, Wrote-history, wrote-history, Moved-to-history, moved-to-history, Moved-to-plain, moved-to-plain}
 use Rattle.planner.proofs.OpeningLaws.{opened-starts, opened-answer, opened-model}
@@ -74,7 +78,7 @@ history-card-back {ws} {o} {r} {out} {out′} y k p a w h =
 -- says of every board that a program holds; here a board is any value, so it is asked for.
 pub record Typed (b : Board) : Type 0 where
   pub marks-long : length (b .marks) ≡ cells
-  pub shaped : All-shaped (model-of b .history)
+  pub heads-fit : All-heads-fit (model-of b .history)
 
 pub record Comes-back (b : Board) (o : Answered) : Type 0 where
   pub opens : o .answer ≡ 0
@@ -98,8 +102,9 @@ history-board-back {b} {r} {out} {out′} {o} t w a p =
     let c = history-stored w in
     let m = model-of b in
     let v = board-passed (valid m) (stores-passed _ _ out out′ r c a) in
-    let q = reopened m v (t .shaped) o (subst (λ (ws : List ℕ). Opened-by ws o) (in-buffer c a) p) in
-    record { opens = q .0; same = subst (λ (x : Model). Same-board x m) (sym (q .1)) (history-round-trip m v (t .shaped) (t .marks-long)) }
+    let s = board-shaped (b .count) (b .records) (t .heads-fit) in
+    let q = reopened m v s o (subst (λ (ws : List ℕ). Opened-by ws o) (in-buffer c a) p) in
+    record { opens = q .0; same = subst (λ (x : Model). Same-board x m) (sym (q .1)) (history-round-trip m v s (t .marks-long)) }
 
 -- FROM A RUN AND BACK, exactly: on a card that opens, whatever commands were made
 module _ {ws : List ℕ} {o : Answered} {is : List Input} {xs : List ℕ} {last : Board} {r : Written} {out out′ : List ℕ} {q : Answered}
@@ -170,3 +175,15 @@ history-fits {b} {r} {out} {out′} v h w =
     let l = longest-history (model-of b) v in
     let s = in-front-of (history-stored w) (rw v) (omega arith) in
     (ap (λ (x : Written). x .answer) (s .result), omega (arith, ap (λ (x : Written). x .length) (s .result)))
+
+-- BOARDS THAT ARE CALLED EQUAL are written alike
+pub same-write-history :
+    {a b : Board} {r q : Written} {out r′ q′ : List ℕ} → Same-board (model-of a) (model-of b) → Wrote-history a out r′ r → Wrote-history b out q′ q → (r ≡ q) × (r′ ≡ q′)
+unfolding history-bits history-bytes history-card-of history-written-to history-buffer-after
+same-write-history {a} {b} {r} {q} {out} {r′} {q′} s x y =
+    let v = same-valid (model-of a) (model-of b) s in
+    let e : history-bits (model-of a) ≡ history-bits (model-of b) = rw (same-bits (instance-of a) (instance-of b) (s .same-instances), s .same-history) in
+    let refusal : Written = record { answer = invalid-board; length = 0 } in
+    let same-result : cond (valid (model-of a)) (history-written-to (model-of a) out) refusal ≡ cond (valid (model-of b)) (history-written-to (model-of b) out) refusal = rw (v, e) in
+    let same-buffer : cond (valid (model-of a)) (history-buffer-after (model-of a) out) out ≡ cond (valid (model-of b)) (history-buffer-after (model-of b) out) out = rw (v, e) in
+    (wrote-history x .result ∙ same-result ∙ sym (wrote-history y .result), wrote-history x .buffer ∙ same-buffer ∙ sym (wrote-history y .buffer))

@@ -32,11 +32,13 @@ use Rattle.history_format.specs.RecordWidths.{marker-width, count-width}
 use Rattle.history_format.specs.RecordBits.{record-length, replaced-in, record-refusal}
 use Rattle.history_format.specs.HistoryCard.{is-history, behind-marker, behind-cells, count-in, history-model, records-refusal, behind-refusal, history-header-refusal, history-refusal}
 use Rattle.history_format.proofs.HeaderSteps.{History-header-known, history-header-known, history-rest, history-by-steps}
-use Rattle.history_format.proofs.InnerCard.{weights-long-from}
 use Rattle.history_format.proofs.HistoryLaws.{history-length}
-use Rattle.history_card.specs.Records.{Records-read}
+use Rattle.history_format.proofs.HistoryAgain.{bits-as-read}
+use Rattle.history_card.specs.Records.{counted-in, Records-read}
+use Rattle.history_card.specs.declared.records.Counted.{Counted}
 use Rattle.history_card.specs.Open.{history-header-of, history-opened}
 use Rattle.history_card.specs.declared.records.History.{History}
+use Rattle.history_card.proofs.RecordsLaws.{Count-passed, count-refused, count-passed}
 
 -- THE HEADER: 4 and 5 are left to judge
 pub fields-last : (ws : List ℕ) → min-card ≤ length ws → is-history ws ≡ true → (n-in (behind-marker ws) ≡ 0 → ⊥) → n-in (behind-marker ws) ≤ max-vertices →
@@ -136,31 +138,63 @@ module _ (ws : List ℕ) (h : Header) (q : h ≡ history-header-of ws) where
         same-weights = k .all-weights y ∙ rw its-fields
 
         pub cells-long : length (c .weights) ≡ cells
-        cells-long = ap length same-weights ∙ weights-long-from (behind-marker ws)
+        cells-long = ap length same-weights ∙ bits-as-read (behind-marker ws) .weights-long
 
         same-marks : c .marks ≡ S .marks
         same-marks = k .all-marks y ∙ rw its-fields
 
-        module _ (g : History)
-            (x : Records-read (behind-refusal (unmarked (h .n) (h .root) (c .weights)) (drop (c .end) (bits-in ws))) (count-in (drop (c .end) (bits-in ws)))
-            (drop count-width (drop (c .end) (bits-in ws))) g) where
-          records-judged : g .answer ≡ behind-refusal S (behind-cells ws)
-          records-judged =
-              x .judged
-              ∙ rw (its-rest, its-fields, same-weights)
-              (behind-alike (unmarked (S .n) (S .root) (S .weights)) S (record-ok-of S) (behind-cells ws))
+        module _ (t : Counted) (y′ : t ≡ counted-in (drop (c .end) (bits-in ws))) where
+          -- what is left to judge is judged by the arcs alone
+          abbrev U : Instance
+          U = unmarked (h .n) (h .root) (c .weights)
 
-          after-cells : history-refusal ws ≡ g .answer
-          after-cells = after-header ∙ simp (its-judged, eq-eqb (c .answer) 0 y, ← records-judged)
+          after-cells : history-refusal ws ≡ behind-refusal U (drop (c .end) (bits-in ws))
+          after-cells =
+              let a : history-rest ws ≡ behind-refusal S (behind-cells ws) = simp (its-judged, eq-eqb (c .answer) 0 y) in
+              let b : behind-refusal U (drop (c .end) (bits-in ws)) ≡ behind-refusal S (behind-cells ws) =
+              rw (its-rest, its-fields, same-weights) (behind-alike (unmarked (S .n) (S .root) (S .weights)) S (record-ok-of S) (behind-cells ws)) in
+              after-header ∙ a ∙ sym b
 
-          pub records-refused : (g .answer ≡ 0 → ⊥) → answered-with (g .answer) blank ≡ history-opened ws
-          records-refused n = refused ws (g .answer) (sym after-cells) n
+          pub count-unfit : (t .answer ≡ 0 → ⊥) → answered-with (t .answer) blank ≡ history-opened ws
+          count-unfit n = refused ws (t .answer) (sym (after-cells ∙ count-refused U (drop (c .end) (bits-in ws)) t y′ n)) n
 
-          pub all-opened : g .answer ≡ 0 → (b : Board) →
-              b ≡ record { n = h .n; root = h .root; budget = h .budget; weights = c .weights; marks = c .marks; records = g .records; count = g .count } →
-              answered-with 0 b ≡ history-opened ws
-          unfolding history-opened opened-as board-of history-model
-          all-opened o b e =
-              let r : g .records ≡ stored (history-model ws .history) (replicate max-records blank-record) = x .all-records o ∙ rw its-rest in
-              let m : g .count ≡ length (history-model ws .history) = x .its-count o ∙ rw its-rest (sym (history-length (count-in (behind-cells ws)) (drop count-width (behind-cells ws)) [] ∙ omega arith)) in
-              rw (e, after-cells, o, r, m, same-weights, same-marks, its-fields)
+          module _ (w : t .answer ≡ 0) where
+            passed : Count-passed U (drop (c .end) (bits-in ws)) t y′
+            passed = count-passed U (drop (c .end) (bits-in ws)) t y′ w
+
+            -- the records have room, and are not too many
+            pub record Records-room : Type 0 where
+              pub inside : c .end + count-width ≤ 8 * length ws
+              pub few : t .count ≤ max-records
+
+            pub records-room : Records-room
+            records-room =
+                let p = passed .long in
+                record { inside = omega (arith, length-drop (c .end) (bits-in ws), length-bits-in ws); few = passed .few }
+
+            abbrev rest : List ℕ
+            rest = drop (c .end + count-width) (bits-in ws)
+
+            same-rest : rest ≡ drop count-width (behind-cells ws)
+            same-rest = sym (drop-drop count-width (c .end) (bits-in ws)) ∙ ap (drop count-width) its-rest
+
+            same-count : t .count ≡ count-in (behind-cells ws)
+            same-count = passed .same ∙ ap count-in its-rest
+
+            module _ (g : History) (x : Records-read (records-refusal (t .count) U rest) (t .count) rest g) where
+              records-judged : history-refusal ws ≡ g .answer
+              records-judged =
+                  let d = drop-drop count-width (c .end) (bits-in ws) in
+                  after-cells ∙ passed .rest ∙ sym (x .judged ∙ rw (passed .same, ← d))
+
+              pub records-refused : (g .answer ≡ 0 → ⊥) → answered-with (g .answer) blank ≡ history-opened ws
+              records-refused n = refused ws (g .answer) (sym records-judged) n
+
+              pub all-opened : g .answer ≡ 0 → (b : Board) →
+                  b ≡ record { n = h .n; root = h .root; budget = h .budget; weights = c .weights; marks = c .marks; records = g .records; count = t .count } →
+                  answered-with 0 b ≡ history-opened ws
+              unfolding history-opened opened-as board-of history-model
+              all-opened o b e =
+                  let r : g .records ≡ stored (history-model ws .history) (replicate max-records blank-record) = x .all-records o ∙ rw (same-rest, same-count) in
+                  let m : t .count ≡ length (history-model ws .history) = same-count ∙ sym (history-length (count-in (behind-cells ws)) (drop count-width (behind-cells ws)) [] ∙ omega arith) in
+                  rw (e, records-judged, o, r, m, same-weights, same-marks, its-fields)

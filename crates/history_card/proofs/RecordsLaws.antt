@@ -1,7 +1,7 @@
 -- What reading the records gives: the loop goes through them as the definitions do, so what is left to read and to
 -- judge would complete the whole; behind the last one whole bytes or the filling. Assumes nothing.
 use mathlib.Core.Path.{_≡_, refl, sym, ap, _∙_}
-use mathlib.Core.Bool.{true, false, cond}
+use mathlib.Core.Bool.{Bool, true, false, cond}
 use mathlib.Core.List.{List, [], _∷_}
 use Prim.Native.Nat.{ℕ, suc, _+_, _*_, _-_, _/_, _≤_, _<_}
 use native.Mathlib.Omega.{arith}
@@ -10,7 +10,7 @@ use native.Mathlib.Nat.{add-zero}
 use lib.Dec.{ltb, eqb}
 use lib.ListN.{length, set, drop, replicate, length-drop}
 use lib.Seq.{drop-drop}
-use borrow.Author.Tests.{lt-ltb, le-ltb, le-leb, lt-leb, eq-eqb, ne-eqb}
+use borrow.Author.Tests.{ltb-false, lt-ltb, le-ltb, le-leb, lt-leb, eq-eqb, ne-eqb}
 use Rattle.bits.specs.Bits.{bits-in, field}
 use Rattle.bits.proofs.ByteLaws.{length-bits-in}
 use Rattle.bits.proofs.FieldLaws.{field-rest-zero, field-drop}
@@ -27,9 +27,9 @@ use Rattle.history_format.specs.HistoryCard.{count-in, history-in, end-refusal,
 use Rattle.history_format.proofs.RecordLaws.{whole}
 use Rattle.history_format.proofs.RecordLength.{longest-record, record-length-most, refusal-passed}
 use Rattle.history_card.specs.Record.{Record-read}
-use Rattle.history_card.specs.Records.{no-history, Records-read}
+use Rattle.history_card.specs.Records.{no-count, counted-in, no-history, Records-read}
+use Rattle.history_card.specs.declared.records.Counted.{Counted}
 use Rattle.history_card.specs.declared.record.RecordRead.{RecordRead}
-use Rattle.history_card.specs.declared.records.History.{History}
 use Rattle.history_card.proofs.RecordLaws.{rest-bits, short-here, whole-here}
 
 -- BEHIND THE LAST RECORD
@@ -148,35 +148,61 @@ module _ (ws : List ℕ) (s : Instance) (start count : ℕ) where
         }
 
 -- THE COUNT
-module _ (ws : List ℕ) (s : Instance) (start : ℕ) where
+module _ (ws : List ℕ) (start : ℕ) where
   abbrev behind : List ℕ
   behind = drop start (bits-in ws)
 
-  pub count-past : ltb (8 * length ws) (start + count-width) ≡ true → Records-read (behind-refusal s behind) (count-in behind) (drop count-width behind) (no-history bad-length)
-  unfolding behind-refusal
-  count-past e =
-      let h = short-here ws start count-width (omega arith) e in
-      record { judged = simp (lt-ltb _ _ h); its-count = λ z. absurd (omega arith); all-records = λ z. absurd (omega arith) }
+  pub count-past : ltb (8 * length ws) (start + count-width) ≡ true → no-count bad-length ≡ counted-in behind
+  unfolding counted-in
+  count-past e = let h = short-here ws start count-width (omega arith) e in simp (lt-ltb _ _ h)
 
-  module _ (whole : ltb (8 * length ws) (start + count-width) ≡ false) (count : ℕ) (f : count ≡ field start count-width (bits-in ws)) where
+  module _ (inside : ltb (8 * length ws) (start + count-width) ≡ false) (count : ℕ) (f : count ≡ field start count-width (bits-in ws)) where
     same-count : count-in behind ≡ count
     same-count = field-drop start 0 count-width (bits-in ws) ∙ sym (f ∙ rw (add-zero start))
 
-    pub count-refused : max-records < count → Records-read (behind-refusal s behind) (count-in behind) (drop count-width behind) (no-history bad-record)
-    unfolding behind-refusal
-    count-refused h =
-        let l = whole-here ws start count-width (omega arith) whole in
-        record {
-          judged = rw (le-ltb (length behind) count-width l, same-count, lt-ltb max-records count h);
-          its-count = λ z. absurd (omega arith);
-          all-records = λ z. absurd (omega arith);
-        }
+    pub count-above : max-records < count → no-count bad-record ≡ counted-in behind
+    unfolding counted-in
+    count-above h =
+        let l = whole-here ws start count-width (omega arith) inside in
+        rw (le-ltb (length behind) count-width l, same-count, lt-ltb max-records count h)
 
-    pub count-read : count ≤ max-records → (r : History) →
-        Records-read (records-refusal count s (drop (start + count-width) (bits-in ws))) count (drop (start + count-width) (bits-in ws)) r →
-        Records-read (behind-refusal s behind) (count-in behind) (drop count-width behind) r
-    unfolding behind-refusal
-    count-read h r x =
-        let l = whole-here ws start count-width (omega arith) whole in
-        let d = drop-drop count-width start (bits-in ws) in
-        rw (le-ltb (length behind) count-width l, same-count, le-ltb max-records count h, d) x
+    pub count-read : count ≤ max-records → _≡_ {A = Counted} (record { answer = 0; count = count }) (counted-in behind)
+    unfolding counted-in
+    count-read h =
+        let l = whole-here ws start count-width (omega arith) inside in
+        rw (le-ltb (length behind) count-width l, same-count, le-ltb max-records count h)
+
+-- what a count tells: a refusal of all that stands behind the cells, or how many records are left to judge
+module _ (s : Instance) (bs : List ℕ) (c : Counted) (e : c ≡ counted-in bs) where
+  pub record Count-passed : Type 0 where
+    pub long : count-width ≤ length bs
+    pub few : c .count ≤ max-records
+    pub same : c .count ≡ count-in bs
+    pub rest : behind-refusal s bs ≡ records-refusal (count-in bs) s (drop count-width bs)
+
+  pub count-refused : (c .answer ≡ 0 → ⊥) → behind-refusal s bs ≡ c .answer
+  unfolding counted-in behind-refusal
+  count-refused n = go (ltb (length bs) count-width) (ltb max-records (count-in bs)) (ap (λ (x : Counted). x .answer) e)
+    where
+      go : (a b : Bool) → c .answer ≡ cond a (no-count bad-length) (cond b (no-count bad-record) (record { answer = 0; count = count-in bs })) .answer →
+          cond a bad-length (cond b bad-record (records-refusal (count-in bs) s (drop count-width bs))) ≡ c .answer
+      go true b q = sym q
+      go false true q = sym q
+      go false false q = absurd (n q)
+
+  pub count-passed : c .answer ≡ 0 → Count-passed
+  unfolding counted-in behind-refusal
+  count-passed z = go (ltb (length bs) count-width) (ltb max-records (count-in bs)) refl refl
+    where
+      go : (a b : Bool) → ltb (length bs) count-width ≡ a → ltb max-records (count-in bs) ≡ b → Count-passed
+      go true b p q = let k : counted-in bs .answer ≡ bad-length = rw p in absurd (omega (arith, sym z ∙ ap (λ (x : Counted). x .answer) e ∙ k))
+      go false true p q = let k : counted-in bs .answer ≡ bad-record = rw (p, q) in absurd (omega (arith, sym z ∙ ap (λ (x : Counted). x .answer) e ∙ k))
+      go false false p q =
+          let k : counted-in bs .count ≡ count-in bs = rw (p, q) in
+          let same : c .count ≡ count-in bs = ap (λ (x : Counted). x .count) e ∙ k in
+          record {
+            long = ltb-false (length bs) count-width p;
+            few = omega (arith, ltb-false max-records (count-in bs) q);
+            same = same;
+            rest = rw (p, q);
+          }

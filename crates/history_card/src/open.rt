@@ -4,7 +4,9 @@ ghost use Rattle.board.specs.Create.{blank, answered-with};
 ghost use Rattle.history_format.specs.HistoryCard.{is-history};
 ghost use Rattle.history_card.specs.Open.{history-header-of, history-opened};
 use crate::record::runs_past;
-use crate::records::read_history;
+use crate::records::read_count;
+use crate::records::read_records;
+use crate::widths::COUNT_WIDTH;
 use crate::widths::HISTORY_MARKER;
 use crate::widths::MARKER_WIDTH;
 use board::Answered;
@@ -79,16 +81,23 @@ pub fn open_history(card: &[u8]) -> Answered
     if bad_cell != 0 {
         return refused(bad_cell);
     }
-    let weights = cells.weights;
-    let history = read_history(card, &weights, n, root, cells.end);
+    let end = cells.end;
+    let counted = read_count(card, end);
+    let bad_count = counted.answer;
+    if bad_count != 0 {
+        return refused(bad_count);
+    }
+    let count = counted.count;
+    let history = read_records(card, &cells.weights, n, root, end + COUNT_WIDTH, count);
     let bad_records = history.answer;
     if bad_records != 0 {
         return refused(bad_records);
     }
+    let weights = cells.weights;
     let marks = cells.marks;
     let records = history.records;
     let mut board = new_board(n, root, header.budget, weights, marks);
     board.records = records;
-    board.count = history.count;
+    board.count = count;
     Answered { answer: 0, board }
 }

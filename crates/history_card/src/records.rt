@@ -5,11 +5,9 @@ ghost use lib.ListN.{length, drop};
 ghost use Rattle.bits.specs.Bits.{bits-in};
 ghost use Rattle.instance.specs.Limits.{max-vertices, max-records, cells};
 ghost use Rattle.instance.specs.Matrix.{unmarked};
-ghost use Rattle.card_format.specs.Card.{max-card};
-ghost use Rattle.history_format.specs.RecordWidths.{count-width};
-ghost use Rattle.history_format.specs.HistoryCard.{count-in, end-refusal, records-refusal, behind-refusal, max-history-card};
+ghost use Rattle.history_format.specs.HistoryCard.{end-refusal, records-refusal, max-history-card};
 ghost use Rattle.history_card.specs.Marks.{last-place};
-ghost use Rattle.history_card.specs.Records.{no-history, Records-read};
+ghost use Rattle.history_card.specs.Records.{no-count, counted-in, no-history, Records-read};
 use crate::record::read_record;
 use crate::record::runs_past;
 use crate::widths::COUNT_WIDTH;
@@ -20,6 +18,33 @@ use instance::limits::MAX_RECORDS;
 use instance::refusals::BAD_FILLING;
 use instance::refusals::BAD_LENGTH;
 use instance::refusals::BAD_RECORD;
+
+// What the count says: a refusal and nothing else, or 0 and how many records there are.
+pub struct Counted {
+    pub answer: u32,
+    pub count: usize,
+}
+
+fn no_count(answer: u32) -> Counted
+    ensures { λ r. ⌜ r ≡ no-count answer ⌝ }
+{
+    Counted { answer, count: 0 }
+}
+
+// The count, which stands behind the bits of the card; they end at `start`.
+pub fn read_count(card: &[u8], start: usize) -> Counted
+    requires { ⌜ start ≤ last-place ⌝ }
+    ensures { λ r. ⌜ r ≡ counted-in (drop start (bits-in (now (card .entry)))) ⌝ }
+{
+    if runs_past(card, start + COUNT_WIDTH) {
+        return no_count(BAD_LENGTH);
+    }
+    let count = bits::read_bits(card, start, COUNT_WIDTH) as usize;
+    if MAX_RECORDS < count {
+        return no_count(BAD_RECORD);
+    }
+    Counted { answer: 0, count }
+}
 
 // What the records say: a refusal, or 0 and a history.
 pub struct History {
@@ -58,7 +83,7 @@ fn end_refusal(card: &[u8], end: usize) -> u32
 }
 
 // So many records from `start` on, up to the first faulty one, and what follows the last.
-fn read_records(
+pub fn read_records(
     card: &[u8],
     weights: &[u32; CELLS],
     n: u32,
@@ -87,20 +112,4 @@ fn read_records(
     history.answer = end_refusal(card, at);
     history.count = count;
     history
-}
-
-// The count and the records, behind the bits of the card, which end at `start`.
-pub fn read_history(card: &[u8], weights: &[u32; CELLS], n: u32, root: u32, start: usize) -> History
-    requires { ⌜ (n ≤ max-vertices) × (length (now weights) ≡ cells) × (start ≤ 8 * length (now card)) × (start ≤ 8 * max-card + 8) ⌝ }
-    ensures { λ r. ⌜ Records-read (behind-refusal (unmarked n root (now (weights .entry))) (drop start (bits-in (now (card .entry))))) (count-in (drop start (bits-in (now (card .entry))))) (drop count-width (drop start (bits-in (now (card .entry))))) r ⌝ }
-{
-    let first = start + COUNT_WIDTH;
-    if runs_past(card, first) {
-        return no_history(BAD_LENGTH);
-    }
-    let count = bits::read_bits(card, start, COUNT_WIDTH) as usize;
-    if MAX_RECORDS < count {
-        return no_history(BAD_RECORD);
-    }
-    read_records(card, weights, n, root, first, count)
 }

@@ -11,6 +11,7 @@ use borrow.Author.Tests.{ltb-false, leb-false, eqb-false, not-false}
 use Rattle.base.proofs.BoolLaws.{or-false-left, or-false-right, passed}
 use Rattle.instance.specs.Limits.{max-vertices, max-budget, max-records, cells}
 use Rattle.instance.specs.Refusals.{card-short, bad-count, bad-length, bad-root, bad-card-budget}
+use Rattle.instance.specs.Instance.{Instance}
 use Rattle.card_format.specs.Card.{n-in, root-in, budget-in, bits-needed, min-card, instance-of-bits, cells-refusal}
 use Rattle.card_format.specs.Offsets.{offset}
 use Rattle.card_format.proofs.OffsetLaws.{offset-end}
@@ -75,12 +76,13 @@ history-header-first ws rest =
     steps (ltb (length ws) min-card) (not (is-history ws)) (eqb n 0 || ltb max-vertices n) (ltb (length bs) (bits-needed n)) (leb n (root-in bs))
     (ltb max-budget (budget-in bs)) rest
 
--- the refusals of the cells, of the count and of the records, once the header passes
+-- the refusals of the cells, of the count and of the records, once the header passes; the bits are those behind the
+-- cells
+abbrev pub rest-of : Instance → (bits : List ℕ) → ℕ
+rest-of s bs = let c = cells-refusal (s .weights) (s .marks) in cond (eqb c 0) (behind-refusal s bs) c
+
 abbrev pub history-rest : (card : List ℕ) → ℕ
-history-rest ws =
-    let s = instance-of-bits (behind-marker ws) in
-    let c = cells-refusal (s .weights) (s .marks) in
-    cond (eqb c 0) (behind-refusal s (behind-cells ws)) c
+history-rest ws = rest-of (instance-of-bits (behind-marker ws)) (behind-cells ws)
 
 pub history-by-steps : (ws : List ℕ) →
     history-refusal ws ≡ cond (eqb (history-header-refusal ws 0) 0) (history-rest ws) (history-header-refusal ws 0)

@@ -5,17 +5,17 @@
 -- (InnerCard), the count's, the records' (HistoryLaws). What is left is fewer than eight zeros, which fill the last
 -- byte.
 use mathlib.Core.Path.{_≡_, refl, sym, ap, _∙_}
-use mathlib.Core.Bool.{Bool, true, false, _&&_, cond}
+use mathlib.Core.Bool.{true, false, _&&_, cond}
 use mathlib.Core.List.{List, [], _++_, append-assoc}
 use mathlib.Core.Logic.{⊎-elim}
-use Prim.Native.Nat.{ℕ, _+_, _*_, _-_, _≤_, _<_}
+use Prim.Native.Nat.{ℕ, _+_, _*_, _-_, _<_}
 use native.Mathlib.Omega.{arith}
 use native.Mathlib.Nat.{add-zero}
 use lib.Dec.{ltb, leb, eqb}
 use lib.ListN.{length, drop, length-append, take-append-drop}
 use borrow.Author.Tests.{leb-false, eqb-true, le-leb}
 use Rattle.base.specs.Lists.{all-of}
-use Rattle.base.proofs.BoolLaws.{and-both, passed, test}
+use Rattle.base.proofs.BoolLaws.{and-both, passed, passes-only, test}
 use Rattle.base.proofs.AllOfLaws.{all-of-drop}
 use Rattle.base.proofs.PartLaws.{zeros-are}
 use Rattle.bits.specs.Bits.{bits-of, bits-in, field, are-bits, are-bytes}
@@ -41,15 +41,11 @@ use Rattle.history_format.proofs.HistoryLaws.{All-shaped, rest-in, hist
 use Rattle.history_format.proofs.ModelAgain.{As-read}
 
 -- what is left behind the records
-some-zeros : (f : Bool) → cond f 0 bad-filling ≡ 0 → f ≡ true
-some-zeros true e = refl
-some-zeros false e = absurd (omega arith)
-
 end-passes : (bs : List ℕ) → end-refusal bs ≡ 0 → (length bs < 8) × (all-of (λ b. eqb b 0) bs ≡ true)
 unfolding end-refusal
 end-passes bs e =
     let p = passed (leb 8 (length bs)) 2 (cond (all-of (λ b. eqb b 0) bs) 0 bad-filling) e in
-    (leb-false 8 (length bs) (p .0), some-zeros (all-of (λ b. eqb b 0) bs) (p .1))
+    (leb-false 8 (length bs) (p .0), passes-only (all-of (λ b. eqb b 0) bs) 7 (p .1))
 
 behind-are-bits : (ws : List ℕ) → are-bits (drop count-width (behind-cells ws)) ≡ true
 behind-are-bits ws =
@@ -130,20 +126,12 @@ history-card-round-trip ws b e = bytes-same ws (history-opens ws e) b
 pub history-model-valid : (ws : List ℕ) → history-refusal ws ≡ 0 → valid (history-model ws) ≡ true
 history-model-valid ws e = board-valid ws (history-opens ws e)
 
--- as many records as the count says
-pub history-model-count : (ws : List ℕ) → length (history-model ws .history) ≡ count-in (behind-cells ws)
-unfolding history-model
-history-model-count ws = history-length (count-in (behind-cells ws)) (drop count-width (behind-cells ws)) [] ∙ add-zero (count-in (behind-cells ws))
-
-pub history-model-few : (ws : List ℕ) → history-refusal ws ≡ 0 → length (history-model ws .history) ≤ max-records
-history-model-few ws e = omega (arith, history-model-count ws, history-opens ws e .few)
-
 -- the records are of a board's types, and the instance is as a card is read, whatever the bytes
 pub history-model-shaped : (ws : List ℕ) → All-shaped (history-model ws .history)
 unfolding history-model
 history-model-shaped ws = history-shaped (count-in (behind-cells ws)) (drop count-width (behind-cells ws)) [] (behind-are-bits ws) tt
 
-bits-as-read : (bs : List ℕ) → As-read (instance-of-bits bs)
+pub bits-as-read : (bs : List ℕ) → As-read (instance-of-bits bs)
 unfolding cell-field
 bits-as-read bs =
     let n = n-in bs in

@@ -1,26 +1,28 @@
 -- A history card is refused by 1 to 5, 7, 8 or 27 and by no other number, so 6 is retired there too; opening a card of
 -- either kind answers one of these, and a move to a plain card 28 besides. Nothing is asked of the card: its numbers
 -- need not be bytes. Assumes nothing.
-use mathlib.Core.Path.{_≡_, refl, sym, _∙_}
+use mathlib.Core.Path.{_≡_, refl, sym}
 use mathlib.Core.Bool.{Bool, true, false, _||_, not, cond, true≢false}
 use mathlib.Core.List.{List, [], _∷_}
 use mathlib.Core.Logic.{⊎-elim}
-use Prim.Native.Nat.{ℕ, zero, suc, _^_, _≤_, _<_}
+use Prim.Native.Nat.{ℕ, zero, suc, _≤_}
 use native.Mathlib.Omega.{arith}
 use lib.Dec.{ltb, leb, eqb}
 use lib.ListN.{length, drop}
-use borrow.Author.Tests.{leb-true, leb-false, eqb-true, eqb-false}
+use borrow.Author.Tests.{leb-true, eqb-true}
 use Rattle.base.specs.Lists.{any-of, all-of}
+use Rattle.base.specs.Bounded.{all-below}
 use Rattle.base.proofs.BoolLaws.{or-cases, or-right}
-use Rattle.base.proofs.AllOfLaws.{all-of-drop, all-of-first, all-of-rest}
-use Rattle.bits.specs.Bits.{bits-in, field, are-bits}
-use Rattle.bits.proofs.ByteLaws.{bits-in-are-bits}
-use Rattle.bits.proofs.FieldLaws.{field-below}
-use Rattle.instance.specs.Limits.{max-vertices, max-weight, max-budget, no-arc, free, max-records, cells}
+use Rattle.base.proofs.BoundedLaws.{all-at}
+use Rattle.base.proofs.AllOfLaws.{all-of-first, all-of-rest}
+use Rattle.bits.specs.Bits.{are-bits}
+use Rattle.instance.specs.Limits.{max-vertices, max-budget, max-records}
 use Rattle.instance.specs.Refusals.{card-short, bad-count, bad-length, bad-root, bad-card-budget, bad-weight, bad-mark, bad-filling, bad-record, has-records}
 use Rattle.instance.specs.Instance.{Instance}
-use Rattle.card_format.specs.Widths.{header-width, weight-width, cell-width}
-use Rattle.card_format.specs.Card.{n-in, root-in, budget-in, on-card, bits-needed, bytes-needed, min-card, unused-mark, cell-fields, instance-of-bits, instance-in, cell-refusal, cells-refusal, header-refusal, card-refusal}
+use Rattle.card_format.specs.Card.{n-in, root-in, budget-in, bits-needed, min-card, instance-of-bits, cells-refusal, card-refusal}
+use Rattle.card_format.proofs.CellLaws.{cells-refusal-most}
+use Rattle.card_format.proofs.OpensLaws.{card-refusal-most}
+use Rattle.card_format.proofs.SixRetired.{cells-not-six, six-retired}
 use Rattle.commands.specs.Valid.{record-ok}
 use Rattle.history_format.specs.RecordWidths.{count-width}
 use Rattle.history_format.specs.RecordBits.{kind-in, record-length, replaced-in, form-refusal, record-refusal}
@@ -34,7 +36,7 @@ history-numbers = 0 ∷ card-short ∷ bad-count ∷ bad-length ∷ bad-root ∷
 unfoldable pub to-plain-numbers : List ℕ
 to-plain-numbers = has-records ∷ history-numbers
 
-abbrev pub listed : (answer : ℕ) → Bool
+abbrev listed : (answer : ℕ) → Bool
 listed k = any-of (eqb k) history-numbers
 
 -- a choice of two numbers, both of them listed
@@ -42,38 +44,21 @@ either-listed : (b : Bool) (x y : ℕ) → listed x ≡ true → listed y ≡ tr
 either-listed true x y p q = p
 either-listed false x y p q = q
 
--- CELLS
--- as in SixRetired of card_format: no number of 20 bits is neither a price nor no link
-cell-listed : (w m : ℕ) → w < 2 ^ weight-width → listed (cell-refusal w m) ≡ true
-unfolding cell-refusal history-numbers any-of
-cell-listed w m h = go (leb w max-weight) (eqb w no-arc) refl refl
-  where
-    go : (a c : Bool) → leb w max-weight ≡ a → eqb w no-arc ≡ c →
-        listed (cond a (cond (eqb m unused-mark) bad-mark 0) (cond c (cond (eqb m free) 0 bad-mark) bad-weight)) ≡ true
-    go true c p q = either-listed (eqb m unused-mark) bad-mark 0 refl refl
-    go false true p q = either-listed (eqb m free) 0 bad-mark refl refl
-    go false false p q = let l = leb-false w max-weight p in let n = eqb-false w no-arc q in absurd (omega arith)
+-- PLAIN CARDS AND CELLS
+-- every number up to 8 but 6 (card_format: SixRetired)
+plain-listed : (a : ℕ) → a ≤ bad-filling → (a ≡ bad-weight → ⊥) → listed a ≡ true
+unfolding all-below history-numbers any-of
+plain-listed a l n =
+    ⊎-elim (λ (q : eqb a bad-weight ≡ true). absurd (n (eqb-true a bad-weight q))) (λ (q : listed a ≡ true). q)
+    (or-cases (eqb a bad-weight) (listed a) (all-at (suc bad-filling) (λ k. eqb k bad-weight || listed k) a (omega arith) refl))
 
-weight-below : (b : Bool) (bs : List ℕ) → are-bits bs ≡ true → cond b (field 0 weight-width bs) no-arc < 2 ^ weight-width
-weight-below true bs e = field-below 0 weight-width bs e
-weight-below false bs e = omega arith
-
-next-are-bits : (b : Bool) (bs : List ℕ) → are-bits bs ≡ true → are-bits (cond b (drop cell-width bs) bs) ≡ true
-next-are-bits true bs e = all-of-drop (λ b. ltb b 2) cell-width bs e
-next-are-bits false bs e = e
-
-cells-from : (n r k i : ℕ) (bs ms : List ℕ) → are-bits bs ≡ true →
-    listed (cells-refusal (cell-fields n r 0 weight-width no-arc k i bs) ms) ≡ true
-unfolding cell-fields cells-refusal history-numbers any-of
-cells-from n r zero i bs ms b = refl
-cells-from n r (suc k) i bs [] b = refl
-cells-from n r (suc k) i bs (m ∷ ms) b =
-    let w = cond (on-card n r i) (field 0 weight-width bs) no-arc in
-    either-listed (eqb (cell-refusal w m) 0) _ (cell-refusal w m) (cells-from n r k (suc i) _ ms (next-are-bits (on-card n r i) bs b))
-    (cell-listed w m (weight-below (on-card n r i) bs b))
+card-listed : (ws : List ℕ) → listed (card-refusal ws) ≡ true
+card-listed ws = plain-listed (card-refusal ws) (card-refusal-most ws) (six-retired ws)
 
 cells-listed : (bs : List ℕ) → are-bits bs ≡ true → listed (cells-refusal (instance-of-bits bs .weights) (instance-of-bits bs .marks)) ≡ true
-cells-listed bs b = cells-from (n-in bs) (root-in bs) cells 0 (drop header-width bs) _ (all-of-drop (λ b. ltb b 2) header-width bs b)
+cells-listed bs b =
+    let s = instance-of-bits bs in
+    plain-listed (cells-refusal (s .weights) (s .marks)) (omega (arith, cells-refusal-most (s .weights) (s .marks))) (cells-not-six bs b)
 
 -- RECORDS
 form-listed : (bs : List ℕ) → listed (form-refusal bs) ≡ true
@@ -118,21 +103,6 @@ history-listed ws =
     (either-listed (ltb max-budget (budget-in bs)) bad-card-budget _ refl
     (either-listed (eqb c 0) _ c (behind-listed s (behind-cells ws)) (cells-listed bs (behind-marker-bits ws))))))))
 
-pub card-listed : (ws : List ℕ) → any-of (eqb (card-refusal ws)) history-numbers ≡ true
-unfolding card-refusal header-refusal instance-in history-numbers any-of
-card-listed ws =
-    let bs = bits-in ws in
-    let n = n-in bs in
-    let s = instance-of-bits bs in
-    let c = cells-refusal (s .weights) (s .marks) in
-    either-listed (ltb (length ws) min-card) card-short _ refl
-    (either-listed (eqb n 0 || ltb max-vertices n) bad-count _ refl
-    (either-listed (not (eqb (length ws) (bytes-needed n))) bad-length _ refl
-    (either-listed (leb n (root-in bs)) bad-root _ refl
-    (either-listed (ltb max-budget (budget-in bs)) bad-card-budget _ refl
-    (either-listed (not (eqb c 0)) c _ (cells-listed bs (bits-in-are-bits ws))
-    (either-listed (all-of (λ b. eqb b 0) (drop (bits-needed n) bs)) 0 bad-filling refl refl))))))
-
 pub open-listed : (ws : List ℕ) → any-of (eqb (open-refusal ws)) history-numbers ≡ true
 unfolding open-refusal
 open-listed ws = either-listed (is-history ws) (history-refusal ws) (card-refusal ws) (history-listed ws) (card-listed ws)
@@ -161,26 +131,9 @@ any-most k most (x ∷ xs) a e =
     ⊎-elim (λ (q : eqb k x ≡ true). let l = leb-true x most (all-of-first (λ y. leb y most) x xs a) in let z = eqb-true k x q in omega arith)
     (λ (q : any-of (eqb k) xs ≡ true). any-most k most xs (all-of-rest (λ y. leb y most) x xs a) q) (or-cases (eqb k x) (any-of (eqb k) xs) e)
 
-numbers-most : all-of (λ x. leb x has-records) to-plain-numbers ≡ true
-unfolding to-plain-numbers history-numbers all-of
+numbers-most : all-of (λ x. leb x has-records) history-numbers ≡ true
+unfolding history-numbers all-of
 numbers-most = refl
 
-pub to-plain-refusal-most : (ws : List ℕ) → to-plain-refusal ws ≤ has-records
-to-plain-refusal-most ws = any-most (to-plain-refusal ws) has-records to-plain-numbers numbers-most (to-plain-listed ws)
-
-pub history-refusal-most : (ws : List ℕ) → history-refusal ws ≤ has-records
-history-refusal-most ws = any-most (history-refusal ws) has-records to-plain-numbers numbers-most (listed-plain (history-refusal ws) (history-listed ws))
-
 pub open-refusal-most : (ws : List ℕ) → open-refusal ws ≤ has-records
-open-refusal-most ws = any-most (open-refusal ws) has-records to-plain-numbers numbers-most (listed-plain (open-refusal ws) (open-listed ws))
-
--- "6 is retired" (02, A9)
-no-six : (k : ℕ) → any-of (eqb k) to-plain-numbers ≡ true → k ≡ 6 → ⊥
-unfolding to-plain-numbers history-numbers any-of
-no-six k l e = true≢false (sym l ∙ rw e)
-
-pub open-six-retired : (ws : List ℕ) → open-refusal ws ≡ 6 → ⊥
-open-six-retired ws = no-six (open-refusal ws) (listed-plain (open-refusal ws) (open-listed ws))
-
-pub to-plain-six-retired : (ws : List ℕ) → to-plain-refusal ws ≡ 6 → ⊥
-to-plain-six-retired ws = no-six (to-plain-refusal ws) (to-plain-listed ws)
+open-refusal-most ws = any-most (open-refusal ws) has-records history-numbers numbers-most (open-listed ws)

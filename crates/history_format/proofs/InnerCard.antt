@@ -19,13 +19,11 @@ use Rattle.base.proofs.PartLaws.{all-of-replicate}
 use Rattle.bits.specs.Bits.{bits-in, number-from, field, packed, are-bits, are-bytes}
 use Rattle.bits.proofs.NumberLaws.{number-below, are-bits-append, zeros-are-bits}
 use Rattle.bits.proofs.ByteLaws.{bits-in-are-bits, length-packed, bits-in-packed}
-use Rattle.instance.specs.Limits.{no-arc, free, cells}
 use Rattle.instance.specs.Instance.{Instance}
 use Rattle.instance.specs.Valid.{valid-instance}
-use Rattle.card_format.specs.Widths.{n-width, root-width, budget-width, header-width, weight-width, mark-width}
+use Rattle.card_format.specs.Widths.{n-width, root-width, budget-width, header-width}
 use Rattle.card_format.specs.Card.{n-in, root-in, budget-in, bits-needed, bytes-needed, min-card, instance-of-bits, instance-in, cells-refusal, header-refusal, card-refusal, instance-bits, filling-bits, card-of}
 use Rattle.card_format.proofs.LengthLaws.{length-known}
-use Rattle.card_format.proofs.CellLaws.{length-fields}
 use Rattle.card_format.proofs.OpensLaws.{card-valid}
 use Rattle.card_format.proofs.WrittenBits.{length-instance-bits, instance-are-bits}
 use Rattle.card_format.proofs.CardAgain.{card-round-trip}
@@ -59,14 +57,6 @@ or-zero (suc c) = rw (ne-eqb (suc c) 0 (λ z. omega arith))
 
 pub behind-marker-bits : (ws : List ℕ) → are-bits (behind-marker ws) ≡ true
 behind-marker-bits ws = all-of-drop (λ b. ltb b 2) marker-width (bits-in ws) (bits-in-are-bits ws)
-
--- lists are as long as the plain card's, whatever the bits are
-module _ (bs : List ℕ) where
-  pub weights-long-from : length (instance-of-bits bs .weights) ≡ cells
-  weights-long-from = length-fields 0 weight-width no-arc (n-in bs) (root-in bs) bs
-
-  pub marks-long-from : length (instance-of-bits bs .marks) ≡ cells
-  marks-long-from = length-fields weight-width mark-width free (n-in bs) (root-in bs) bs
 
 module _ (ws : List ℕ) (h : History-header-known ws) where
   abbrev n : ℕ

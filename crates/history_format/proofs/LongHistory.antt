@@ -9,7 +9,7 @@ use mathlib.Core.Path.{_≡_, refl, sym, ap, _∙_}
 use mathlib.Core.Bool.{Bool, true, false, _||_, not, cond}
 use mathlib.Core.List.{List, _++_}
 use mathlib.Core.Logic.{⊎-elim}
-use Prim.Native.Nat.{ℕ, suc, _+_, _-_, _≤_, _<_}
+use Prim.Native.Nat.{ℕ, suc, _+_, _≤_, _<_}
 use native.Mathlib.Omega.{arith}
 use lib.Dec.{ltb, eqb}
 use lib.ListN.{length, take, drop, length-append, length-take, length-drop, take-append-drop}
@@ -29,7 +29,7 @@ use Rattle.card_format.proofs.TooLong.{too-long-refused, too-long-by-part}
 use Rattle.history_format.specs.RecordWidths.{marker-width, count-width}
 use Rattle.history_format.specs.HistoryCard.{is-history, behind-marker, behind-cells, count-in, max-history-card, behind-refusal, history-header-refusal, history-refusal, open-refusal}
 use Rattle.history_format.proofs.FirstBits.{field-front, instance-front}
-use Rattle.history_format.proofs.HeaderSteps.{History-header-known, history-header-known, history-rest, history-by-steps, history-opens}
+use Rattle.history_format.proofs.HeaderSteps.{History-header-known, history-header-known, rest-of, history-rest, history-by-steps, history-opens}
 use Rattle.history_format.proofs.InnerCard.{behind-marker-bits}
 use Rattle.history_format.proofs.FirstRecords.{room, first-alike, records-refused, behind-front}
 
@@ -54,10 +54,6 @@ module _ (vs : List ℕ) (h : max-history-card < length vs) where
       let long = behind-long (o .header .n-high) in
       records-refused (instance-of-bits (behind-marker vs)) (o .header .n-high) (count-in (behind-cells vs)) (drop count-width (behind-cells vs))
       (all-of-drop (λ b. ltb b 2) count-width (behind-cells vs) behind-are-bits) (rw (length-drop count-width (behind-cells vs)) (omega arith)) (o .records-pass)
-
--- the refusals of the cells and of what is behind them
-unfoldable rest-of : Instance → (bits : List ℕ) → ℕ
-rest-of s bs = let c = cells-refusal (s .weights) (s .marks) in cond (eqb c 0) (behind-refusal s bs) c
 
 chain : (k b c d : Bool) (x : ℕ) → (b ≡ false → c ≡ d) →
     cond k bad-count (cond b bad-count (cond c bad-length x)) ≡ cond k bad-count (cond b bad-count (cond d bad-length x))
@@ -102,7 +98,6 @@ module _ (ws vs zs : List ℕ) (e : bits-in ws ≡ bits-in vs ++ zs) (hw : max-h
       (chain (not (is-history vs)) (eqb n 0 || ltb max-vertices n) (ltb (length (bs ++ zs)) (bits-needed n)) (ltb (length bs) (bits-needed n)) _ both-fit)
 
   rest-alike : History-header-known vs → history-rest ws ≡ history-rest vs
-  unfolding rest-of
   rest-alike h =
       let bs = behind-marker vs in
       let n = n-in bs in

@@ -41,7 +41,7 @@ pub offset-most : (c h : ℕ) → mark-offset c h ≤ mark-width * h
 offset-most c h = omega (arith, count-le h (inside c))
 
 -- HOW MANY BITS
-length-one : (b : Bool) (m : ℕ) → length (cond b (bits-of mark-width m) []) ≡ cond b mark-width 0
+pub length-one : (b : Bool) (m : ℕ) → length (cond b (bits-of mark-width m) []) ≡ cond b mark-width 0
 length-one true m = length-bits-of mark-width m
 length-one false m = refl
 

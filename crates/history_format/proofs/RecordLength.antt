@@ -6,13 +6,13 @@
 use mathlib.Core.Path.{_≡_, refl, ap}
 use mathlib.Core.Bool.{Bool, true, false, cond}
 use mathlib.Core.List.{List}
-use Prim.Native.Nat.{ℕ, suc, _+_, _≤_, _<_}
+use Prim.Native.Nat.{ℕ, _+_, _≤_, _<_}
 use native.Mathlib.Omega.{arith}
 use lib.Dec.{eqb}
 use lib.ListN.{length, drop, length-append, length-drop}
 use borrow.Author.Tests.{eq-eqb}
 use Rattle.base.specs.Bounded.{count-below}
-use Rattle.base.proofs.BoolLaws.{is-false, not-both}
+use Rattle.base.proofs.BoolLaws.{is-false, not-both, passes-only}
 use Rattle.base.proofs.CondLaws.{cond-most}
 use Rattle.base.proofs.CountingLaws.{count-le, count-more}
 use Rattle.bits.specs.Bits.{are-bits}
@@ -80,16 +80,12 @@ length-again bs e f =
     let l = ap length (record-again bs e f) in
     omega (arith, l, length-append (record-bits (replaced-in bs)) (drop (record-length bs) bs), length-drop (record-length bs) bs)
 
-none-refused : (t : Bool) (r : ℕ) → cond t 0 (suc r) ≡ 0 → t ≡ true
-none-refused true r e = refl
-none-refused false r e = absurd (omega arith)
-
 -- a record that is not refused is whole, of a kind that there is, and passes the rule for the records of a board
 pub refusal-passed : (s : Instance) (bs : List ℕ) → record-refusal s bs ≡ 0 → (form-refusal bs ≡ 0) × (record-ok s (replaced-in bs) ≡ true)
 unfolding record-refusal
 refusal-passed s bs e =
     let p = first-passes (form-refusal bs) (cond (record-ok s (replaced-in bs)) 0 bad-record) e in
-    (p .0, none-refused (record-ok s (replaced-in bs)) 26 (p .1))
+    (p .0, passes-only (record-ok s (replaced-in bs)) 26 (p .1))
 
 pub read-short : (s : Instance) (bs : List ℕ) → s .n ≤ max-vertices → are-bits bs ≡ true → record-refusal s bs ≡ 0 → record-length bs ≤ longest-valid
 read-short s bs few e r =

@@ -6,7 +6,7 @@ use native.Mathlib.Omega.{arith}
 use Rattle.instance.specs.Limits.{max-vertices}
 use Rattle.history_format.specs.RecordBits.{mark-offset}
 use Rattle.history_format.proofs.MemberMarks.{offset-none, offset-most}
-use Rattle.history_card.proofs.PutLaws.{offset-in, offset-out}
+use Rattle.history_card.proofs.MarksLaws.{offset-in, offset-out}
 use Rattle.history_card.proofs.marks.marks_width.Statement.{statement}
 use Rattle.history_card.proofs.marks.marks_width.Tie as tie
 

@@ -7,7 +7,7 @@ use Rattle.bits.proofs.NumberLaws.{length-bits-of}
 use Rattle.bits.proofs.WriterLaws.{put-none}
 use Rattle.instance.specs.Cuts.{inside}
 use Rattle.card_format.specs.Widths.{mark-width}
-use Rattle.history_card.proofs.PutLaws.{shifted-digit, mark-put, mark-left-out}
+use Rattle.history_card.proofs.MarksLaws.{shifted-digit, mark-put, mark-left-out}
 use Rattle.history_card.proofs.marks.put_mark.Statement.{statement}
 use Rattle.history_card.proofs.marks.put_mark.Tie as tie
 

@@ -7,7 +7,7 @@ use Rattle.bits.proofs.WriterLaws.{put-none, put-then}
 use Rattle.instance.specs.Limits.{max-vertices}
 use Rattle.heads.specs.RecordMarks.{record-marks}
 use Rattle.history_format.specs.RecordBits.{mark-bits}
-use Rattle.history_card.proofs.PutLaws.{marks-none, next-mark, mark-room}
+use Rattle.history_card.proofs.MarksLaws.{marks-none, next-mark, mark-room}
 use Rattle.history_card.proofs.marks.put_marks.Statement.{statement}
 use Rattle.history_card.proofs.marks.put_marks.Tie as tie
 

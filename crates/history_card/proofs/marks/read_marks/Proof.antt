@@ -17,7 +17,7 @@ use Rattle.card_format.specs.Widths.{mark-width}
 use Rattle.history_format.specs.RecordBits.{mark-offset}
 use Rattle.history_format.proofs.MemberMarks.{offset-none, offset-most}
 use Rattle.heads.proofs.LoopLaws.{mark-fits, mark-more, mark-skip}
-use Rattle.history_card.proofs.PutLaws.{offset-in, offset-out, offset-rises}
+use Rattle.history_card.proofs.MarksLaws.{offset-in, offset-out, offset-rises}
 use borrow.Author.Needs.{needs}
 use Rattle.history_card.proofs.marks.read_marks.Statement.{statement}
 use Rattle.history_card.proofs.marks.read_marks.Tie as tie

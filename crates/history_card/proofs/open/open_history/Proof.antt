@@ -2,7 +2,7 @@
 use mathlib.Core.Path.{_∙_}
 use native.Mathlib.Omega.{arith}
 use Rattle.board.specs.Create.{board-with}
-use Rattle.history_card.proofs.OpenLaws.{header-refused, its-room, cells-refused, cells-end, cells-long, records-refused, all-opened}
+use Rattle.history_card.proofs.OpenLaws.{header-refused, its-room, cells-refused, cells-end, cells-long, count-unfit, records-room, records-refused, all-opened}
 use borrow.Author.Needs.{needs}
 use Rattle.history_card.proofs.open.open_history.Statement.{statement}
 use Rattle.history_card.proofs.open.open_history.Tie as tie
@@ -33,36 +33,69 @@ returns-2 c =
     let k = c .before .before .read-cells in
     c .refused2 .ensures ∙ cells-refused _ (h .result) (h .ensures) (c .before .before .before .if1 .left) (k .result) (k .ensures) (c .before .if2 .taken)
 
-read-history-requires : tie.Need-read-history-requires
-read-history-requires c κs =
-    let h = c .before .before .before .before .before .read-header in
-    let k = c .before .before .before .read-cells in
-    let e = its-room _ (h .result) (h .ensures) (c .before .before .before .before .if1 .left) in
-    let d = cells-end _ (h .result) (h .ensures) (c .before .before .before .before .if1 .left) (k .result) (k .ensures) (c .before .before .if2 .left) in
-    (e .few, cells-long _ (h .result) (h .ensures) (c .before .before .before .before .if1 .left) (k .result) (k .ensures) (c .before .before .if2 .left), omega (arith, e .inside), omega (arith, e .small))
+read-count-requires : tie.Need-read-count-requires
+read-count-requires c κs =
+    let h = c .before .before .before .read-header in
+    let k = c .before .read-cells in
+    let e = its-room _ (h .result) (h .ensures) (c .before .before .if1 .left) in
+    let d = cells-end _ (h .result) (h .ensures) (c .before .before .if1 .left) (k .result) (k .ensures) (c .if2 .left) in
+    omega (arith, e .small)
 
 refused-requires-3 : tie.Need-refused-requires-3
 refused-requires-3 c κs = search needs
 
 returns-3 : tie.Need-returns-3
 returns-3 c =
-    let h = c .before .before .before .before .before .before .before .before .read-header in
-    let k = c .before .before .before .before .before .before .read-cells in
-    let g = c .before .before .read-history in
+    let h = c .before .before .before .before .before .before .read-header in
+    let k = c .before .before .before .before .read-cells in
+    let t = c .before .before .read-count in
     c .refused3 .ensures
-    ∙ records-refused _ (h .result) (h .ensures) (c .before .before .before .before .before .before .before .if1 .left) (k .result) (k .ensures) (c .before .before .before .before .before .if2 .left) (g .result) (g .ensures) (c .before .if3 .taken)
+    ∙ count-unfit _ (h .result) (h .ensures) (c .before .before .before .before .before .if1 .left) (k .result) (k .ensures) (c .before .before .before .if2 .left) (t .result) (t .ensures) (c .before .if3 .taken)
+
+add-read-records : tie.Need-add-read-records
+add-read-records c =
+    let h = c .before .before .before .before .before .before .before .read-header in
+    let k = c .before .before .before .before .before .read-cells in
+    let e = its-room _ (h .result) (h .ensures) (c .before .before .before .before .before .before .if1 .left) in
+    let d = cells-end _ (h .result) (h .ensures) (c .before .before .before .before .before .before .if1 .left) (k .result) (k .ensures) (c .before .before .before .before .if2 .left) in
+    omega (arith, e .small)
+
+read-records-requires : tie.Need-read-records-requires
+read-records-requires c κs =
+    let h = c .before .before .before .before .before .before .before .read-header in
+    let k = c .before .before .before .before .before .read-cells in
+    let t = c .before .before .before .read-count in
+    let e = its-room _ (h .result) (h .ensures) (c .before .before .before .before .before .before .if1 .left) in
+    let d = cells-end _ (h .result) (h .ensures) (c .before .before .before .before .before .before .if1 .left) (k .result) (k .ensures) (c .before .before .before .before .if2 .left) in
+    let l = cells-long _ (h .result) (h .ensures) (c .before .before .before .before .before .before .if1 .left) (k .result) (k .ensures) (c .before .before .before .before .if2 .left) in
+    let r = records-room _ (h .result) (h .ensures) (c .before .before .before .before .before .before .if1 .left) (k .result) (k .ensures) (c .before .before .before .before .if2 .left) (t .result) (t .ensures) (c .before .before .if3 .left) in
+    ((e .few, l, r .inside), (omega (arith, e .small), r .few))
+
+refused-requires-4 : tie.Need-refused-requires-4
+refused-requires-4 c κs = search needs
+
+returns-4 : tie.Need-returns-4
+returns-4 c =
+    let h = c .before .before .before .before .before .before .before .before .before .before .read-header in
+    let k = c .before .before .before .before .before .before .before .before .read-cells in
+    let t = c .before .before .before .before .before .before .read-count in
+    let g = c .before .before .read-records in
+    c .refused4 .ensures
+    ∙ records-refused _ (h .result) (h .ensures) (c .before .before .before .before .before .before .before .before .before .if1 .left) (k .result) (k .ensures) (c .before .before .before .before .before .before .before .if2 .left) (t .result) (t .ensures) (c .before .before .before .before .before .if3 .left)
+    (g .result) (g .ensures) (c .before .if4 .taken)
 
 new-board-requires : tie.Need-new-board-requires
 new-board-requires c κs = search needs
 
-returns-4 : tie.Need-returns-4
+returns-5 : tie.Need-returns-5
 unfolding board-with
-returns-4 c =
-    let h = c .before .before .before .before .before .before .before .before .before .before .read-header in
-    let k = c .before .before .before .before .before .before .before .before .read-cells in
-    let g = c .before .before .before .before .read-history in
-    all-opened _ (h .result) (h .ensures) (c .before .before .before .before .before .before .before .before .before .if1 .left) (k .result) (k .ensures) (c .before .before .before .before .before .before .before .if2 .left) (g .result) (g .ensures) (c .before .before .before .if3 .left)
-    _ (rw (c .new-board .ensures .board))
+returns-5 c =
+    let h = c .before .before .before .before .before .before .before .before .before .before .before .before .before .read-header in
+    let k = c .before .before .before .before .before .before .before .before .before .before .before .read-cells in
+    let t = c .before .before .before .before .before .before .before .before .before .read-count in
+    let g = c .before .before .before .before .before .read-records in
+    all-opened _ (h .result) (h .ensures) (c .before .before .before .before .before .before .before .before .before .before .before .before .if1 .left) (k .result) (k .ensures) (c .before .before .before .before .before .before .before .before .before .before .if2 .left) (t .result) (t .ensures) (c .before .before .before .before .before .before .before .before .if3 .left)
+    (g .result) (g .ensures) (c .before .before .before .before .if4 .left) _ (rw (c .new-board .ensures .board))
 
 pub open-history-spec : {M : Type 1} → statement M
 open-history-spec =
@@ -74,8 +107,12 @@ open-history-spec =
     read-cells-requires
     refused-requires-2
     returns-2
-    read-history-requires
+    read-count-requires
     refused-requires-3
     returns-3
+    add-read-records
+    read-records-requires
+    refused-requires-4
+    returns-4
     new-board-requires
-    returns-4)
+    returns-5)
