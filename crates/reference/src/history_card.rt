@@ -1,6 +1,6 @@
-// History cards, bit by bit: the new cards of document 02, A8, "Cards that remember the presses"; an old card is a plain
-// card here. "A new card starts with six bits 63, then the bits of the old card without filling, then an 8-bit count of
-// recorded presses, then the records, oldest first".
+// History cards, bit by bit: the new cards of document 02, A8, "Cards that remember the presses"; an old card is called
+// a plain card here. "A new card starts with six bits 63, then the bits of the old card without filling, then an 8-bit
+// count of recorded presses, then the records, oldest first".
 use crate::access::narrow;
 use crate::access::of_byte;
 use crate::access::plus;
@@ -255,8 +255,8 @@ pub struct HistoryReading {
     pub history: History,
 }
 
-// A history card. "1 to 7 keep their order ..; then, for the count and each whole record in turn ..; then 3 if whole bytes
-// remain; then 8."
+// A history card. "1 to 7 keep their order ..; then, for the count and each whole record in turn ..; then 3 if whole
+// bytes remain; then 8."
 pub fn read(card: &[u8]) -> HistoryReading {
     let n = field(card, START_BITS, card::N_BITS);
     let plain = card::read_plain_bits(card, START_BITS);

@@ -32,8 +32,8 @@ const CALLS: u32 = 5;
 
 const REFUSED: u32 = 6;
 
-// The calls that are made on each board: nine that change one; a write as a plain card, as a history card, a look,
-// and all three with buffers too short for any board here; a check of a list that is no tree, and of one that is too short.
+// The calls that are made on each board: nine that change one; a write as a plain card, as a history card, a look, and
+// all three with buffers too short for any board here; a check of a list that is no tree, and of one that is too short.
 const KINDS_OF_CALL: u32 = 17;
 
 const WRITE: u32 = 9;

@@ -146,7 +146,7 @@ pub fn all() {
     let t = run_small(tally::zero(), 60);
     tally::report(
         run_noise(run_any(t, 640), 700),
-        b"cards\nhistory cards shown to the old console\nanswer 0:\nanswer 1:\nanswer 2:\nanswer 3:\nanswer 4:\nanswer 5:\n\
-        answer 6:\nanswer 7:\nanswer 8:\nanswer 27:\nanother answer:\n",
+        b"cards\nhistory cards shown to the old console\nanswer 0:\nanswer 1:\nanswer 2:\nanswer 3:\nanswer 4:\n\
+        answer 5:\nanswer 6:\nanswer 7:\nanswer 8:\nanswer 27:\nanother answer:\n",
     );
 }

@@ -1,5 +1,5 @@
-// Boards with records of every kind: written as history cards they have the reference's bytes, and opened again they are
-// the same, records too. A damaged board is 15, then a short buffer 14.
+// Boards with records of every kind: written as history cards they have the reference's bytes, and opened again they
+// are the same, records too. A damaged board is 15, then a short buffer 14.
 use crate::compared;
 use crate::samples;
 use board::Board;

@@ -5,10 +5,10 @@ use Rattle.reference.proofs.problem.pinned_elsewhere.Statement.{stateme
 use Rattle.reference.proofs.problem.pinned_elsewhere.Tie as tie
 
 abbrev Inv-loop : tie.InvT-loop
-Inv-loop p tail head n other₀ other = Unit
+Inv-loop tail head p n other₀ other = Unit
 
 abbrev μ-loop : tie.MeasureT-loop
-μ-loop p tail head n other₀ other = n - other
+μ-loop tail head p n other₀ other = n - other
 
 pub pinned-elsewhere-spec : {M : Type 1} → statement M
 pinned-elsewhere-spec =
@@ -16,6 +16,8 @@ pinned-elsewhere-spec =
     (tie.spec
     Inv-loop
     μ-loop
+    (λ c. search needs)
+    (λ c κs. search needs)
     (λ c. search needs)
     (λ c κs. search needs)
     (λ c. search needs)
