@@ -27,12 +27,14 @@ pub fn is_too_short(n: u32, parents: usize, states: usize, cuts: usize) -> bool
 pub fn look(b: Board, parents: &mut [u8], states: &mut [u8], cuts: &mut [u32]) -> View
     ensures { λ r. ⌜ Looks b (buffers (now (parents .entry)) (now (states .entry)) (now (cuts .entry))) (buffers (now (parents .exit)) (now (states .exit)) (now (cuts .exit))) r ⌝ }
 {
-    if !board::valid::is_valid(b) {
-        return View::Refused(INVALID_BOARD);
-    }
     let n = b.n;
     let root = b.root;
     let budget = b.budget;
+    let count = b.count;
+    let records = b.records;
+    if !board::valid::parts_valid(&b.weights, &b.marks, records, n, root, budget, count) {
+        return View::Refused(INVALID_BOARD);
+    }
     if is_too_short(n, parents.len(), states.len(), cuts.len()) {
         return View::Refused(BUFFER_SHORT);
     }

@@ -16,19 +16,19 @@ use Rattle.planner.proofs.looking.look.Statement.{statement}
 use Rattle.planner.proofs.looking.look.Tie as tie
 
 -- THE BOARD is valid
-abbrev start-of : tie.After-is-valid → tie.Start
-start-of c = c .before .before .before .before
+abbrev start-of : tie.After-parts-valid → tie.Start
+start-of c = c .before .before .before .before .before .before .before .before
 
-abbrev board-of : tie.After-is-valid → Board
+abbrev board-of : tie.After-parts-valid → Board
 board-of c = start-of c .args .t1
 
 good : (c : tie.Else1) → valid (model-of (board-of (c .before))) ≡ true
-good c = sym (c .before .is-valid .ensures) ∙ not-false (c .before .is-valid .result) (c .if1 .left)
+good c = sym (c .before .parts-valid .ensures) ∙ not-false (c .before .parts-valid .result) (c .if1 .left)
 
 in-range : (c : tie.Else1) → Valid (model-of (board-of (c .before)))
 in-range c = valid-parts (model-of (board-of (c .before))) (good c)
 
-arrays : (c : tie.After-is-valid) → Known (board-of c)
+arrays : (c : tie.After-parts-valid) → Known (board-of c)
 arrays c = known (board-of c) _ (start-of c .good .0)
 
 -- THE BUFFERS are long enough
@@ -40,11 +40,11 @@ room : (c : tie.Else2) → Rooms (board-of (c .before .before .before) .n) (leng
     (length (start-of (c .before .before .before) .args .states .now)) (length (start-of (c .before .before .before) .args .cuts .now))
 room c = rooms _ _ _ _ (long c)
 
-is-valid-requires : tie.Need-is-valid-requires
-is-valid-requires c κs = search needs
+parts-valid-requires : tie.Need-parts-valid-requires
+parts-valid-requires c κs = search needs
 
 returns : tie.Need-returns
-returns c = looks-invalid (board-of (c .before)) _ (sym (c .before .is-valid .ensures) ∙ not-true (c .before .is-valid .result) (c .if1 .taken))
+returns c = looks-invalid (board-of (c .before)) _ (sym (c .before .parts-valid .ensures) ∙ not-true (c .before .parts-valid .result) (c .if1 .taken))
 
 is-too-short-requires : tie.Need-is-too-short-requires
 is-too-short-requires c κs = in-range c .n-high
@@ -89,7 +89,7 @@ pub look-spec : {M : Type 1} → statement M
 look-spec =
     tie.close
     (tie.spec
-    is-valid-requires
+    parts-valid-requires
     returns
     is-too-short-requires
     returns-2
