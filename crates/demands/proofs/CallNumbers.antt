@@ -40,8 +40,8 @@ use Rattle.planner.proofs.WritingLaws.{board-refusal, Store-case, refused-by, n
 use Rattle.planner.proofs.OpeningLaws.{blank-by, opened-answer}
 
 -- THE NUMBERS OF EACH CALL, 0 for accepted. A plain card: "Cards: 1 to 5 in that order; then the first faulty cell ..;
--- then 8." Of a cell it is 7: "6 is retired" (02, A9). A history card may get 27 too: `history-numbers` (02, A8); a move
--- to a plain card 28: `to-plain-numbers`.
+-- then 8." Of a cell it is 7: "6 is retired" (02, A9). A history card may get 27 too: `history-numbers` (02, A8); a
+-- move to a plain card 28: `to-plain-numbers`.
 abbrev pub card-numbers : List ℕ
 card-numbers = 0 ∷ card-short ∷ bad-count ∷ bad-length ∷ bad-root ∷ bad-card-budget ∷ bad-mark ∷ bad-filling ∷ []
 

@@ -53,7 +53,8 @@ model-of-board m v s =
     let h = history-stored (m .history) (replicate max-records blank-record) (omega (arith, p .few)) w in
     λ j. record { instance = m .instance; history = h j }
 
--- A BOARD'S OWN HISTORY says nothing of heads that are no members; that its sets have 32 bits is all that is left to ask
+-- A BOARD'S OWN HISTORY says nothing of heads that are no members; that its sets have 32 bits is all that is left to
+-- ask
 only-members : (c v : ℕ) → record-marks c v ≡ of-members c (record-marks c v)
 unfolding record-marks
 only-members c v =

@@ -1,6 +1,6 @@
--- The ways of every call that stores a card: refused by what is wrong with the board or the card; by a buffer that is too
--- short (14), which is looked at last, so that an empty one changes no other refusal; or the card in front of the buffer.
--- And the writes of a board by them: 15, 14. Assumes nothing.
+-- The ways of every call that stores a card: refused by what is wrong with the board or the card; by a buffer that is
+-- too short (14), which is looked at last, so that an empty one changes no other refusal; or the card in front of the
+-- buffer. And the writes of a board by them: 15, 14. Assumes nothing.
 use mathlib.Core.Path.{_≡_, refl, ap}
 use mathlib.Core.Bool.{Bool, true, false, cond}
 use mathlib.Core.List.{List}
@@ -27,8 +27,8 @@ use Rattle.planner.specs.Writing.{Writes, Writes-history}
 abbrev pub wrote-with : (answer length : ℕ) → Written
 wrote-with a k = record { answer = a; length = k }
 
--- THE THREE WAYS, by the number that refuses the board or the card (0 if none does) and the card that is to be stored. A
--- refusal leaves the buffer as it was.
+-- THE THREE WAYS, by the number that refuses the board or the card (0 if none does) and the card that is to be stored.
+-- A refusal leaves the buffer as it was.
 pub data Store-case (refusal : ℕ) (card out out′ : List ℕ) (r : Written) : Type 0 where
   refused-by : (refusal ≡ 0 → ⊥) → r ≡ wrote-with refusal 0 → out′ ≡ out → Store-case refusal card out out′ r
   no-room : refusal ≡ 0 → length out < length card → r ≡ wrote-with buffer-short 0 → out′ ≡ out → Store-case refusal card out out′ r
