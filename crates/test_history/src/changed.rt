@@ -40,6 +40,18 @@ pub fn with_last_bit(c: Card) -> Card {
     with_bit(c, std::num::wrapping_sub_u32(bits, 1))
 }
 
+// The card with ones in the upper five bits of its budget, which is too high with them: they stand behind 11 bits, and
+// on a history card behind six more.
+pub fn with_high_budget(c: Card, history: bool) -> Card {
+    let mut d = c;
+    if history {
+        d.bytes[2] = d.bytes[2] | 124;
+    } else {
+        d.bytes[1] = d.bytes[1] | 31;
+    }
+    d
+}
+
 // The card with random bytes from a place on.
 pub fn with_noise(c: Card, from: u32, seed: Random) -> Card {
     let mut d = c;

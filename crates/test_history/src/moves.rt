@@ -143,8 +143,9 @@ fn tried_refused(tally: Tally, plain: Card, recorded: Card, count: u32) -> Tally
     )
 }
 
-// Both moves of a card with a bit changed, with its last bit changed, cut, and with a byte more.
-fn tried_damaged(tally: Tally, c: Card, g: Random) -> Tally {
+// Both moves of a card with a bit changed, with its last bit changed, cut, with a byte more, and with a budget that is
+// too high.
+fn tried_damaged(tally: Tally, c: Card, history: bool, g: Random) -> Tally {
     let bits = access::times(8, c.length);
     let t = tried_both(tally, changed::with_bit(c, random::below(g, bits)));
     let u = tried_both(t, changed::with_last_bit(c));
@@ -152,7 +153,8 @@ fn tried_damaged(tally: Tally, c: Card, g: Random) -> Tally {
         u,
         changed::with_length(c, random::below(random::next(g), c.length)),
     );
-    tried_both(v, changed::with_byte(c, access::narrow(random::word(g))))
+    let w = tried_both(v, changed::with_byte(c, access::narrow(random::word(g))));
+    tried_both(w, changed::with_high_budget(c, history))
 }
 
 fn tried_sample(tally: Tally, k: u32) -> Tally {
@@ -168,8 +170,9 @@ fn tried_sample(tally: Tally, k: u32) -> Tally {
     let u = there_and_back(there_and_back(t, plain, true, bit), bare, false, bit);
     let v = tried_refused(u, plain, recorded, h.count);
     tried_damaged(
-        tried_damaged(tried_damaged(v, plain, g), recorded, g),
+        tried_damaged(tried_damaged(v, plain, false, g), recorded, true, g),
         bare,
+        true,
         g,
     )
 }

@@ -22,7 +22,7 @@ abbrev μ-loop : tie.MeasureT-loop
 μ-loop weights n root count records k₀ k = k
 
 loop-holds : tie.Need-loop-holds Inv-loop μ-loop
-loop-holds c = (c .pre .1, refl)
+loop-holds c = (omega arith, refl)
 
 sub-k : tie.Need-sub-k Inv-loop μ-loop
 sub-k c = omega arith
