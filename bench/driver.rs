@@ -1,11 +1,13 @@
 // Makes cards of several families with a fixed seed, runs the planner's print_plan and the baseline on the same cards
 // in turn, checks that they print the same outcome and states, and prints times and ratios. Arguments: PRINT_PLAN
-// BASELINE [valgrind]. A time is that of a whole process, its start included: the least of several runs, since other
-// processes only add to it. Under valgrind it also prints what no clock shows: plannings, the deepest stack, and the
-// instructions of the planning process after its start.
+// BASELINE [valgrind]. A time is that of a whole process, its start included (but for those of an opening): the least
+// of several runs, since other processes only add to it. Under valgrind it also prints what no clock shows: plannings,
+// the deepest stack, and the instructions of the planning process after its start.
 use std::fs::{self, File};
+use std::io::{Read, Write};
 use std::process::{Command, Stdio};
-use std::time::Instant;
+use std::thread::sleep;
+use std::time::{Duration, Instant};
 
 const NONE: u32 = 1_048_575;
 const MAX_WEIGHT: u32 = 1_048_574;
@@ -289,6 +291,23 @@ fn row(ours: &str, base: &str, deep: bool, instances: &[Instance; 5]) -> String 
     if deep { format!("{line} {plannings:>10} {stack:>12} {instructions:>13}") } else { line }
 }
 
+// From the last byte of a card to the answer, in ms: the process has started and waits for that byte, so its start,
+// which is many times an opening, is not in it.
+fn answer_time(program: &str, card: &[u8]) -> f64 {
+    let mut child = Command::new(program).stdin(Stdio::piped()).stdout(Stdio::piped()).spawn().expect(program);
+    let (mut input, mut output) = (child.stdin.take().unwrap(), child.stdout.take().unwrap());
+    let (front, last) = card.split_at(card.len().saturating_sub(1));
+    input.write_all(front).unwrap();
+    sleep(Duration::from_millis(2));
+    let start = Instant::now();
+    input.write_all(last).unwrap();
+    drop(input);
+    let bytes = output.read(&mut [0; 64]).unwrap();
+    let took = start.elapsed().as_secs_f64() * 1000.0;
+    assert!(bytes > 0 && child.wait().unwrap().success());
+    took
+}
+
 // The longest card of each kind with a fault at its very end, so that all of it is read and nothing is planned: a
 // filling bit of 1 on a plain card, a byte too many behind a history card. From times and instructions those of a
 // process that is handed no byte are taken off. Under valgrind also the deepest stack of nested cycles on both kinds.
@@ -305,8 +324,8 @@ fn opening(ours: &str, deep: bool, r: &mut Random) {
         assert_eq!(run(ours, &file(k)), *refusal);
     }
     let mut least = [f64::MAX; 3];
-    for _ in 0..300 {
-        (0..3).for_each(|k| least[k] = least[k].min(time(ours, &file(k))));
+    for _ in 0..1000 {
+        (0..3).for_each(|k| least[k] = least[k].min(answer_time(ours, &cards[k].2)));
     }
     let more = if deep { "  instructions  stack bytes" } else { "" };
     println!("opening  bytes  print_plan ms{more}");
