@@ -309,15 +309,15 @@ fn answer_time(program: &str, card: &[u8]) -> f64 {
 }
 
 // The longest card of each kind with a fault at its very end, so that all of it is read and nothing is planned: a
-// filling bit of 1 on a plain card, a byte too many behind a history card. From times and instructions those of a
+// filling bit of 1 on a plain card, a last mark of 3 on a history card. From times and instructions those of a
 // process that is handed no byte are taken off. Under valgrind also the deepest stack of nested cycles on both kinds.
 fn opening(ours: &str, deep: bool, r: &mut Random) {
     let s = dense(r, 32);
     let (mut plain, mut history) = (s.card(), s.history_card());
     *plain.last_mut().unwrap() |= 1;
-    history.push(0);
+    *history.last_mut().unwrap() |= 3;
     let cards =
-        [("no byte", "refused 1\n", vec![]), ("plain", "refused 8\n", plain), ("history", "refused 3\n", history)];
+        [("no byte", "refused 1\n", vec![]), ("plain", "refused 8\n", plain), ("history", "refused 27\n", history)];
     let file = |k: usize| format!("{CARD}{k}");
     for (k, (_, refusal, card)) in cards.iter().enumerate() {
         fs::write(file(k), card).unwrap();

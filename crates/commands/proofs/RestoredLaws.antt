@@ -121,16 +121,15 @@ restored-reads (old-budget v) s long b =
       as-long = restored-long (old-budget v) s;
     }
 
--- TAKEN BACK: "a take-back that reaches one is accepted, strikes it out and puts what it says in place"
-module _ (r : Replaced) (rs : List Replaced) (b : Head-below r) where
-  pub undo-reads : (s : Instance) → length (s .marks) ≡ cells →
-      let a = applied undo (record { instance = s; history = r ∷ rs }) in
+-- TAKEN BACK: "a take-back that reaches one is accepted, strikes it out and puts what it says in place"; of every
+-- record that is not damage
+module _ (r : Replaced) (rs : List Replaced) (s : Instance) (few : s .n ≤ max-vertices) (long : length (s .marks) ≡ cells) (ok : record-ok s r ≡ true) where
+  pub undo-reads : let a = applied undo (record { instance = s; history = r ∷ rs }) in
       (a .answer ≡ 0) × (a .board .history ≡ rs) × Restored-reads r s (a .board .instance)
   unfolding applied undone
-  undo-reads s long = (refl, refl, restored-reads r s long b)
+  undo-reads = (refl, refl, restored-reads r s long (ok-head-below s r few ok))
 
-  pub log-undo-reads : (s : Instance) → length (s .marks) ≡ cells →
-      let a = note undo (record { card = s; below = r ∷ rs; entries = [] }) in
+  pub log-undo-reads : let a = note undo (record { card = s; below = r ∷ rs; entries = [] }) in
       (a .answer ≡ 0) × (a .log .below ≡ rs) × (a .log .entries ≡ []) × Restored-reads r s (a .log .card)
   unfolding note note-undo noted-below
-  log-undo-reads s long = (refl, refl, refl, restored-reads r s long b)
+  log-undo-reads = (refl, refl, refl, restored-reads r s long (ok-head-below s r few ok))

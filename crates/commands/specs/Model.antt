@@ -29,7 +29,8 @@ unfoldable pub with-mark : (mark tail head : ℕ) → Instance → Instance
 with-mark m t h s =
     record { n = s .n; root = s .root; budget = s .budget; weights = s .weights; marks = set (s .marks) (cell t h) m }
 
--- "restores exactly the mark or budget it replaced"; of several arcs "each replaced mark" (02, A5)
+-- "restores exactly the mark or budget it replaced"; of several arcs "each replaced mark" (02, A5); and of records that
+-- came on a card: "they restore what the record says" (02, A8)
 unfoldable pub restored : Replaced → Instance → Instance
 restored (old-mark t h m) s = with-mark m t h s
 restored (old-marks t c ms) s = with-marks t (inside c) (λ h. getD ms h free) s

@@ -17,6 +17,10 @@ pub const RECORDS_FROM: u32 = 5;
 
 pub const MARK: u32 = 0;
 
+pub const BUDGET: u32 = 2;
+
+pub const COUNT: u32 = 3;
+
 const TAIL: u32 = 5;
 
 const HEADS: u32 = 6;
@@ -80,8 +84,8 @@ pub fn with_fault(b: Board, kind: u32, tail: u32, head: u32) -> Board {
     match kind {
         MARK => c.marks[at] = other_mark(c.marks[at]),
         1 => c.weights[at] = access::plus(c.weights[at], 1),
-        2 => c.budget = access::plus(c.budget, 1),
-        3 => c.count = c.count % RECORDS + 1,
+        BUDGET => c.budget = access::plus(c.budget, 1),
+        COUNT => c.count = c.count % RECORDS + 1,
         4 => c.marks[own] = other_mark(c.marks[own]),
         _ => return with_record_fault(c, kind, head),
     }

@@ -102,7 +102,6 @@ module _ (ws : List ℕ) (s : Instance) (start count : ℕ) where
           let e : records-refusal (suc (count - (k + 1))) s here ≡ r .answer = rw (← x .judged, ne-eqb (r .answer) 0 n) in
           record {
             judged = sym (g .judged-so-far ∙ rw one-left e);
-            its-count = λ z. absurd (n z);
             all-records = λ z. absurd (n z);
           }
 
@@ -137,13 +136,12 @@ module _ (ws : List ℕ) (s : Instance) (start count : ℕ) where
             }
 
     pub all-read : k ≡ count → (a : ℕ) → a ≡ end-refusal here →
-        Records-read (records-refusal count s (drop start (bits-in ws))) count (drop start (bits-in ws)) (record { answer = a; count = count; records = records })
+        Records-read (records-refusal count s (drop start (bits-in ws))) count (drop start (bits-in ws)) (record { answer = a; records = records })
     unfolding records-refusal history-in
     all-read e a q =
         let n : count - k ≡ 0 = omega arith in
         record {
           judged = q ∙ sym (rw n at (g .judged-so-far));
-          its-count = λ z. refl;
           all-records = λ z. rw (g .in-places, rw n at (g .said-so-far));
         }
 

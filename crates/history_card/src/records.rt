@@ -46,10 +46,9 @@ pub fn read_count(card: &[u8], start: usize) -> Counted
     Counted { answer: 0, count }
 }
 
-// What the records say: a refusal, or 0 and a history.
+// What the records say: a refusal, or 0 and every record place.
 pub struct History {
     pub answer: u32,
-    pub count: usize,
     pub records: [UndoRecord; MAX_RECORDS],
 }
 
@@ -60,11 +59,7 @@ fn no_history(answer: u32) -> History
         replaced: Replaced::OldMark(0, 0, 0),
     };
     let records = [record; MAX_RECORDS];
-    History {
-        answer,
-        count: 0,
-        records,
-    }
+    History { answer, records }
 }
 
 // The last record ends at `end`: whole bytes may not follow, nor a bit that is not zero.
@@ -110,6 +105,5 @@ pub fn read_records(
         k += 1;
     }
     history.answer = end_refusal(card, at);
-    history.count = count;
     history
 }

@@ -77,7 +77,7 @@ record-full : record-ok full-instance all-heads ≡ true
 unfolding record-ok head-ok full-instance is-arc can-be-arc weight inside any-below all-below
 record-full = refl
 
-pub full-valid : valid full-model ≡ true
+full-valid : valid full-model ≡ true
 unfolding full-model full-instance
 full-valid =
     parts-valid full-model (record {
@@ -98,7 +98,7 @@ repeated-shaped : (k : ℕ) (o : Replaced) → Shaped o → All-shaped (replicat
 repeated-shaped zero o h = tt
 repeated-shaped (suc k) o h = (h, repeated-shaped k o h)
 
-pub full-shaped : All-shaped (full-model .history)
+full-shaped : All-shaped (full-model .history)
 unfolding full-model
 full-shaped = repeated-shaped max-records all-heads heads-shaped
 

@@ -182,7 +182,8 @@ fn planted_call(tally: Tally, s: Session, c: Call) -> Tally {
     let mut wrong = s;
     let changed = after.board;
     wrong.board = changed;
-    tally::planted(tally, !session::write_right(wrong))
+    let t = tally::planted(tally, !session::write_right(wrong));
+    tally::planted(t, !session::history_write_right(wrong))
 }
 
 // A budget press and a group press that the log does not know.

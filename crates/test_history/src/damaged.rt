@@ -34,25 +34,32 @@ fn tried_old_console(tally: Tally, c: Card) -> Tally {
         return tally;
     }
     let due = if c.length < 5 { CARD_SHORT } else { BAD_COUNT };
-    tally::checked(
-        tally,
-        OLD_CONSOLE,
-        history_calls::old_console_answer(c) == due,
-    )
+    let answer = history_calls::old_console_answer(c);
+    let t = tally::checked(tally, OLD_CONSOLE, answer == due);
+    tally::planted(t, answer != access::plus(due, 1))
 }
 
-// What opening gave with another answer; and where it opened, with another budget, or another latest record.
+// What opening gave with a fault in the board, which has to be reported.
+fn planted_board(tally: Tally, o: Answered, r: HistoryReading, kind: u32) -> Tally {
+    let b = o.board;
+    let mut wrong = o;
+    wrong.board = faults::with_fault(b, kind, 0, 1);
+    tally::planted(tally, !compared::opened_right(wrong, r))
+}
+
+// What opening gave with another answer; with another budget or number of records, of the blank board too; and where it
+// opened with records, with another latest one.
 fn planted(tally: Tally, o: Answered, r: HistoryReading) -> Tally {
     let mut wrong = o;
     wrong.answer = access::plus(o.answer, 1);
     let t = tally::planted(tally, !compared::opened_right(wrong, r));
+    let u = planted_board(t, o, r, faults::BUDGET);
+    let v = planted_board(u, o, r, faults::COUNT);
     let b = o.board;
     if o.answer != 0 || b.count == 0 {
-        return t;
+        return v;
     }
-    wrong = o;
-    wrong.board = faults::with_fault(b, faults::RECORDS_FROM, 0, 1);
-    tally::planted(t, !compared::opened_right(wrong, r))
+    planted_board(v, o, r, faults::RECORDS_FROM)
 }
 
 pub fn tried(tally: Tally, c: Card) -> Tally {

@@ -67,7 +67,7 @@ fn all_groups(root: u32) -> History {
     h
 }
 
-// The card opened, written again, and moved; and the same with a byte more, whatever it is.
+// The card opened and written again; and the same with a byte more, whatever it is.
 fn tried_card(tally: Tally, c: Card, p: Problem, h: History) -> Tally {
     let o = calls::open(c);
     let b = o.board;

@@ -33,8 +33,8 @@ const ANSWERS: u32 = 6;
 // The places of the answers' counts: those of an opened card, then 14 and 28.
 fn nth_answer(answer: u32) -> u32 {
     match answer {
-        BUFFER_SHORT => 10,
-        HAS_RECORDS => 11,
+        BUFFER_SHORT => 11,
+        HAS_RECORDS => 12,
         _ => compared::nth_answer(answer),
     }
 }
@@ -189,6 +189,6 @@ pub fn all() {
     tally::report(
         run(320),
         b"moves\nthere and back\nrefused by 02's words\nanswer 0:\nanswer 1:\nanswer 2:\nanswer 3:\nanswer 4:\n\
-        answer 5:\nanswer 6:\nanswer 7:\nanswer 8:\nanswer 27:\nanswer 14:\nanswer 28:\n",
+        answer 5:\nanswer 6:\nanswer 7:\nanswer 8:\nanswer 27:\nanother answer:\nanswer 14:\nanswer 28:\n",
     );
 }
