@@ -191,10 +191,11 @@ module _ (ws : List ℕ) (h : Header) (q : h ≡ history-header-of ws) where
               records-refused n = refused ws (g .answer) (sym records-judged) n
 
               pub all-opened : g .answer ≡ 0 → (b : Board) →
-                  b ≡ record { n = h .n; root = h .root; budget = h .budget; weights = c .weights; marks = c .marks; records = g .records; count = t .count } →
+                  b ≡ record { n = h .n; root = h .root; budget = h .budget; weights = c .weights; marks = c .marks; records = g .records; count = g .count } →
                   answered-with 0 b ≡ history-opened ws
               unfolding history-opened opened-as board-of history-model
               all-opened o b e =
                   let r : g .records ≡ stored (history-model ws .history) (replicate max-records blank-record) = x .all-records o ∙ rw (same-rest, same-count) in
-                  let m : t .count ≡ length (history-model ws .history) = same-count ∙ sym (history-length (count-in (behind-cells ws)) (drop count-width (behind-cells ws)) [] ∙ omega arith) in
+                  let m : g .count ≡ length (history-model ws .history) =
+                  x .its-count o ∙ same-count ∙ sym (history-length (count-in (behind-cells ws)) (drop count-width (behind-cells ws)) [] ∙ omega arith) in
                   rw (e, records-judged, o, r, m, same-weights, same-marks, its-fields)

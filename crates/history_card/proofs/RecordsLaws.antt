@@ -27,7 +27,7 @@ use Rattle.history_format.specs.HistoryCard.{count-in, history-in, end-refusal,
 use Rattle.history_format.proofs.RecordLaws.{whole}
 use Rattle.history_format.proofs.RecordLength.{longest-record, record-length-most, refusal-passed}
 use Rattle.history_card.specs.Record.{Record-read}
-use Rattle.history_card.specs.Records.{no-count, counted-in, no-history, Records-read}
+use Rattle.history_card.specs.Records.{no-count, counted-in, Records-read}
 use Rattle.history_card.specs.declared.records.Counted.{Counted}
 use Rattle.history_card.specs.declared.record.RecordRead.{RecordRead}
 use Rattle.history_card.proofs.RecordLaws.{rest-bits, short-here, whole-here}
@@ -96,12 +96,14 @@ module _ (ws : List ℕ) (s : Instance) (start count : ℕ) where
       one-left : count - k ≡ suc (count - (k + 1))
       one-left = omega arith
 
-      pub record-stops : (r .answer ≡ 0 → ⊥) → Records-read (records-refusal count s (drop start (bits-in ws))) count (drop start (bits-in ws)) (no-history (r .answer))
+      pub record-stops : (r .answer ≡ 0 → ⊥) → (held : ℕ) →
+          Records-read (records-refusal count s (drop start (bits-in ws))) count (drop start (bits-in ws)) (record { answer = r .answer; count = held; records = records })
       unfolding records-refusal
-      record-stops n =
+      record-stops n held =
           let e : records-refusal (suc (count - (k + 1))) s here ≡ r .answer = rw (← x .judged, ne-eqb (r .answer) 0 n) in
           record {
             judged = sym (g .judged-so-far ∙ rw one-left e);
+            its-count = λ z. absurd (n z);
             all-records = λ z. absurd (n z);
           }
 
@@ -136,12 +138,13 @@ module _ (ws : List ℕ) (s : Instance) (start count : ℕ) where
             }
 
     pub all-read : k ≡ count → (a : ℕ) → a ≡ end-refusal here →
-        Records-read (records-refusal count s (drop start (bits-in ws))) count (drop start (bits-in ws)) (record { answer = a; records = records })
+        Records-read (records-refusal count s (drop start (bits-in ws))) count (drop start (bits-in ws)) (record { answer = a; count = count; records = records })
     unfolding records-refusal history-in
     all-read e a q =
         let n : count - k ≡ 0 = omega arith in
         record {
           judged = q ∙ sym (rw n at (g .judged-so-far));
+          its-count = λ z. refl;
           all-records = λ z. rw (g .in-places, rw n at (g .said-so-far));
         }
 

@@ -25,10 +25,11 @@ counted-in bs =
     (record { answer = 0; count = count-in bs }))
 
 -- THE RECORDS
-abbrev pub no-history : (answer : ℕ) → History
-no-history k = record { answer = k; records = replicate max-records blank-record }
+abbrev pub empty-history : History
+empty-history = record { answer = 0; count = 0; records = replicate max-records blank-record }
 
--- the number that the records get and, where it is 0, every record place
+-- the number that the records get; where it is 0, how many they are and every record place
 pub record Records-read (refusal count : ℕ) (bits : List ℕ) (r : History) : Type 0 where
   pub judged : r .answer ≡ refusal
+  pub its-count : r .answer ≡ 0 → r .count ≡ count
   pub all-records : r .answer ≡ 0 → r .records ≡ stored (history-in count bits []) (replicate max-records blank-record)

@@ -98,6 +98,6 @@ pub fn open_history(card: &[u8]) -> Answered
     let records = history.records;
     let mut board = new_board(n, root, header.budget, weights, marks);
     board.records = records;
-    board.count = count;
+    board.count = history.count;
     Answered { answer: 0, board }
 }

@@ -7,7 +7,7 @@ ghost use Rattle.instance.specs.Limits.{max-vertices, max-records, cells};
 ghost use Rattle.instance.specs.Matrix.{unmarked};
 ghost use Rattle.history_format.specs.HistoryCard.{end-refusal, records-refusal, max-history-card};
 ghost use Rattle.history_card.specs.Marks.{last-place};
-ghost use Rattle.history_card.specs.Records.{no-count, counted-in, no-history, Records-read};
+ghost use Rattle.history_card.specs.Records.{no-count, counted-in, empty-history, Records-read};
 use crate::record::read_record;
 use crate::record::runs_past;
 use crate::widths::COUNT_WIDTH;
@@ -46,20 +46,25 @@ pub fn read_count(card: &[u8], start: usize) -> Counted
     Counted { answer: 0, count }
 }
 
-// What the records say: a refusal, or 0 and every record place.
+// What the records say: a refusal, or 0 and a history, with every record place.
 pub struct History {
     pub answer: u32,
+    pub count: usize,
     pub records: [UndoRecord; MAX_RECORDS],
 }
 
-fn no_history(answer: u32) -> History
-    ensures { λ r. ⌜ r ≡ no-history answer ⌝ }
+fn empty_history() -> History
+    ensures { λ r. ⌜ r ≡ empty-history ⌝ }
 {
     let record = UndoRecord {
         replaced: Replaced::OldMark(0, 0, 0),
     };
     let records = [record; MAX_RECORDS];
-    History { answer, records }
+    History {
+        answer: 0,
+        count: 0,
+        records,
+    }
 }
 
 // The last record ends at `end`: whole bytes may not follow, nor a bit that is not zero.
@@ -90,14 +95,15 @@ pub fn read_records(
     requires { ⌜ (start ≤ 8 * max-history-card) × (count ≤ max-records) ⌝ }
     ensures { λ r. ⌜ Records-read (records-refusal count (unmarked n root (now (weights .entry))) (drop start (bits-in (now (card .entry))))) count (drop start (bits-in (now (card .entry)))) r ⌝ }
 {
-    let mut history = no_history(0);
+    let mut history = empty_history();
     let mut at = start;
     let mut k: usize = 0;
     while k < count {
         let read = read_record(card, weights, n, root, at);
         let refusal = read.answer;
         if refusal != 0 {
-            return no_history(refusal);
+            history.answer = refusal;
+            return history;
         }
         let replaced = read.replaced;
         history.records[k] = UndoRecord { replaced: replaced };
@@ -105,5 +111,6 @@ pub fn read_records(
         k += 1;
     }
     history.answer = end_refusal(card, at);
+    history.count = count;
     history
 }

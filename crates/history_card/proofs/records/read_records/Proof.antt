@@ -15,14 +15,14 @@ Inv-loop card weights n root start count history₀ at₀ k₀ history at k = Re
 abbrev μ-loop : tie.MeasureT-loop
 μ-loop card weights n root start count history₀ at₀ k₀ history at k = count - k
 
-no-history-requires : tie.Need-no-history-requires Inv-loop μ-loop
-no-history-requires c κs = search needs
+empty-history-requires : tie.Need-empty-history-requires Inv-loop μ-loop
+empty-history-requires c κs = search needs
 
 loop-holds : tie.Need-loop-holds Inv-loop μ-loop
 loop-holds c =
     let s = c .before .before in
     let a = s .args in
-    rw (ap (λ (h : History). h .records) (c .no-history .ensures))
+    rw (ap (λ (h : History). h .records) (c .empty-history .ensures))
     (reading-begun (a .card .now) (unmarked (a .n) (a .root) (a .weights .now)) (a .start) (a .count) (s .pre .0 .2))
 
 read-record-requires : tie.Need-read-record-requires Inv-loop μ-loop
@@ -30,17 +30,13 @@ read-record-requires c κs =
     let s = c .before .before .before .before in
     (s .pre .0 .0, s .pre .0 .1, omega (arith, s .pre .1, c .before .loop .inv .near))
 
-no-history-requires-2 : tie.Need-no-history-requires-2 Inv-loop μ-loop
-no-history-requires-2 c κs = search needs
-
 returns : tie.Need-returns Inv-loop μ-loop
 returns c =
-    let a = c .before .before .before .before .before .before .before .args in
-    let l = c .before .before .before .before .loop in
-    let r = c .before .before .read-record in
-    rw (c .no-history2 .ensures)
-    (record-stops (a .card .now) (unmarked (a .n) (a .root) (a .weights .now)) (a .start) (a .count) (l .history .records) (l .at) (l .k) (l .inv) (omega arith)
-    (r .result) (r .ensures) (c .before .if1 .taken))
+    let a = c .before .before .before .before .before .before .args in
+    let l = c .before .before .before .loop in
+    let r = c .before .read-record in
+    record-stops (a .card .now) (unmarked (a .n) (a .root) (a .weights .now)) (a .start) (a .count) (l .history .records) (l .at) (l .k) (l .inv) (omega arith)
+    (r .result) (r .ensures) (c .if1 .taken) (l .history .count)
 
 mul-t16 : tie.Need-mul-t16 Inv-loop μ-loop
 mul-t16 c = omega arith
@@ -79,10 +75,9 @@ read-records-spec =
     (tie.spec
     Inv-loop
     μ-loop
-    no-history-requires
+    empty-history-requires
     loop-holds
     read-record-requires
-    no-history-requires-2
     returns
     mul-t16
     element-set-from-history
