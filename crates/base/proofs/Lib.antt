@@ -2,6 +2,7 @@
 pub mod BoolLaws
 pub mod BoundedLaws
 pub mod ListLaws
+pub mod JoinLaws
 pub mod AllOfLaws
 pub mod CountingLaws
 pub mod FillingLaws

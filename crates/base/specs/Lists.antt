@@ -1,4 +1,4 @@
--- Lists made by index, and tests of a list's elements. Assumes nothing: these are definitions.
+-- Lists made by index, lists joined, and tests of a list's elements. Assumes nothing: these are definitions.
 use mathlib.Core.Bool.{Bool, true, false, _&&_, _||_, cond}
 use mathlib.Core.List.{List, [], _∷_, _++_}
 use Prim.Native.Nat.{ℕ, zero, suc}
@@ -12,6 +12,11 @@ tabulate-from (suc k) a g = g a ∷ tabulate-from k (suc a) g
 -- g 0, g 1, and so on: count elements
 unfoldable pub tabulate : (count : ℕ) → (g : ℕ → ℕ) → List ℕ
 tabulate k g = tabulate-from k 0 g
+
+-- g 0, g 1, and so on, up to the bound, one after the other
+unfoldable pub join-below : {A : Type 0} → (bound : ℕ) → (g : ℕ → List A) → List A
+join-below zero g = []
+join-below (suc k) g = join-below k g ++ g k
 
 -- the elements that pass the test, in order
 unfoldable pub select : {A : Type 0} → (q : A → Bool) → List A → List A

@@ -4,7 +4,7 @@
 use mathlib.Core.Path.{_≡_, refl, sym, _∙_, ap}
 use mathlib.Core.Bool.{Bool, true, false, _&&_, not, cond}
 use mathlib.Core.List.{List, [], _∷_}
-use mathlib.Core.Logic.{inr, ⊎-elim}
+use mathlib.Core.Logic.{inl, inr, ⊎-elim}
 use Prim.Native.Nat.{ℕ, suc, _+_, _^_, _≤_, _<_}
 use native.Mathlib.Omega.{arith}
 use lib.Dec.{ltb, leb, eqb}
@@ -75,7 +75,7 @@ module _ (s : Instance) (w w′ : ℕ → ℕ → ℕ) (ps : List ℕ) (cs : Lis
   some g (step u l e h r) = let ih = some (parent ps u) r in (suc (ih .0), once-more g (ih .0) (rw (← e) (ih .1)))
 
   arrived : (v : ℕ) → v < s .n → reaches (s .n) (s .root) ps v ≡ true
-  arrived v l = let k = some v (t .reached v l) in enough (s .n) (s .root) ps root-below has-all (k .0) v l (k .1)
+  arrived v l = let k = some v (t .reached v l) in enough (s .n) (s .root) ps root-below (λ u m e. inl (has-all u m e)) (k .0) v l (k .1)
 
   -- an arc that is tight now was there at first
   was-there : (v : ℕ) → v < s .n → parent ps v < s .n → w (parent ps v) v < no-arc

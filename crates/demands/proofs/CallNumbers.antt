@@ -9,8 +9,8 @@ use lib.Dec.{eqb}
 use lib.ListN.{length}
 use borrow.Author.Tests.{eqb-true}
 use Rattle.base.proofs.BoolLaws.{or-right}
-use Rattle.base.specs.Lists.{any-of}
-use Rattle.instance.specs.Refusals.{card-short, bad-count, bad-length, bad-root, bad-card-budget, bad-mark, bad-filling, buffer-short, invalid-board}
+use Rattle.base.specs.Lists.{any-of, in-front}
+use Rattle.instance.specs.Refusals.{card-short, bad-count, bad-length, bad-root, bad-card-budget, bad-mark, bad-filling, buffer-short, invalid-board, bad-try-limit}
 use Rattle.instance.specs.Instance.{Instance}
 use Rattle.card_format.specs.Card.{card-refusal}
 use Rattle.card_format.proofs.OpensLaws.{card-refusal-most}
@@ -28,12 +28,16 @@ use Rattle.text.specs.Buffer.{Filled}
 use Rattle.report_text.specs.Whole.{refused-text}
 use Rattle.report.specs.declared.Reported.{Reported}
 use Rattle.report.specs.Reports.{Reports-by}
+use Rattle.enumeration.specs.Walk.{limit-refused, joined}
+use Rattle.planner.specs.declared.Listing.{Listing}
+use Rattle.planner.specs.declared.Listing.the-variants.{Refused}
 use Rattle.planner.specs.declared.View.{View}
 use Rattle.history_format.specs.HistoryCard.{is-history, history-refusal, open-refusal, model-in}
 use Rattle.history_format.proofs.HistoryNumbers.{history-numbers, history-listed, open-listed}
 use Rattle.planner.specs.Opening.{opened-from}
 use Rattle.planner.specs.Looking.{Buffers, answer-of, Looks-at}
 use Rattle.planner.specs.Checking.{check-answer}
+use Rattle.planner.specs.Enumerating.{list-answer, walked-on, listed-as, Lists}
 use Rattle.planner.specs.Replaying.{Call, Replays-at}
 use Rattle.planner.proofs.CallSteps.{shown-answer}
 use Rattle.planner.proofs.WritingLaws.{board-refusal, Store-case, refused-by, no-room, put}
@@ -56,6 +60,10 @@ buffer-numbers = 0 ∷ invalid-board ∷ buffer-short ∷ []
 -- "in order 15, 14, 21 .. 25" (02, A6)
 abbrev pub check-numbers : List ℕ
 check-numbers = invalid-board ∷ certificate-numbers
+
+-- "Answers: 15, then 26 for a try limit of 0 or above 1,000,000" (02, A7)
+abbrev pub enumerate-numbers : List ℕ
+enumerate-numbers = 0 ∷ invalid-board ∷ bad-try-limit ∷ []
 
 abbrev pub among : (a : ℕ) → List ℕ → Bool
 among a ns = any-of (eqb a) ns
@@ -174,6 +182,35 @@ module _ (b : Board) (ps : List ℕ) (v k : ℕ) (ws : List ℕ) where
       by : (g : Bool) → cond g (certificate-refusal (instance-of b) ps v k ws) invalid-board ≡ 0 → g ≡ true
       by true e = refl
       by false e = absurd (omega (arith, e))
+
+-- LISTINGS
+module _ (b : Board) (limit : ℕ) (out out′ : List ℕ) (r : Listing) (x : Lists b limit out out′ r) where
+  abbrev answers : (valid refused : Bool) → Listing
+  answers g t = cond g (cond t (Refused bad-try-limit) (listed-as (walked-on b limit out))) (Refused invalid-board)
+
+  pub enumerate-among : among (list-answer r) enumerate-numbers ≡ true
+  unfolding any-of
+  enumerate-among = rw (x .result) (by (valid (model-of b)) (limit-refused limit))
+    where
+      by : (g t : Bool) → among (list-answer (answers g t)) enumerate-numbers ≡ true
+      by false t = refl
+      by true true = refl
+      by true false = refl
+
+  pub enumerate-before : (list-answer r ≡ 0 → ⊥) → out′ ≡ out
+  enumerate-before n = x .buffer ∙ by (valid (model-of b)) (limit-refused limit) (λ z. n (ap list-answer (x .result) ∙ z))
+    where
+      by : (g t : Bool) → (list-answer (answers g t) ≡ 0 → ⊥) → cond g (cond t out (in-front (joined (walked-on b limit out .trees)) out)) out ≡ out
+      by false t n = refl
+      by true true n = refl
+      by true false n = absurd (n refl)
+
+  pub enumerate-valid : list-answer r ≡ 0 → valid (model-of b) ≡ true
+  enumerate-valid z = by (valid (model-of b)) (limit-refused limit) (sym (ap list-answer (x .result)) ∙ z)
+    where
+      by : (g t : Bool) → list-answer (answers g t) ≡ 0 → g ≡ true
+      by true t e = refl
+      by false t e = absurd (omega (arith, e))
 
 -- no card is refused with 14
 not-fourteen : (ws : List ℕ) → open-refusal ws ≡ buffer-short → ⊥

@@ -39,14 +39,16 @@ use Rattle.report_text.specs.Whole.{max-text}
 use Rattle.report.specs.declared.Reported.{Reported}
 use Rattle.report.specs.Reports.{Reports}
 use Rattle.report.proofs.Learnt.{Reported-by, reported-by}
+use Rattle.planner.specs.declared.Listing.{Listing}
 use Rattle.planner.specs.declared.View.{View}
 use Rattle.planner.specs.Looking.{Buffers, answer-of, short-for, Looks}
+use Rattle.planner.specs.Enumerating.{list-answer}
 use Rattle.planner.specs.Replaying.{Replays}
-use Rattle.planner.proofs.Learnt.{Opened-by, opened-by, Looked, looked, Wrote, wrote, Wrote-history, wrote-history, Moved-to-history, moved-to-history, Moved-to-plain, moved-to-plain, Checked, checked, Replayed, replayed}
+use Rattle.planner.proofs.Learnt.{Opened-by, opened-by, Looked, looked, Wrote, wrote, Wrote-history, wrote-history, Moved-to-history, moved-to-history, Moved-to-plain, moved-to-plain, Checked, checked, Enumerated, enumerated, Replayed, replayed}
 use Rattle.planner.proofs.WritingLaws.{board-refusal, write-cases, history-write-cases}
 use Rattle.planner.proofs.MovingLaws.{to-history-cases, to-plain-cases}
 use Rattle.planner.proofs.OpeningLaws.{opened-answer, opened-starts}
-use Rattle.demands.proofs.CallNumbers.{card-numbers, open-numbers, buffer-numbers, check-numbers, among, Reports-before, card-among, open-among, zero-among, opened-as-before, looks-at-among, looks-at-as-before, looks-at-valid, stores-among, stores-as-before, stores-passed, board-passed, board-among, check-among, check-valid, reports-among, reports-before, reports-opened, replays-among, replays-as-before, replays-opened}
+use Rattle.demands.proofs.CallNumbers.{card-numbers, open-numbers, buffer-numbers, check-numbers, enumerate-numbers, among, Reports-before, card-among, open-among, zero-among, opened-as-before, looks-at-among, looks-at-as-before, looks-at-valid, stores-among, stores-as-before, stores-passed, board-passed, board-among, check-among, check-valid, enumerate-among, enumerate-before, enumerate-valid, reports-among, reports-before, reports-opened, replays-among, replays-as-before, replays-opened}
 use Rattle.demands.proofs.Runs.{list-called-singly}
 
 -- AN ANSWER that some public call gave
@@ -60,6 +62,7 @@ pub data Given : ℕ → Type 0 where
   by-to-history : {ws out out′ : List ℕ} {r : Written} → Moved-to-history ws out out′ r → Given (r .answer)
   by-to-plain : {ws out out′ : List ℕ} {r : Written} → Moved-to-plain ws out out′ r → Given (r .answer)
   by-checking : {b : Board} {ps ps′ : List ℕ} {v k : ℕ} {ws ws′ : List ℕ} {r : ℕ} → Checked b ps ps′ v k ws ws′ r → Given r
+  by-enumerating : {b : Board} {limit : ℕ} {out out′ : List ℕ} {r : Listing} → Enumerated b limit out out′ r → Given (list-answer r)
   by-reporting : {ws : List ℕ} {r : Reported} {out out′ : List ℕ} → Reported-by ws out out′ r → Given (r .answer)
   by-replaying : {ws ks fs gs : List ℕ} {v : View} {xs xs′ : List ℕ} {old new : Buffers} → Replayed ws ks fs gs xs xs′ old new v → Given (answer-of v)
 
@@ -74,6 +77,7 @@ numbers (by-writing-history p) = buffer-numbers
 numbers (by-to-history p) = buffer-short ∷ card-numbers
 numbers (by-to-plain p) = buffer-short ∷ to-plain-numbers
 numbers (by-checking p) = check-numbers
+numbers (by-enumerating p) = enumerate-numbers
 numbers (by-reporting {ws = ws} p) = buffer-short ∷ open-numbers ws
 numbers (by-replaying {ws = ws} p) = buffer-short ∷ open-numbers ws
 
@@ -95,6 +99,7 @@ As-before (by-writing-history {out = out} {out′ = out′} p) = out′ ≡ out
 As-before (by-to-history {out = out} {out′ = out′} p) = out′ ≡ out
 As-before (by-to-plain {out = out} {out′ = out′} p) = out′ ≡ out
 As-before (by-checking {ps = ps} {ps′ = ps′} {ws = ws} {ws′ = ws′} p) = (ps′ ≡ ps) × (ws′ ≡ ws)
+As-before (by-enumerating {out = out} {out′ = out′} p) = out′ ≡ out
 As-before (by-reporting {r = r} {out = out} {out′ = out′} p) = Reports-before out out′ r
 As-before (by-replaying {xs = xs} {xs′ = xs′} {old = old} {new = new} p) = (xs′ ≡ xs) × (new ≡ old)
 
@@ -109,6 +114,7 @@ Leaves-valid (by-writing-history {b = b} p) = valid (model-of b) ≡ true
 Leaves-valid (by-to-history {ws = ws} p) = card-refusal ws ≡ 0
 Leaves-valid (by-to-plain {ws = ws} p) = to-plain-refusal ws ≡ 0
 Leaves-valid (by-checking {b = b} p) = valid (model-of b) ≡ true
+Leaves-valid (by-enumerating {b = b} p) = valid (model-of b) ≡ true
 Leaves-valid (by-reporting {ws = ws} p) = open-refusal ws ≡ 0
 Leaves-valid (by-replaying {ws = ws} p) = open-refusal ws ≡ 0
 
@@ -197,6 +203,13 @@ demand-1 (by-checking {b = b} {ps = ps} {v = v} {k = k} {ws = ws} p) =
       own-number = rw (c .result) (check-among b ps v k ws);
       as-before = λ _. (c .parents-kept, c .words-kept);
       leaves-valid = λ z. check-valid b ps v k ws (sym (c .result) ∙ z);
+    }
+demand-1 (by-enumerating {b = b} {limit = limit} {out = out} {out′ = out′} {r = r} p) =
+    let x = enumerated p in
+    record {
+      own-number = enumerate-among b limit out out′ r x;
+      as-before = enumerate-before b limit out out′ r x;
+      leaves-valid = enumerate-valid b limit out out′ r x;
     }
 demand-1 (by-reporting {ws = ws} {r = r} {out = out} {out′ = out′} p) =
     let x = reported-by p in

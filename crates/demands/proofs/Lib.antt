@@ -11,3 +11,4 @@ pub mod SixRetired
 pub mod SeveralMarks
 pub mod CommandLists
 pub mod PlansElsewhere
+pub mod AllPlans

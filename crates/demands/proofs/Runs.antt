@@ -24,12 +24,13 @@ use Rattle.command_list.specs.CommandList.{ListResult, list-answered, commands-
 use Rattle.command_list.proofs.AppliedLaws.{Singly, list-singly, list-valid}
 use Rattle.command_list.proofs.FollowLaws.{List-tied, list-tied}
 use Rattle.command_list.proofs.ListCalled.{List-called, list-called}
+use Rattle.planner.specs.declared.Listing.{Listing}
 use Rattle.planner.specs.declared.View.{View}
 use Rattle.planner.specs.Looking.{Buffers}
-use Rattle.planner.proofs.Learnt.{Looked, Wrote, Wrote-history, Checked}
+use Rattle.planner.proofs.Learnt.{Looked, Wrote, Wrote-history, Checked, Enumerated}
 
 -- a run: "each later one the board as the call before left it, refused or not; looks and writes may come between", and
--- checks of plans made elsewhere (02, A6), which leave the board too. A command is a single one or a group: "The press
+-- checks of plans made elsewhere (02, A6) and listings of all plans (02, A7), which leave the board too. A command is a single one or a group: "The press
 -- claim .. take[s] a group as one press" (02, A5); or a list of them was handed over, which is answered by two numbers:
 -- "how many were applied and the refusal number, or 0" (02, A1).
 pub data Run : List Input → Board → (answers : List ℕ) → (last : Board) → Type 0 where
@@ -48,6 +49,9 @@ pub data Run : List Input → Board → (answers : List ℕ) → (last : Board) 
       {is : List Input} {b : Board} {xs : List ℕ} {e : Board} {r : Written} {out out′ : List ℕ} → Wrote-history b out out′ r → Run is b xs e → Run is b xs e
   then-check :
       {is : List Input} {b : Board} {xs : List ℕ} {e : Board} {ps ps′ : List ℕ} {v k : ℕ} {ws ws′ : List ℕ} {r : ℕ} → Checked b ps ps′ v k ws ws′ r → Run is b xs e →
+      Run is b xs e
+  then-enumerate :
+      {is : List Input} {b : Board} {xs : List ℕ} {e : Board} {limit : ℕ} {out out′ : List ℕ} {r : Listing} → Enumerated b limit out out′ r → Run is b xs e →
       Run is b xs e
 
 -- A LIST THAT WAS HANDED OVER is the single commands that it applied
@@ -118,6 +122,7 @@ run-follows (then-look l rest) k f = run-follows rest k f
 run-follows (then-write l rest) k f = run-follows rest k f
 run-follows (then-write-history l rest) k f = run-follows rest k f
 run-follows (then-check l rest) k f = run-follows rest k f
+run-follows (then-enumerate l rest) k f = run-follows rest k f
 
 -- WHAT A RUN GIVES, without a log and on any board: what the contents of its first board say
 unfoldable contents-answers : List Input → Contents → List ℕ
@@ -157,6 +162,7 @@ run-gives (then-look l rest) = run-gives rest
 run-gives (then-write l rest) = run-gives rest
 run-gives (then-write-history l rest) = run-gives rest
 run-gives (then-check l rest) = run-gives rest
+run-gives (then-enumerate l rest) = run-gives rest
 
 -- SINGLE COMMANDS alone: what the model gives for them, and every record place of the last board
 pub record Runs-as (cs : List Command) (b : Board) (xs : List ℕ) (e : Board) : Type 0 where

@@ -1,5 +1,6 @@
 -- Enough steps: a vertex that meets the root after some number of steps to its parent meets it after n. The number of
--- vertices that meet it within k steps grows with k until nothing is added. Assumes nothing.
+-- vertices that meet it within k steps grows with k until nothing is added. A parent may also be one from which the
+-- root is never met, such as 255. Assumes nothing.
 use mathlib.Core.Path.{_≡_, refl}
 use mathlib.Core.Bool.{Bool, true, false, _&&_, not}
 use mathlib.Core.List.{List}
@@ -14,7 +15,8 @@ use Rattle.base.proofs.BoundedLaws.{any-found, any-intro}
 use Rattle.base.proofs.CountingLaws.{count-le, count-more, count-one}
 use Rattle.instance.specs.Arborescence.{parent, reaches}
 
-module _ (n root : ℕ) (ps : List ℕ) (root-below : root < n) (below : (v : ℕ) → v < n → eqb v root ≡ false → parent ps v < n) where
+module _ (n root : ℕ) (ps : List ℕ) (root-below : root < n)
+    (below : (v : ℕ) → v < n → eqb v root ≡ false → (parent ps v < n) ⊎ ((k : ℕ) → reaches k root ps (parent ps v) ≡ false)) where
   abbrev got : ℕ → ℕ → Bool
   got k v = reaches k root ps v
 
@@ -31,7 +33,11 @@ module _ (n root : ℕ) (ps : List ℕ) (root-below : root < n) (below : (v : �
   unfolding reaches Stable
   stays k st v l e =
       ⊎-elim (λ (r : eqb v root ≡ true). rw r)
-      (λ (r : eqb v root ≡ false). rw r (st (parent ps v) (below v l r) (rw r at e))) (test (eqb v root))
+      (λ (r : eqb v root ≡ false).
+      let on : got (suc k) (parent ps v) ≡ true = rw r at e in
+      rw r
+      (⊎-elim (λ (b : parent ps v < n). st (parent ps v) b on)
+      (λ (d : (j : ℕ) → got j (parent ps v) ≡ false). absurd (not-both (got (suc k) (parent ps v)) on (d (suc k)))) (below v l r))) (test (eqb v root))
 
   -- some vertex is added, or none
   grows : (k : ℕ) → Stable k ⊎ (suc k ≤ count-below n (got k))

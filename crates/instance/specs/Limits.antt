@@ -35,6 +35,10 @@ no-parent = 255
 abbrev pub max-records : ℕ
 max-records = 200
 
+-- "26 for a try limit of 0 or above 1,000,000" (02, A7)
+abbrev pub max-tries : ℕ
+max-tries = 1000000
+
 -- weights and marks are kept with a stride of 32: 32 times 32 cells
 abbrev pub cells : ℕ
 cells = 1024

@@ -93,6 +93,12 @@ overcharged = 24
 abbrev pub wrong-values : ℕ
 wrong-values = 25
 
+-- a listing of all plans that is refused so (02, A7) leaves "board and buffers as before": "15, then 26"
+
+-- "26 for a try limit of 0 or above 1,000,000"
+abbrev pub bad-try-limit : ℕ
+bad-try-limit = 26
+
 -- history cards (02, A8: new cards): opening gives "no board" after 27; a move leaves the buffer as it was after both
 
 -- "27 for a count above 200, kind 3 (two bits long), or a record naming a non-link, an empty group or a value out of

@@ -23,6 +23,9 @@ pub const NO_PARENT: u8 = 255;
 
 pub const MAX_RECORDS: usize = 200;
 
+// The largest limit on the tries of a listing.
+pub const MAX_TRIES: u32 = 1_000_000;
+
 // Weights and marks are kept with a stride of 32, whatever n is.
 pub const CELLS: usize = VERTICES * VERTICES;
 

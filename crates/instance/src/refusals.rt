@@ -62,6 +62,9 @@ pub const OVERCHARGED: u32 = 24;
 // 25: the amounts do not add up.
 pub const WRONG_VALUES: u32 = 25;
 
+// 26: a try limit of 0 or above MAX_TRIES.
+pub const BAD_TRY_LIMIT: u32 = 26;
+
 // 27: on a history card, a count above 200, kind 3, or a record naming a non-link, an empty group or a value out of
 // range.
 pub const BAD_RECORD: u32 = 27;

@@ -3,7 +3,7 @@
 use mathlib.Core.Path.{_≡_, refl, sym, ap, _∙_}
 use mathlib.Core.Bool.{true, false, cond}
 use mathlib.Core.List.{List}
-use mathlib.Core.Logic.{⊎-elim, _≢_}
+use mathlib.Core.Logic.{inl, ⊎-elim, _≢_}
 use Prim.Native.Nat.{ℕ, _+_, _<_}
 use native.Mathlib.Omega.{arith}
 use native.Mathlib.Decide.{ℕ-discrete}
@@ -57,7 +57,7 @@ module _ (s : Instance) (ps : List ℕ) (root-below : s .root < s .n) (a : is-ar
     meets : (v : ℕ) → v < s .n → reaches (s .n) (s .root) qs v ≡ true
     meets v l =
         let w = path-changed ps h t (s .root) inside out (s .n, reach t (remaining-ends s t h r .tail-below)) (s .n) v (reach v l) in
-        enough (s .n) (s .root) qs root-below (λ u m e. remaining-ends s (parent qs u) u (arcs u m e) .tail-below) (w .0) v l (w .1)
+        enough (s .n) (s .root) qs root-below (λ u m e. inl (remaining-ends s (parent qs u) u (arcs u m e) .tail-below)) (w .0) v l (w .1)
 
     pub exchange : is-arborescence s qs ≡ true
     exchange =

@@ -73,6 +73,12 @@ path-descends ps h t v start b = b
 path-descends ps h t v (onward {v = u} w e) b = descends-on ps h u e (path-descends ps h t u w b)
 
 -- THE END OF A PATH
+-- behind 255, which is what the root has for its parent and a vertex with no parent yet, there is nothing
+pub none-avoids : (ps : List ℕ) (h : ℕ) → length ps ≤ no-parent → h < no-parent → Avoids ps h no-parent
+unfolding reaches
+none-avoids ps h l e zero = ne-eqb no-parent h (omega arith)
+none-avoids ps h l e (suc j) = rw (ne-eqb no-parent h (omega arith), List·getD-eq-default ps no-parent {n = no-parent} l) (none-avoids ps h l e j)
+
 module _ (n root : ℕ) (ps : List ℕ) where
   -- the number of steps that do not suffice to meet the root
   abbrev pub depth : (v : ℕ) → ℕ
@@ -90,17 +96,10 @@ module _ (n root : ℕ) (ps : List ℕ) where
         let last : _≡_ {A = ℕ} (cond (reaches n root ps (parent ps v)) 0 1) 0 = rw (k .reach (parent ps v) (k .below v l off)) in
         omega arith
 
-    module _ (small : n ≤ max-vertices) (h : ℕ) (inside : h < n) where
-      -- behind the root there is nothing
-      past : (j : ℕ) → reaches j h ps no-parent ≡ false
-      unfolding reaches
-      past zero = ne-eqb no-parent h (λ z. omega arith)
-      past (suc j) =
-          let size = k .size in
-          rw (ne-eqb no-parent h (λ z. omega arith), List·getD-eq-default ps no-parent {n = no-parent} (omega arith)) (past j)
-
-      pub root-avoids : h ≢ root → Avoids ps h root
-      root-avoids e = avoids-up ps h root (λ z. e (sym z)) (rw (k .at-root) past)
+    pub root-avoids : n ≤ max-vertices → (h : ℕ) → h < n → h ≢ root → Avoids ps h root
+    root-avoids small h inside e =
+        let size = k .size in
+        avoids-up ps h root (λ z. e (sym z)) (rw (k .at-root) (none-avoids ps h (omega arith) (omega arith)))
 
 -- THE PARENT OF ONE VERTEX CHANGED
 module _ (ps : List ℕ) (h t : ℕ) where

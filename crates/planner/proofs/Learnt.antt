@@ -11,12 +11,14 @@ use denote.Triple.Clauses.{AtExit}
 use Rattle.card.specs.declared.write.Written.{Written}
 use Rattle.board.specs.declared.Board.{Board}
 use Rattle.board.specs.declared.Answered.{Answered}
+use Rattle.planner.specs.declared.Listing.{Listing}
 use Rattle.planner.specs.declared.View.{View}
 use Rattle.planner.specs.Opening.{opened-from}
 use Rattle.planner.specs.Writing.{Writes, Writes-history}
 use Rattle.planner.specs.Moving.{Moves-to-history, Moves-to-plain}
 use Rattle.planner.specs.Looking.{Buffers, buffers, Looks}
 use Rattle.planner.specs.Checking.{Checks}
+use Rattle.planner.specs.Enumerating.{Lists}
 use Rattle.planner.specs.Replaying.{Replays}
 use Rattle.planner.proofs.opening.open_card.Reads as open-reads
 use Rattle.planner.proofs.opening.open_card.Kinds as open-kinds
@@ -32,6 +34,8 @@ use Rattle.planner.proofs.moving.to_plain_card.Reads as to-plain-reads
 use Rattle.planner.proofs.moving.to_plain_card.Kinds as to-plain-kinds
 use Rattle.planner.proofs.checking.check_plan.Reads as check-reads
 use Rattle.planner.proofs.checking.check_plan.Kinds as check-kinds
+use Rattle.planner.proofs.enumerating.list_plans.Reads as list-plans-reads
+use Rattle.planner.proofs.enumerating.list_plans.Kinds as list-plans-kinds
 use Rattle.planner.proofs.replaying.replay.Reads as replay-reads
 use Rattle.planner.proofs.replaying.replay.Kinds as replay-kinds
 
@@ -90,6 +94,14 @@ pub data Checked : Board → (ps ps′ : List ℕ) → (total count : ℕ) → (
 
 pub checked : {b : Board} {ps ps′ : List ℕ} {v k : ℕ} {ws ws′ : List ℕ} {r : ℕ} → Checked b ps ps′ v k ws ws′ r → Checks b ps ps′ v k ws ws′ r
 checked (by-check κs a r e l) = l
+
+pub data Enumerated : Board → (limit : ℕ) → (out out′ : List ℕ) → Listing → Type 0 where
+  by-list-plans :
+      (κs : Lfts 1) (a : Dens κs list-plans-kinds.ps) (r : Listing) (e : AtExit (endedOf 1 list-plans-kinds.ps list-plans-kinds.r) κs) →
+      list-plans-reads.Learnt κs a r e → Enumerated (a .0) (a .1 .0) (now (a .1 .1 .0)) (now (e .1 .1 .0)) r
+
+pub enumerated : {b : Board} {limit : ℕ} {out out′ : List ℕ} {r : Listing} → Enumerated b limit out out′ r → Lists b limit out out′ r
+enumerated (by-list-plans κs a r e l) = l
 
 pub data Replayed : (card kinds firsts seconds : List ℕ) → (answers answers′ : List ℕ) → (old new : Buffers) → View → Type 0 where
   by-replay :

@@ -5,4 +5,5 @@ pub mod Displaying
 pub mod Writing
 pub mod Moving
 pub mod Checking
+pub mod Enumerating
 pub mod Replaying

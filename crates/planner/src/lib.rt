@@ -1,11 +1,13 @@
 // The public calls, gathered here: open_card, pin, ban, clear, pin_group, ban_group, clear_group, set_budget,
-// take_back, press_list, look, write_card, write_history_card, to_history_card, to_plain_card, check_plan and replay.
+// take_back, press_list, look, write_card, write_history_card, to_history_card, to_plain_card, check_plan, list_plans and
+// replay.
 // None requires anything of its caller: whatever is handed in gets an answer, and after a refusal the board and all
 // buffers are as they were; of a list of presses that is said of the refused press, and what the earlier ones did
 // stands.
 mod checking; // checking.rt: a plan made elsewhere, checked for a board
 mod copies; // copies.rt: copies into the caller's buffers
 mod displaying; // displaying.rt: what planning found, copied there
+mod enumerating; // enumerating.rt: all plans of a board
 mod looking; // looking.rt: a look at a board
 mod moving; // moving.rt: a card moved from one kind to the other
 mod opening; // opening.rt: a board from a card
@@ -29,6 +31,8 @@ pub use checking::check_plan;
 pub use command_list::ListAnswered;
 pub use command_list::Press;
 pub use command_list::press_list;
+pub use enumerating::list_plans;
+pub use enumeration::Ended;
 pub use history_card::MAX_HISTORY_CARD;
 pub use instance::Mark;
 pub use instance::Outcome;
@@ -45,5 +49,12 @@ pub use writing::write_history_card;
 // tree; or the number of a refusal.
 pub enum View {
     Shown(Outcome, u32),
+    Refused(u32),
+}
+
+// What a listing of all plans gives: how it ended, how many trees stand in the buffer and how many tries were made; or
+// the number of a refusal.
+pub enum Listing {
+    Listed(Ended, u32, u32),
     Refused(u32),
 }

@@ -12,19 +12,19 @@ use borrow.Author.Tests.{eq-eqb, eqb-false}
 use lib.Dec.{eqb}
 use lib.ListN.{length, take}
 use lib.Seq.{getD-take}
+use Rattle.base.specs.Lists.{join-below}
 use Rattle.base.specs.Bounded.{sum-below}
 use Rattle.base.proofs.BoundedLaws.{sum-room}
 use Rattle.base.proofs.SumLaws.{sum-longer}
+use Rattle.base.proofs.JoinLaws.{join-same, join-length}
 use Rattle.instance.specs.Limits.{max-vertices, no-parent}
 use Rattle.instance.specs.Arborescence.{parent}
 use Rattle.instance.specs.declared.Outcome.{Outcome}
 use Rattle.instance.specs.States.{shows-tree}
 use Rattle.text.specs.Decimal.{decimal-in, decimal}
 use Rattle.text.specs.Lines.{codes}
-use Rattle.text.specs.Join.{join-below}
 use Rattle.text.proofs.DecimalLaws.{decimal-length}
 use Rattle.text.proofs.LineLaws.{three-length}
-use Rattle.text.proofs.JoinLaws.{join-same, join-length}
 use Rattle.report_text.specs.Feeds.{feed-line, listed-weight, feed-at, feed-lines}
 
 pub feeds-same : (ws ps : List ℕ) (n r : ℕ) (o : Outcome) → feed-lines ws ps n r o ≡ feed-lines ws (take n ps) n r o

@@ -12,7 +12,7 @@ use borrow.Author.Tests.{eqb-true, eqb-false, eq-eqb, ne-eqb, lt-ltb}
 use lib.Dec.{eqb}
 use lib.ListN.{length, replicate}
 use Rattle.base.specs.Bounded.{all-below, sum-below}
-use Rattle.base.specs.Lists.{tabulate-from, tabulate}
+use Rattle.base.specs.Lists.{tabulate-from, tabulate, join-below}
 use Rattle.base.proofs.BoolLaws.{not-both, is-true, and-false-right}
 use Rattle.base.proofs.BoundedLaws.{all-at, all-intro, any-false}
 use Rattle.base.proofs.ListLaws.{replicate-at, length-tabulate, getD-tabulate, tabulate-is}
@@ -28,7 +28,6 @@ use Rattle.instance.proofs.ArborescenceLaws.{parents-size, root-parent, joined,
 use Rattle.theory.proofs.OutcomeLaws.{outcome-reads}
 use Rattle.text.specs.Decimal.{decimal-in, decimal}
 use Rattle.text.specs.Lines.{codes}
-use Rattle.text.specs.Join.{join-below}
 use Rattle.report_text.specs.Heading.{header-line, outcome-line}
 use Rattle.report_text.specs.Feeds.{feed-line, feed-at, feed-lines}
 use Rattle.report_text.specs.Whole.{report-text, max-text}

@@ -8,17 +8,17 @@ use native.Mathlib.Omega.{arith}
 use native.Mathlib.Nat.{suc-mul, mul-le-mul, mul-le-mul-right}
 use lib.ListN.{length, getD, set, take, length-append}
 use lib.Seq.{getD-take}
+use Rattle.base.specs.Lists.{join-below}
 use Rattle.base.specs.Bounded.{sum-below}
 use Rattle.base.proofs.BoundedLaws.{sum-mono, sum-eq}
 use Rattle.base.proofs.SumLaws.{sum-longer}
+use Rattle.base.proofs.JoinLaws.{join-same, join-length}
 use Rattle.instance.specs.Limits.{max-vertices, cells}
 use Rattle.text.specs.Decimal.{decimal-in, decimal}
 use Rattle.text.specs.Lines.{codes, space, line-feed, labelled}
-use Rattle.text.specs.Join.{join-below}
 use Rattle.text.specs.Buffer.{Room, Puts}
 use Rattle.text.proofs.DecimalLaws.{length-few}
 use Rattle.text.proofs.LineLaws.{labelled-length}
-use Rattle.text.proofs.JoinLaws.{join-same, join-length}
 use Rattle.text.proofs.BufferLaws.{room-first, byte-room, puts-room, puts-byte, puts-then}
 use Rattle.report_text.specs.Rows.{row-states, row-line, row-lines}
 

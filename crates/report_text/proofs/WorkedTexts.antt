@@ -5,7 +5,7 @@ use mathlib.Core.Path.{_≡_, refl}
 use mathlib.Core.List.{List, [], _∷_, _++_}
 use Prim.Native.Nat.{ℕ}
 use Rattle.base.specs.Bounded.{all-below, any-below, sum-below}
-use Rattle.base.specs.Lists.{tabulate-from, tabulate, select, any-of, all-of}
+use Rattle.base.specs.Lists.{tabulate-from, tabulate, join-below, select, any-of, all-of}
 use Rattle.instance.specs.Limits.{pinned}
 use Rattle.instance.specs.Instance.{Instance, weight, mark, can-be-arc, is-arc}
 use Rattle.instance.specs.Arborescence.{is-pinned, other-pinned, remaining, reaches, parent-ok, is-arborescence, total, uses}
@@ -14,7 +14,6 @@ use Rattle.instance.specs.States.{outcome-at, outcome, fits, fitting, limit-at,
 use Rattle.instance.proofs.WorkedCases.{arc, filled, instance-from, instance-q}
 use Rattle.text.specs.Decimal.{decimal-in, decimal}
 use Rattle.text.specs.Lines.{codes}
-use Rattle.text.specs.Join.{join-below}
 use Rattle.report_text.specs.Heading.{header-line, outcome-line}
 use Rattle.report_text.specs.Feeds.{feed-line, feed-at, feed-lines}
 use Rattle.report_text.specs.Rows.{row-line, row-lines}

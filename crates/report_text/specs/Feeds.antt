@@ -5,13 +5,13 @@ use mathlib.Core.List.{List, []}
 use Prim.Native.Nat.{ℕ}
 use lib.Dec.{eqb}
 use lib.ListN.{getD}
+use Rattle.base.specs.Lists.{join-below}
 use Rattle.instance.specs.Limits.{no-arc}
 use Rattle.instance.specs.Instance.{cell}
 use Rattle.instance.specs.Arborescence.{parent}
 use Rattle.instance.specs.declared.Outcome.{Outcome}
 use Rattle.instance.specs.States.{shows-tree}
 use Rattle.text.specs.Lines.{codes, line-of-three}
-use Rattle.text.specs.Join.{join-below}
 
 -- "fed, feeder, price"
 unfoldable pub feed-line : (head tail weight : ℕ) → List ℕ

@@ -3,9 +3,9 @@
 use mathlib.Core.List.{List, [], _∷_, _++_}
 use Prim.Native.Nat.{ℕ, _+_, _*_}
 use lib.ListN.{getD}
+use Rattle.base.specs.Lists.{join-below}
 use Rattle.text.specs.Decimal.{decimal}
 use Rattle.text.specs.Lines.{codes, space, line-feed, labelled}
-use Rattle.text.specs.Join.{join-below}
 
 -- the n states of a tail's arcs, from n times n states, tail by tail
 abbrev pub row-states : (states : List ℕ) → (n tail : ℕ) → List ℕ

@@ -2,9 +2,9 @@
 ghost use mathlib.Core.Path.{_≡_};
 ghost use Prim.Native.Nat.{_≤_, _<_};
 ghost use lib.ListN.{length};
+ghost use Rattle.base.specs.Lists.{join-below};
 ghost use Rattle.instance.specs.Limits.{cells};
 ghost use Rattle.text.specs.Buffer.{Room, Puts};
-ghost use Rattle.text.specs.Join.{join-below};
 ghost use Rattle.report_text.specs.Feeds.{feed-line, listed-weight, feed-at, feed-lines};
 use instance::Outcome;
 use instance::limits::CELLS;

@@ -1,10 +1,10 @@
 // The rows of states.
 ghost use Prim.Native.Nat.{_+_, _*_, _≤_, _<_};
 ghost use lib.ListN.{length, getD};
+ghost use Rattle.base.specs.Lists.{join-below};
 ghost use Rattle.instance.specs.Limits.{max-vertices};
 ghost use Rattle.text.specs.Buffer.{Room, Puts};
 ghost use Rattle.text.specs.Decimal.{decimal};
-ghost use Rattle.text.specs.Join.{join-below};
 ghost use Rattle.report_text.specs.Rows.{row-line, row-lines};
 use text::decimal::put_decimal;
 use text::lines::put_labelled;

@@ -16,7 +16,7 @@ use Rattle.theory.proofs.SameArcs.{Same-arcs, same-back, with-budget-ar
 use Rattle.theory.proofs.Usable.{usable-some}
 use Rattle.theory.proofs.Restriction.{matrix-same}
 
-same-on : (a b c : Instance) → Same-arcs a b → Same-arcs b c → Same-arcs a c
+pub same-on : (a b c : Instance) → Same-arcs a b → Same-arcs b c → Same-arcs a c
 same-on a b c e f =
     record {
       vertices = e .vertices ∙ f .vertices;

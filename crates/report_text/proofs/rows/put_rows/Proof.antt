@@ -3,7 +3,7 @@ use mathlib.Core.Path.{_≡_, refl, _∙_}
 use Prim.Native.Nat.{_-_, _≤_}
 use native.Mathlib.Omega.{arith}
 use lib.ListN.{length}
-use Rattle.text.specs.Join.{join-below}
+use Rattle.base.specs.Lists.{join-below}
 use Rattle.report_text.specs.Rows.{row-line, row-lines}
 use Rattle.text.specs.Buffer.{Puts}
 use Rattle.text.proofs.JoinLaws.{join-none, join-room, join-next}

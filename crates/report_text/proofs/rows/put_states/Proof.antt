@@ -3,8 +3,8 @@ use mathlib.Core.Path.{_≡_, refl, _∙_}
 use Prim.Native.Nat.{_+_, _-_, _≤_}
 use native.Mathlib.Omega.{arith}
 use lib.ListN.{length, getD}
+use Rattle.base.specs.Lists.{join-below}
 use Rattle.text.specs.Decimal.{decimal}
-use Rattle.text.specs.Join.{join-below}
 use Rattle.text.specs.Buffer.{Puts}
 use Rattle.text.proofs.JoinLaws.{join-none, join-room, join-next}
 use Rattle.report_text.proofs.rows.put_states.Statement.{statement}

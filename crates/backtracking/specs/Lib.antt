@@ -1,0 +1,2 @@
+-- What the contracts cite besides the definitions of `enumeration`. Assumes nothing.
+pub mod Listing

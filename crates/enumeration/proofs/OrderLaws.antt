@@ -1,0 +1,121 @@
+-- The order of lists of parents: no list comes before itself, and no two before one another. The candidates ascend, and
+-- so do those that are selected from them, and the first ones of a list that ascends; so the trees of a walk do.
+-- Assumes nothing.
+use mathlib.Core.Path.{_≡_, refl, sym, subst}
+use mathlib.Core.Bool.{Bool, true, false, cond}
+use mathlib.Core.List.{List, [], _∷_, _++_, map}
+use mathlib.Core.Logic.{_⊎_, inl, inr}
+use Prim.Native.Nat.{ℕ, zero, suc, _≤_, _<_}
+use native.Mathlib.Omega.{arith}
+use lib.Dec.{eqb}
+use lib.ListN.{length, take}
+use Rattle.base.specs.Lists.{tabulate, tabulate-from, select}
+use Rattle.instance.specs.Limits.{max-vertices, no-parent}
+use Rattle.instance.specs.Instance.{Instance}
+use Rattle.instance.specs.Candidates.{prefixed, choices, candidates-from, candidates}
+use Rattle.instance.specs.States.{fits, fitting}
+use Rattle.enumeration.specs.Walk.{walked}
+use Rattle.enumeration.specs.Order.{Before, here, there, Before-all, none, also, Ascending, empty, next}
+use Rattle.enumeration.proofs.WalkLaws.{trees-first}
+
+-- ONE WAY ONLY
+-- the order of two lists, read at their fronts
+front-reads : {x y : ℕ} {xs ys : List ℕ} → Before (x ∷ xs) (y ∷ ys) → (x < y) ⊎ ((x ≡ y) × Before xs ys)
+front-reads (here l) = inl l
+front-reads (there b) = inr (refl, b)
+
+pub before-once : (xs ys : List ℕ) → Before xs ys → Before ys xs → ⊥
+before-once [] ys a b = elim a [ ]
+before-once (x ∷ xs) [] a b = elim a [ ]
+before-once (x ∷ xs) (y ∷ ys) a b = at (before-once xs ys) (front-reads a) (front-reads b)
+  where
+    at : (Before xs ys → Before ys xs → ⊥) → (x < y) ⊎ ((x ≡ y) × Before xs ys) → (y < x) ⊎ ((y ≡ x) × Before ys xs) → ⊥
+    at r (inl l) (inl m) = omega arith
+    at r (inl l) (inr m) = omega arith
+    at r (inr l) (inl m) = omega arith
+    at r (inr l) (inr m) = r (l .1) (m .1)
+
+pub before-irreflexive : (xs : List ℕ) → Before xs xs → ⊥
+before-irreflexive xs b = before-once xs xs b b
+
+-- SOME OF A LIST THAT ASCENDS
+module _ (q : List ℕ → Bool) where
+  before-select : {xs : List ℕ} {xss : List (List ℕ)} → Before-all xs xss → Before-all xs (select q xss)
+  unfolding select
+  before-select none = none
+  before-select {xs} (also {ys = ys} {yss = yss} b r) = at (q ys) (before-select r)
+    where
+      at : (t : Bool) → Before-all xs (select q yss) → Before-all xs (cond t (ys ∷ select q yss) (select q yss))
+      at true x = also b x
+      at false x = x
+
+  pub select-ascending : {xss : List (List ℕ)} → Ascending xss → Ascending (select q xss)
+  unfolding select
+  select-ascending empty = empty
+  select-ascending (next {xs = xs} {xss = xss} b a) = at (q xs) (select-ascending a)
+    where
+      at : (t : Bool) → Ascending (select q xss) → Ascending (cond t (xs ∷ select q xss) (select q xss))
+      at true x = next (before-select b) x
+      at false x = x
+
+before-take : (k : ℕ) {xs : List ℕ} {xss : List (List ℕ)} → Before-all xs xss → Before-all xs (take k xss)
+before-take zero r = none
+before-take (suc k) none = none
+before-take (suc k) (also b r) = also b (before-take k r)
+
+pub take-ascending : (k : ℕ) {xss : List (List ℕ)} → Ascending xss → Ascending (take k xss)
+take-ascending zero a = empty
+take-ascending (suc k) empty = empty
+take-ascending (suc k) (next b a) = next (before-take k b) (take-ascending k a)
+
+-- ONE NUMBER IN FRONT
+module _ (x : ℕ) (rest : List (List ℕ)) (after : (l : List ℕ) → Before-all (x ∷ l) rest) where
+  before-front : {l : List ℕ} {ls : List (List ℕ)} → Before-all l ls → Before-all (x ∷ l) (map (λ k. x ∷ k) ls ++ rest)
+  before-front {l} none = after l
+  before-front (also b r) = also (there b) (before-front r)
+
+  ascending-front : {ls : List (List ℕ)} → Ascending ls → Ascending rest → Ascending (map (λ k. x ∷ k) ls ++ rest)
+  ascending-front empty r = r
+  ascending-front (next b a) r = next (before-front b) (ascending-front a r)
+
+-- EACH NUMBER IN FRONT
+before-map : (x y : ℕ) (l : List ℕ) → x < y → (ls rest : List (List ℕ)) → Before-all (x ∷ l) rest → Before-all (x ∷ l) (map (λ k. y ∷ k) ls ++ rest)
+before-map x y l b [] rest r = r
+before-map x y l b (k ∷ ls) rest r = also (here b) (before-map x y l b ls rest r)
+
+before-prefixed : (k a x : ℕ) (ls : List (List ℕ)) (l : List ℕ) → x < a → Before-all (x ∷ l) (prefixed (tabulate-from k a (λ t. t)) ls)
+unfolding prefixed tabulate-from
+before-prefixed zero a x ls l b = none
+before-prefixed (suc k) a x ls l b = before-map x a l b ls (prefixed (tabulate-from k (suc a) (λ t. t)) ls) (before-prefixed k (suc a) x ls l (omega arith))
+
+prefixed-ascending : (k a : ℕ) (ls : List (List ℕ)) → Ascending ls → Ascending (prefixed (tabulate-from k a (λ t. t)) ls)
+unfolding prefixed tabulate-from
+prefixed-ascending zero a ls r = empty
+prefixed-ascending (suc k) a ls r =
+    ascending-front a (prefixed (tabulate-from k (suc a) (λ t. t)) ls) (λ l. before-prefixed k (suc a) a ls l (omega arith)) r (prefixed-ascending k (suc a) ls r)
+
+-- THE CANDIDATES
+module _ (s : Instance) where
+  candidates-from-ascending : (k v : ℕ) → Ascending (candidates-from k v s)
+  unfolding candidates-from choices tabulate prefixed
+  candidates-from-ascending zero v = next none empty
+  candidates-from-ascending (suc k) v = at (eqb v (s .root)) (candidates-from-ascending k (suc v))
+    where
+      at : (b : Bool) → Ascending (candidates-from k (suc v) s)
+          → Ascending (prefixed (cond b (no-parent ∷ []) (tabulate (s .n) (λ t. t))) (candidates-from k (suc v) s))
+      at true r = ascending-front no-parent [] (λ l. none) r empty
+      at false r = prefixed-ascending (s .n) 0 (candidates-from k (suc v) s) r
+
+  pub candidates-ascending : Ascending (candidates s)
+  unfolding candidates
+  candidates-ascending = candidates-from-ascending (s .n) 0
+
+  pub fitting-ascending : Ascending (fitting s)
+  unfolding fitting
+  fitting-ascending = select-ascending (fits s) candidates-ascending
+
+-- THE TREES OF A WALK, whatever its limit and its room
+pub trees-ascending : (s : Instance) (limit room : ℕ) → s .root < s .n → s .n ≤ max-vertices → Ascending (walked s limit room .trees)
+trees-ascending s limit room root-below small =
+    subst (λ (pss : List (List ℕ)). Ascending pss) (sym (trees-first s limit room root-below small))
+    (take-ascending (length (walked s limit room .trees)) (fitting-ascending s))
