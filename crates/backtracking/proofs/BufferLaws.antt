@@ -1,8 +1,8 @@
 -- The walk as the program makes it, with its buffer, is the walk of `enumeration`: the trees stand in the buffer one
 -- after the other, and what stands behind them is as it was. Assumes nothing.
-use mathlib.Core.Path.{_≡_, refl, sym, ap, _∙_, subst}
+use mathlib.Core.Path.{_≡_, refl, sym, ap, _∙_}
 use mathlib.Core.Bool.{Bool, true, false, cond}
-use mathlib.Core.List.{List, [], _∷_, _++_, append-assoc}
+use mathlib.Core.List.{List, _∷_, _++_, append-assoc}
 use Prim.Native.Nat.{ℕ, zero, suc, _+_, _-_, _*_, _≤_}
 use native.Mathlib.Nat.{suc-mul, zero-mul}
 use native.Mathlib.Numerals.{add-one}
@@ -11,7 +11,6 @@ use lib.Dec.{leb}
 use lib.ListN.{length, take, drop, length-append, take-append-drop}
 use lib.Seq.{paste, take-paste, drop-paste, length-paste, take-all, drop-drop}
 use borrow.Author.Tests.{leb-true, leb-false, le-leb, lt-leb}
-use Rattle.base.specs.Lists.{in-front}
 use Rattle.instance.specs.Instance.{Instance}
 use Rattle.enumeration.specs.Events.{Event, tried, listed, events}
 use Rattle.enumeration.specs.Walk.{Walked, ended-by, after-try, after-tree, walk, walked, joined}

@@ -1,5 +1,5 @@
--- What settling asks, kept from vertex to vertex: the sum of the arcs, the arcs of the matrix, and the parents below the
--- next vertex. Assumes nothing.
+-- What settling asks, kept from vertex to vertex: the sum of the arcs, the arcs of the matrix, and the parents below
+-- the next vertex. Assumes nothing.
 use mathlib.Core.Path.{_≡_, refl, sym, ap, _∙_}
 use mathlib.Core.Bool.{true, false, cond}
 use mathlib.Core.List.{List, [], _∷_, _++_}

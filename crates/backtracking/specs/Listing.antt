@@ -14,7 +14,7 @@ use Rattle.instance.specs.Instance.{Instance, cell}
 use Rattle.instance.specs.Arborescence.{parent}
 use Rattle.instance.specs.Matrix.{Matrix-ok}
 use Rattle.enumeration.specs.Events.{Event, tried, listed}
-use Rattle.enumeration.specs.Walk.{Walked, walked, joined}
+use Rattle.enumeration.specs.Walk.{walked, joined}
 use Rattle.enumeration.specs.declared.Ended.{Ended}
 use Rattle.enumeration.specs.declared.Ended.the-variants.{Complete, AtLimit, NoRoom}
 use Rattle.backtracking.specs.declared.Progress.{Progress}
@@ -50,7 +50,7 @@ scan n [] w = w
 scan n (e ∷ es) w = scan n es (step n e w)
 
 -- the walk goes on from p and the buffer old, over these events, to r and the buffer new; between two trees there is a
--- try, so their number never passes the limit by more than one
+-- try, so the trees and the tries that are left pass the greatest limit by one at most
 pub record Walks (n : ℕ) (es : List Event) (p : Progress) (old new : List ℕ) (r : Progress) : Type 0 where
   pub scanned : place-of r new ≡ scan n es (place-of p old)
   pub counted : r .trees + r .left ≤ max-tries + 1

@@ -13,8 +13,8 @@ fn widened(parent: u8) -> u32
     parent as u32
 }
 
-// Whether the path from t comes to v, where the vertices below v have parents: then an arc from t into v closes a cycle.
-// A path ends at the first vertex that has none.
+// Whether the path from t comes to v, where the vertices below v have parents: then an arc from t into v closes a
+// cycle. A path ends at the first vertex that has none.
 pub fn closes_cycle(parents: &[u8; VERTICES], n: u32, v: u32, t: u32) -> bool
     requires { ⌜ (length (now parents) ≡ max-vertices) × (n ≤ max-vertices) × (v < n) ⌝ }
     ensures { λ r. ⌜ r ≡ reaches n v (take v (now (parents .entry))) t ⌝ }

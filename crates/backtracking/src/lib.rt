@@ -1,6 +1,6 @@
 // Lists every arborescence of an instance within its budget, by backtracking: the vertices get their parents upwards,
-// each remaining arc into the next one is tried in turn, and an arc that closes a cycle is dropped. No card and no board
-// can be seen from here.
+// each remaining arc into the next one is tried in turn, and an arc that closes a cycle is dropped. No card and no
+// board can be seen from here.
 mod cycle; // cycle.rt: whether an arc closes a cycle
 mod store; // store.rt: a tree put into the caller's buffer
 mod walk; // walk.rt: the walk, two functions that call each other

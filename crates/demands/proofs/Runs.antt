@@ -1,5 +1,5 @@
--- RUNS of the public calls, for every claim about a list of them: commands singly and in lists, looks, writes and
--- checks between. The log is kept from what the calls were handed, and a run follows it. Assumes nothing.
+-- RUNS of the public calls, for every claim about a list of them: commands singly and in lists, looks, writes, checks
+-- and listings between. The log is kept from what the calls were handed, and a run follows it. Assumes nothing.
 use mathlib.Core.Path.{_≡_, refl, sym, ap, _∙_, subst}
 use mathlib.Core.List.{List, [], _∷_, map}
 use Prim.Native.Nat.{ℕ}
@@ -30,9 +30,9 @@ use Rattle.planner.specs.Looking.{Buffers}
 use Rattle.planner.proofs.Learnt.{Looked, Wrote, Wrote-history, Checked, Enumerated}
 
 -- a run: "each later one the board as the call before left it, refused or not; looks and writes may come between", and
--- checks of plans made elsewhere (02, A6) and listings of all plans (02, A7), which leave the board too. A command is a single one or a group: "The press
--- claim .. take[s] a group as one press" (02, A5); or a list of them was handed over, which is answered by two numbers:
--- "how many were applied and the refusal number, or 0" (02, A1).
+-- checks of plans made elsewhere (02, A6) and listings of all plans (02, A7), which leave the board too. A command is a
+-- single one or a group: "The press claim .. take[s] a group as one press" (02, A5); or a list of them was handed over,
+-- which is answered by two numbers: "how many were applied and the refusal number, or 0" (02, A1).
 pub data Run : List Input → Board → (answers : List ℕ) → (last : Board) → Type 0 where
   no-call : {b : Board} → Run [] b [] b
   then-command :

@@ -1,14 +1,15 @@
 -- The order of lists of parents: no list comes before itself, and no two before one another. The candidates ascend, and
--- so do those that are selected from them, and the first ones of a list that ascends; so the trees of a walk do.
+-- so do those that are selected from them, and the first ones of a list that ascends; so the trees of a walk do, and no
+-- two of them are alike.
 -- Assumes nothing.
 use mathlib.Core.Path.{_≡_, refl, sym, subst}
 use mathlib.Core.Bool.{Bool, true, false, cond}
 use mathlib.Core.List.{List, [], _∷_, _++_, map}
-use mathlib.Core.Logic.{_⊎_, inl, inr}
+use mathlib.Core.Logic.{_⊎_, inl, inr, _≢_}
 use Prim.Native.Nat.{ℕ, zero, suc, _≤_, _<_}
 use native.Mathlib.Omega.{arith}
 use lib.Dec.{eqb}
-use lib.ListN.{length, take}
+use lib.ListN.{length, getD, take}
 use Rattle.base.specs.Lists.{tabulate, tabulate-from, select}
 use Rattle.instance.specs.Limits.{max-vertices, no-parent}
 use Rattle.instance.specs.Instance.{Instance}
@@ -119,3 +120,16 @@ pub trees-ascending : (s : Instance) (limit room : ℕ) → s .root < s .n → s
 trees-ascending s limit room root-below small =
     subst (λ (pss : List (List ℕ)). Ascending pss) (sym (trees-first s limit room root-below small))
     (take-ascending (length (walked s limit room .trees)) (fitting-ascending s))
+
+-- EACH ONCE: no two of an ascending list are alike
+before-at : {xs : List ℕ} {xss : List (List ℕ)} → Before-all xs xss → (j : ℕ) → j < length xss → Before xs (getD xss j [])
+before-at none j l = absurd (omega arith)
+before-at (also b r) zero l = b
+before-at (also b r) (suc j) l = before-at r j (omega arith)
+
+pub ascending-once : {xss : List (List ℕ)} → Ascending xss → (i j : ℕ) → i < j → j < length xss → getD xss i [] ≢ getD xss j []
+ascending-once empty i j l m e = omega arith
+ascending-once (next b a) i zero l m e = omega arith
+ascending-once (next {xs = xs} {xss = xss} b a) zero (suc j) l m e =
+    before-irreflexive xs (subst (λ (ys : List ℕ). Before xs ys) (sym e) (before-at b j (omega arith)))
+ascending-once (next b a) (suc i) (suc j) l m e = ascending-once a i j (omega arith) (omega arith) e

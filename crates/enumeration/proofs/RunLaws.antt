@@ -45,6 +45,13 @@ number NoRoom = 2
 differ : (a b : Ended) → (number a ≡ number b → ⊥) → a ≡ b → ⊥
 differ a b h e = h (ap number e)
 
+-- the tries before tree k is listed, the first tree being 0
+unfoldable pub tries-to : (k : ℕ) → List Event → ℕ
+tries-to k [] = 0
+tries-to k (tried ∷ es) = suc (tries-to k es)
+tries-to zero (listed ps ∷ es) = 0
+tries-to (suc k) (listed ps ∷ es) = tries-to k es
+
 module _ {n : ℕ} where
   -- COMPLETE: it has all
   pub run-complete : {limit room : ℕ} {es : List Event} {w : Walked} → Run n limit room es w → w .ended ≡ Complete → (w .trees ≡ trees-in es) × (w .tries ≡ tries-in es)
@@ -81,7 +88,7 @@ module _ {n : ℕ} where
   run-limit (a-tree l r) e = run-limit r e
   run-limit (full l) e = absurd (differ NoRoom AtLimit (λ z. omega arith) e)
 
-  -- NO ROOM: one more tree was due, and would not fit
+  -- NO ROOM: one more tree was due, and has no room
   pub run-room : {limit room : ℕ} {es : List Event} {w : Walked} → Run n limit room es w → w .ended ≡ NoRoom
       → (room < (length (w .trees) + 1) * n) × (length (w .trees) < length (trees-in es))
   unfolding trees-in
@@ -111,9 +118,18 @@ module _ {n : ℕ} where
   run-most (a-tree l r) = run-most r
   run-most (full l) = omega arith
 
-  pub run-fit : {limit room : ℕ} {es : List Event} {w : Walked} → Run n limit room es w → length (w .trees) * n ≤ room
-  run-fit over = omega (arith, zero-mul n)
-  run-fit limited = omega (arith, zero-mul n)
-  run-fit (a-try r) = run-fit r
-  run-fit (a-tree {w = w} l r) = let h = run-fit r in omega (arith, suc-mul (length (w .trees)) n)
-  run-fit (full l) = omega (arith, zero-mul n)
+  pub run-room-for : {limit room : ℕ} {es : List Event} {w : Walked} → Run n limit room es w → length (w .trees) * n ≤ room
+  run-room-for over = omega (arith, zero-mul n)
+  run-room-for limited = omega (arith, zero-mul n)
+  run-room-for (a-try r) = run-room-for r
+  run-room-for (a-tree {w = w} l r) = let h = run-room-for r in omega (arith, suc-mul (length (w .trees)) n)
+  run-room-for (full l) = omega (arith, zero-mul n)
+
+  -- "the first tree without room, whose try is counted"
+  pub run-counted : {limit room : ℕ} {es : List Event} {w : Walked} → Run n limit room es w → w .ended ≡ NoRoom → w .tries ≡ tries-to (length (w .trees)) es
+  unfolding tries-to
+  run-counted over e = absurd (differ Complete NoRoom (λ z. omega arith) e)
+  run-counted limited e = absurd (differ AtLimit NoRoom (λ z. omega arith) e)
+  run-counted (a-try r) e = ap suc (run-counted r e)
+  run-counted (a-tree l r) e = run-counted r e
+  run-counted (full l) e = refl

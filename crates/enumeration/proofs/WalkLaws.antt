@@ -15,7 +15,7 @@ use Rattle.enumeration.specs.Events.{events, tries}
 use Rattle.enumeration.specs.Walk.{walked, joined}
 use Rattle.enumeration.proofs.EventLaws.{sized-events-from}
 use Rattle.enumeration.proofs.ListedLaws.{listed-all, tries-counted}
-use Rattle.enumeration.proofs.RunLaws.{Run, run, run-complete, run-enough, run-first, run-limit, run-room, run-within, run-most, run-fit}
+use Rattle.enumeration.proofs.RunLaws.{Run, run, run-complete, run-enough, run-first, run-limit, run-room, run-within, run-most, run-room-for, tries-to, run-counted}
 use Rattle.enumeration.proofs.AheadLaws.{ahead-two, run-ahead}
 use Rattle.enumeration.proofs.JoinedLaws.{All-long, joined-length, joined-at, run-long}
 
@@ -28,6 +28,10 @@ module _ (s : Instance) (limit room : ℕ) where
   pub limit-due : walked s limit room .ended ≡ AtLimit → (walked s limit room .tries ≡ limit) × (limit < tries s)
   limit-due e = let h = run-limit its-run e in (h .0, omega (arith, h .1, tries-counted s))
 
+  -- NO ROOM, the tries
+  pub room-counted : walked s limit room .ended ≡ NoRoom → walked s limit room .tries ≡ tries-to (length (walked s limit room .trees)) (events s)
+  room-counted e = run-counted its-run e
+
   -- BOUNDS
   pub tries-within : walked s limit room .tries ≤ limit
   tries-within = run-within its-run
@@ -36,7 +40,7 @@ module _ (s : Instance) (limit room : ℕ) where
   tries-most = let h = run-most its-run in omega (arith, tries-counted s)
 
   pub trees-room : length (walked s limit room .trees) * s .n ≤ room
-  trees-room = run-fit its-run
+  trees-room = run-room-for its-run
 
   pub trees-tries : 2 ≤ s .n → length (walked s limit room .trees) ≤ walked s limit room .tries
   trees-tries l = let h = run-ahead (ahead-two s l) its-run in omega arith

@@ -63,7 +63,7 @@ cases =
     -- one try earlier the limit comes first
     case (q 16) 21 11 AtLimit (t₁ ∷ t₂ ∷ []) 21 ∷
     -- a total equal to the budget is listed; one above it is not, though it is the cheapest. "The budget cuts no walk
-    -- short", not even one that no arc fits
+    -- short", not even one that no arc is left
     case (q 15) 24 4 Complete (t₁ ∷ []) 24 ∷
     case (q 14) 24 0 Complete [] 24 ∷
     case (q 0) 24 0 Complete [] 24 ∷

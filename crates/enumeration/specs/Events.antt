@@ -15,21 +15,24 @@ pub data Event : Type 0 where
   tried : Event
   listed : (parents : List ℕ) → Event
 
+-- One tail t of vertex v, behind a prefix (02: beginning), which has the parents of the vertices below v: "one for each
+-- remaining link into the next position, for each ring-free beginning, whether or not the link closes a ring". It does
+-- where the path from t comes to v, as far as the prefix has parents; otherwise it goes on by what is next.
+abbrev pub one-tail : Instance → (v : ℕ) → (prefix : List ℕ) → (next : ℕ → List Event) → (t : ℕ) → List Event
+one-tail s v ps next t = cond (remaining s t v) (tried ∷ cond (reaches (s .n) v ps t) [] (next t)) []
+
 -- "The walk settles positions upwards: settling a position hands over to trying its feeders, each trial to the next
--- position." The prefix (02: beginning) has the parents of the vertices below v; left vertices have none yet. An arc is
--- tried "for each remaining link into the next position, for each ring-free beginning, whether or not the link closes a
--- ring": it does where the path from its tail comes to v, as far as the prefix has parents. The root takes no try,
--- wherever it stands. "The budget cuts no walk short": it judges whole lists alone, and it is the plain budget, not 02's
--- larger one of A2.
+-- position", with left vertices that have no parent yet. The root takes no try, wherever it stands. "The budget cuts no
+-- walk short": it judges whole lists alone, and it is the plain budget, not 02's larger one of A2.
 unfoldable pub events-from : (left v : ℕ) → Instance → (prefix : List ℕ) → List Event
 events-from zero v s ps = cond (leb (total s ps) (s .budget)) (listed ps ∷ []) []
 events-from (suc k) v s ps =
     let next : ℕ → List Event = λ p. events-from k (suc v) s (ps ++ (p ∷ [])) in
-    cond (eqb v (s .root)) (next no-parent) (join-below (s .n) (λ t. cond (remaining s t v) (tried ∷ cond (reaches (s .n) v ps t) [] (next t)) []))
+    cond (eqb v (s .root)) (next no-parent) (join-below (s .n) (one-tail s v ps next))
 
--- of it, the part of one tail t of vertex v
+-- the part of one tail, with left vertices behind v
 abbrev pub tail-events : (left v : ℕ) → Instance → (prefix : List ℕ) → (t : ℕ) → List Event
-tail-events k v s ps t = cond (remaining s t v) (tried ∷ cond (reaches (s .n) v ps t) [] (events-from k (suc v) s (ps ++ (t ∷ [])))) []
+tail-events k v s ps = one-tail s v ps (λ p. events-from k (suc v) s (ps ++ (p ∷ [])))
 
 unfoldable pub events : Instance → List Event
 events s = events-from (s .n) 0 s []

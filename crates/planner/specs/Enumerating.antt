@@ -26,8 +26,8 @@ walked-on b limit out = walked (instance-of b) limit (length out)
 abbrev pub listed-as : Walked → Listing
 listed-as w = Listed (w .ended) (length (w .trees)) (w .tries)
 
--- "Answers: 15, then 26 for a try limit of 0 or above 1,000,000; a short buffer only ends the walk." The trees stand one
--- after the other in front, and "Later bytes keep their contents."
+-- "Answers: 15, then 26 for a try limit of 0 or above 1,000,000; a short buffer only ends the walk." The trees stand
+-- one after the other in front, and "Later bytes keep their contents."
 pub record Lists (b : Board) (limit : ℕ) (out out′ : List ℕ) (r : Listing) : Type 0 where
   pub result :
       r ≡ cond (valid (model-of b)) (cond (limit-refused limit) (Refused bad-try-limit) (listed-as (walked-on b limit out))) (Refused invalid-board)

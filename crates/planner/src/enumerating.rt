@@ -3,9 +3,9 @@
 ghost use mathlib.Core.Path.{_≡_};
 ghost use Rattle.enumeration.specs.Walk.{limit-refused};
 ghost use Rattle.planner.specs.Enumerating.{Lists};
+use crate::Listing;
 use backtracking::list_trees;
 use board::Board;
-use crate::Listing;
 use instance::limits::MAX_TRIES;
 use instance::refusals::BAD_TRY_LIMIT;
 use instance::refusals::INVALID_BOARD;

@@ -1,10 +1,9 @@
 -- The walk is made on the matrix of what remains, and its events are those of the instance. Assumes nothing.
 use mathlib.Core.Path.{_≡_, refl, sym, ap, _∙_, subst}
-use mathlib.Core.Bool.{true}
 use mathlib.Core.List.{List, []}
 use Prim.Native.Nat.{ℕ, _-_}
 use native.Mathlib.Omega.{arith}
-use lib.ListN.{replicate, length-replicate}
+use lib.ListN.{replicate}
 use borrow.Author.Needs.{needs}
 use Rattle.instance.specs.Limits.{no-parent}
 use Rattle.instance.specs.Instance.{Instance, instance-with}
@@ -15,7 +14,7 @@ use Rattle.enumeration.specs.declared.Ended.the-variants.{Complete}
 use Rattle.enumeration.proofs.EventLaws.{sized-events-from}
 use Rattle.enumeration.proofs.SameEvents.{matrix-events}
 use Rattle.enumeration.proofs.WalkLaws.{tries-within}
-use Rattle.backtracking.specs.Listing.{place, place-of, scan, Settling}
+use Rattle.backtracking.specs.Listing.{place, scan, Settling}
 use Rattle.backtracking.proofs.SettlingLaws.{first-settling}
 use Rattle.backtracking.proofs.BufferLaws.{lists-trees}
 use Rattle.backtracking.proofs.list_trees.Statement.{statement}

@@ -1,5 +1,5 @@
 -- A tree is stored behind the others, or there is no room and the buffer is as it was. Assumes nothing.
-use mathlib.Core.Path.{_≡_, sym, ap, _∙_}
+use mathlib.Core.Path.{sym, ap, _∙_}
 use mathlib.Core.List.{List}
 use Prim.Native.Nat.{ℕ, _+_}
 use native.Mathlib.Nat.{mul-le-mul-left}

@@ -1,5 +1,6 @@
--- The walk's two functions end by a pair, vertices left and then tails left, and each does what the events of its vertex
--- or its tail say. One law for each way through them (StepLaws); what is asked is kept by SettlingLaws. Assumes nothing.
+-- The walk's two functions end by a pair, vertices left and then tails left, and each does what the events of its
+-- vertex or its tail say. One law for each way through them (StepLaws); what is asked is kept by SettlingLaws. Assumes
+-- nothing.
 use mathlib.Core.Path.{_≡_, refl, sym, ap, _∙_, subst}
 use mathlib.Core.List.{List, [], _∷_}
 use mathlib.Core.WellFounded.{WellFounded, Prod·Lex, Prod·Lex·left, Prod·Lex·right, Prod·lexAccessible}
@@ -31,8 +32,8 @@ use Rattle.backtracking.proofs.walk.+settle+try_tail.{statement}
 use Rattle.backtracking.proofs.walk.+settle+try_tail.Proof.PairTie.{close}
 mod PairTie
 
--- THE PAIR: vertices left, then tails left. Settling a vertex has all its tails before it; trying one has those from it
--- on.
+-- THE PAIR: vertices left, then tails left. Settling a vertex has one more than all its tails left, trying one those
+-- from it on.
 abbrev Pair : Type 0
 Pair = ℕ × ℕ
 

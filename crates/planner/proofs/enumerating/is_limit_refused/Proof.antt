@@ -1,5 +1,4 @@
 -- A limit is refused by its two tests. Assumes nothing.
-use mathlib.Core.Bool.{true}
 use borrow.Author.Tests.{eq-eqb, ne-eqb}
 use Rattle.enumeration.specs.Walk.{limit-refused}
 use Rattle.planner.proofs.enumerating.is_limit_refused.Statement.{statement}
