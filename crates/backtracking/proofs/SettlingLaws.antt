@@ -99,6 +99,15 @@ module _ (m ps : List ℕ) (n root v sum : ℕ) (g : Settling m ps n root v sum)
       sum-eq n (term (take v ps)) (term ps) (λ u l. ap (λ (q : ℕ). cond (eqb u root) 0 (getD m (cell q u) no-arc)) (getD-take v ps u no-parent (omega arith)))
       ∙ ap (λ (k : ℕ). sum-below k (term ps)) (sym e) ∙ sym (g .summed)
 
+-- the last tail is tried: the sum with it is the total
+pub last-sum : (m ps : List ℕ) (n root v sum : ℕ) (g : Settling m ps n root v sum) (t b : ℕ) → t < n → v < n → v ≢ root → v + 1 ≡ n
+    → total (matrix-instance n root b m) (take v ps ++ (t ∷ [])) ≡ sum + getD m (cell t v) 0
+last-sum m ps n root v sum g t b k h d e =
+    let small = g .matrix-ok .small in
+    let places = g .places in
+    ap (total (matrix-instance n root b m)) (sym (prefix-more ps v t (omega arith)))
+    ∙ whole-sum m (set ps v t) n root (v + 1) (sum + getD m (cell t v) 0) (tail-settled m ps n root v sum g t k h d) b e
+
 -- THE FIRST VERTEX, on the matrix of what remains of an instance: an arc joins two different vertices
 pub first-settling : (s : Instance) → Matrix-ok (s .n) (s .root) (matrix s) → Settling (matrix s) (replicate max-vertices no-parent) (s .n) (s .root) 0 0
 unfolding sum-below

@@ -134,3 +134,8 @@ module _ (v t : ℕ) (s : Instance) (ps : List ℕ) where
         rw (arc, r)
         (scan-cons (s .n) tried rest (place left trees e out) ∙ ap (scan (s .n) rest) (step-try (s .n) left trees e out on z)
         ∙ ap (λ (u : ℕ). scan (s .n) (events-from (s .n - (v + 1)) u s (ps ++ (t ∷ []))) at) (sym (add-one v)))
+
+    -- all are settled, and over the budget
+    pub over-met : left ≢ 0 → reaches (s .n) v ps t ≡ false → v + 1 ≡ s .n → s .budget < total s (ps ++ (t ∷ []))
+        → scan (s .n) tail (place left trees e out) ≡ place (left - 1) trees Complete out
+    over-met z r l b = goes-on z r ∙ leaf-over (v + 1) s (ps ++ (t ∷ [])) (place (left - 1) trees Complete out) l b

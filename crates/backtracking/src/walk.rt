@@ -2,9 +2,10 @@
 // vertex. Vertices left and then tails left fall as a pair, so the walk ends, and no more than twice as many calls are
 // open as there are vertices.
 ghost use mathlib.Core.Path.{_≡_};
-ghost use mathlib.Core.Bool.{true};
+ghost use mathlib.Core.Bool.{true, _&&_};
 ghost use mathlib.Core.Logic.{_≢_};
 ghost use Prim.Native.Nat.{_+_, _-_, _≤_, _<_};
+ghost use lib.Dec.{eqb, ltb};
 ghost use lib.ListN.{take};
 ghost use Rattle.instance.specs.Limits.{max-tries};
 ghost use Rattle.instance.specs.Matrix.{matrix-instance};
@@ -27,6 +28,16 @@ fn goes_on(ended: Ended) -> bool
         Ended::AtLimit => false,
         Ended::NoRoom => false,
     }
+}
+
+// Whether all vertices are settled, and the tree is over the budget.
+fn is_over(n: u32, budget: u32, v: u32, sum: u32) -> bool
+    ensures { λ r. ⌜ r ≡ eqb v n && ltb budget sum ⌝ }
+{
+    if v == n {
+        return budget < sum;
+    }
+    false
 }
 
 // Settles vertex v and those after it, in every way.
@@ -105,7 +116,11 @@ fn try_tail(
     if closes_cycle(&parents, n, v, t) {
         return tried;
     }
+    let after = sum + weight;
+    if is_over(n, budget, v + 1, after) {
+        return tried;
+    }
     let mut next = parents;
     next[v as usize] = t as u8;
-    settle(m, next, n, root, budget, v + 1, sum + weight, tried, out)
+    settle(m, next, n, root, budget, v + 1, after, tried, out)
 }

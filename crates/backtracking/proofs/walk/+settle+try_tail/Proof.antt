@@ -1,24 +1,27 @@
--- The walk's two functions end by a pair, vertices left and then tails left, and each does what the events of its
--- vertex or its tail say. One law for each way through them (StepLaws); what is asked is kept by SettlingLaws. Assumes
--- nothing.
+-- The walk's two functions end by a pair, vertices left and then tails left, and each does what the events of its vertex
+-- or its tail say. One law for each way through them (StepLaws); what is asked is kept by SettlingLaws. Assumes nothing.
 use mathlib.Core.Path.{_≡_, refl, sym, ap, _∙_, subst}
+use mathlib.Core.Bool.{true, _&&_}
 use mathlib.Core.List.{List, [], _∷_}
 use mathlib.Core.WellFounded.{WellFounded, Prod·Lex, Prod·Lex·left, Prod·Lex·right, Prod·lexAccessible}
 use Prim.Native.Nat.{ℕ, _+_, _-_, _≤_, _<_}
 use native.Mathlib.Omega.{arith}
-use lib.ListN.{length, take}
+use lib.Dec.{eqb, ltb}
+use lib.ListN.{length, getD, take}
 use borrow.Author.Needs.{needs}
-use borrow.Author.Tests.{not-true, not-false}
+use borrow.Author.Tests.{not-true, not-false, eqb-true, ltb-true}
 use borrow.Fn.Kinds.{In}
 use borrow.Fn.PlainCycle.{Measures, is, falls, and, less-wf}
 use Rattle.base.specs.Lists.{join-below}
+use Rattle.base.proofs.BoolLaws.{and-left, and-right}
 use Rattle.instance.specs.Limits.{max-tries, no-parent}
+use Rattle.instance.specs.Instance.{cell}
 use Rattle.instance.specs.Matrix.{matrix-instance}
 use Rattle.enumeration.specs.Events.{listed, events-from, tail-events}
 use Rattle.enumeration.specs.declared.Ended.the-variants.{Complete}
 use Rattle.backtracking.specs.Listing.{place, place-of, scan}
-use Rattle.backtracking.proofs.StepLaws.{scan-ended, leaf-over, leaf-in, at-root, by-tails, no-tails, one-tail, no-arc-there, limit-met, cycle-met, goes-on}
-use Rattle.backtracking.proofs.SettlingLaws.{prefix-more, sum-small, weight-most, arc-missing, arc-there, tail-settled, root-settled, whole-sum}
+use Rattle.backtracking.proofs.StepLaws.{scan-ended, leaf-over, leaf-in, at-root, by-tails, no-tails, one-tail, no-arc-there, limit-met, cycle-met, goes-on, over-met}
+use Rattle.backtracking.proofs.SettlingLaws.{prefix-more, sum-small, weight-most, arc-missing, arc-there, tail-settled, root-settled, whole-sum, last-sum}
 use Rattle.backtracking.proofs.walk.settle.Reads as settle
 use Rattle.backtracking.proofs.walk.settle.Kinds as settle-kinds
 use Rattle.backtracking.proofs.walk.+settle+try_tail.Lts-settle as settle-lts
@@ -28,6 +31,7 @@ use Rattle.backtracking.proofs.walk.+settle+try_tail.Lts-try_tail as tr
 use Rattle.backtracking.proofs.cycle.closes_cycle.Reads as closes-cycle-reads
 use Rattle.backtracking.proofs.store.store_tree.Reads as store-tree-reads
 use Rattle.backtracking.proofs.walk.goes_on.Reads as goes-on-reads
+use Rattle.backtracking.proofs.walk.is_over.Reads as is-over-reads
 use Rattle.backtracking.proofs.walk.+settle+try_tail.{statement}
 use Rattle.backtracking.proofs.walk.+settle+try_tail.Proof.PairTie.{close}
 mod PairTie
@@ -188,10 +192,10 @@ settle-returns-4 t c =
     }
 
 -- TRYING A TAIL
-try-tail-goes-on-requires : (t : Pair) → try-tail-lts.Need-goes-on-requires (goes-on-reads.Asked, goes-on-reads.Learnt, closes-cycle-reads.Asked, closes-cycle-reads.Learnt, settle-below t, settle.Post) (try-tail-at t) try-tail.Post
+try-tail-goes-on-requires : (t : Pair) → try-tail-lts.Need-goes-on-requires (goes-on-reads.Asked, goes-on-reads.Learnt, closes-cycle-reads.Asked, closes-cycle-reads.Learnt, is-over-reads.Asked, is-over-reads.Learnt, settle-below t, settle.Post) (try-tail-at t) try-tail.Post
 try-tail-goes-on-requires t c κs = search needs
 
-try-tail-returns : (t : Pair) → try-tail-lts.Need-returns (goes-on-reads.Asked, goes-on-reads.Learnt, closes-cycle-reads.Asked, closes-cycle-reads.Learnt, settle-below t, settle.Post) (try-tail-at t) try-tail.Post
+try-tail-returns : (t : Pair) → try-tail-lts.Need-returns (goes-on-reads.Asked, goes-on-reads.Learnt, closes-cycle-reads.Asked, closes-cycle-reads.Learnt, is-over-reads.Asked, is-over-reads.Learnt, settle-below t, settle.Post) (try-tail-at t) try-tail.Post
 try-tail-returns t c =
     let a = c .before .before .before .args in
     let f = c .before .goes-on in
@@ -201,22 +205,22 @@ try-tail-returns t c =
       counted = omega arith;
     }
 
-try-tail-mul-weight : (t : Pair) → try-tail-lts.Need-mul-weight (goes-on-reads.Asked, goes-on-reads.Learnt, closes-cycle-reads.Asked, closes-cycle-reads.Learnt, settle-below t, settle.Post) (try-tail-at t) try-tail.Post
+try-tail-mul-weight : (t : Pair) → try-tail-lts.Need-mul-weight (goes-on-reads.Asked, goes-on-reads.Learnt, closes-cycle-reads.Asked, closes-cycle-reads.Learnt, is-over-reads.Asked, is-over-reads.Learnt, settle-below t, settle.Post) (try-tail-at t) try-tail.Post
 try-tail-mul-weight t c = omega (arith, c .before .before .before .pre .1 .0 .matrix-ok .small, c .before .before .before .pre .1 .0 .matrix-ok .size)
 
-try-tail-add-weight : (t : Pair) → try-tail-lts.Need-add-weight (goes-on-reads.Asked, goes-on-reads.Learnt, closes-cycle-reads.Asked, closes-cycle-reads.Learnt, settle-below t, settle.Post) (try-tail-at t) try-tail.Post
+try-tail-add-weight : (t : Pair) → try-tail-lts.Need-add-weight (goes-on-reads.Asked, goes-on-reads.Learnt, closes-cycle-reads.Asked, closes-cycle-reads.Learnt, is-over-reads.Asked, is-over-reads.Learnt, settle-below t, settle.Post) (try-tail-at t) try-tail.Post
 try-tail-add-weight t c = omega (arith, c .before .before .before .pre .1 .0 .matrix-ok .small, c .before .before .before .pre .1 .0 .matrix-ok .size)
 
-try-tail-cast-weight : (t : Pair) → try-tail-lts.Need-cast-weight (goes-on-reads.Asked, goes-on-reads.Learnt, closes-cycle-reads.Asked, closes-cycle-reads.Learnt, settle-below t, settle.Post) (try-tail-at t) try-tail.Post
+try-tail-cast-weight : (t : Pair) → try-tail-lts.Need-cast-weight (goes-on-reads.Asked, goes-on-reads.Learnt, closes-cycle-reads.Asked, closes-cycle-reads.Learnt, is-over-reads.Asked, is-over-reads.Learnt, settle-below t, settle.Post) (try-tail-at t) try-tail.Post
 try-tail-cast-weight t c = omega (arith, c .before .before .before .pre .1 .0 .matrix-ok .small, c .before .before .before .pre .1 .0 .matrix-ok .size)
 
-try-tail-mul-weight-2 : (t : Pair) → try-tail-lts.Need-mul-weight-2 (goes-on-reads.Asked, goes-on-reads.Learnt, closes-cycle-reads.Asked, closes-cycle-reads.Learnt, settle-below t, settle.Post) (try-tail-at t) try-tail.Post
+try-tail-mul-weight-2 : (t : Pair) → try-tail-lts.Need-mul-weight-2 (goes-on-reads.Asked, goes-on-reads.Learnt, closes-cycle-reads.Asked, closes-cycle-reads.Learnt, is-over-reads.Asked, is-over-reads.Learnt, settle-below t, settle.Post) (try-tail-at t) try-tail.Post
 try-tail-mul-weight-2 t c = omega (arith, c .before .before .before .pre .1 .0 .matrix-ok .small, c .before .before .before .pre .1 .0 .matrix-ok .size)
 
-try-tail-element-copy-out-weight : (t : Pair) → try-tail-lts.Need-element-copy-out-weight (goes-on-reads.Asked, goes-on-reads.Learnt, closes-cycle-reads.Asked, closes-cycle-reads.Learnt, settle-below t, settle.Post) (try-tail-at t) try-tail.Post
+try-tail-element-copy-out-weight : (t : Pair) → try-tail-lts.Need-element-copy-out-weight (goes-on-reads.Asked, goes-on-reads.Learnt, closes-cycle-reads.Asked, closes-cycle-reads.Learnt, is-over-reads.Asked, is-over-reads.Learnt, settle-below t, settle.Post) (try-tail-at t) try-tail.Post
 try-tail-element-copy-out-weight t c = omega (arith, c .before .before .before .pre .1 .0 .matrix-ok .small, c .before .before .before .pre .1 .0 .matrix-ok .size)
 
-try-tail-returns-2 : (t : Pair) → try-tail-lts.Need-returns-2 (goes-on-reads.Asked, goes-on-reads.Learnt, closes-cycle-reads.Asked, closes-cycle-reads.Learnt, settle-below t, settle.Post) (try-tail-at t) try-tail.Post
+try-tail-returns-2 : (t : Pair) → try-tail-lts.Need-returns-2 (goes-on-reads.Asked, goes-on-reads.Learnt, closes-cycle-reads.Asked, closes-cycle-reads.Learnt, is-over-reads.Asked, is-over-reads.Learnt, settle-below t, settle.Post) (try-tail-at t) try-tail.Post
 try-tail-returns-2 t c =
     let a = c .before .before .before .before .before .args in
     let g = c .before .before .before .before .before .pre .1 .0 in
@@ -228,7 +232,7 @@ try-tail-returns-2 t c =
       counted = omega arith;
     }
 
-try-tail-returns-3 : (t : Pair) → try-tail-lts.Need-returns-3 (goes-on-reads.Asked, goes-on-reads.Learnt, closes-cycle-reads.Asked, closes-cycle-reads.Learnt, settle-below t, settle.Post) (try-tail-at t) try-tail.Post
+try-tail-returns-3 : (t : Pair) → try-tail-lts.Need-returns-3 (goes-on-reads.Asked, goes-on-reads.Learnt, closes-cycle-reads.Asked, closes-cycle-reads.Learnt, is-over-reads.Asked, is-over-reads.Learnt, settle-below t, settle.Post) (try-tail-at t) try-tail.Post
 try-tail-returns-3 t c =
     let a = c .before .before .before .before .before .before .args in
     let g = c .before .before .before .before .before .before .pre .1 .0 in
@@ -241,13 +245,13 @@ try-tail-returns-3 t c =
       counted = omega arith;
     }
 
-try-tail-sub-t26 : (t : Pair) → try-tail-lts.Need-sub-t26 (goes-on-reads.Asked, goes-on-reads.Learnt, closes-cycle-reads.Asked, closes-cycle-reads.Learnt, settle-below t, settle.Post) (try-tail-at t) try-tail.Post
-try-tail-sub-t26 t c = omega (arith, c .if3 .left)
+try-tail-sub-t27 : (t : Pair) → try-tail-lts.Need-sub-t27 (goes-on-reads.Asked, goes-on-reads.Learnt, closes-cycle-reads.Asked, closes-cycle-reads.Learnt, is-over-reads.Asked, is-over-reads.Learnt, settle-below t, settle.Post) (try-tail-at t) try-tail.Post
+try-tail-sub-t27 t c = omega (arith, c .if3 .left)
 
-try-tail-closes-cycle-requires : (t : Pair) → try-tail-lts.Need-closes-cycle-requires (goes-on-reads.Asked, goes-on-reads.Learnt, closes-cycle-reads.Asked, closes-cycle-reads.Learnt, settle-below t, settle.Post) (try-tail-at t) try-tail.Post
+try-tail-closes-cycle-requires : (t : Pair) → try-tail-lts.Need-closes-cycle-requires (goes-on-reads.Asked, goes-on-reads.Learnt, closes-cycle-reads.Asked, closes-cycle-reads.Learnt, is-over-reads.Asked, is-over-reads.Learnt, settle-below t, settle.Post) (try-tail-at t) try-tail.Post
 try-tail-closes-cycle-requires t c κs = (search needs, c .before .before .before .before .before .before .before .pre .1 .0 .matrix-ok .small, c .before .before .before .before .before .before .before .pre .1 .1)
 
-try-tail-returns-4 : (t : Pair) → try-tail-lts.Need-returns-4 (goes-on-reads.Asked, goes-on-reads.Learnt, closes-cycle-reads.Asked, closes-cycle-reads.Learnt, settle-below t, settle.Post) (try-tail-at t) try-tail.Post
+try-tail-returns-4 : (t : Pair) → try-tail-lts.Need-returns-4 (goes-on-reads.Asked, goes-on-reads.Learnt, closes-cycle-reads.Asked, closes-cycle-reads.Learnt, is-over-reads.Asked, is-over-reads.Learnt, settle-below t, settle.Post) (try-tail-at t) try-tail.Post
 try-tail-returns-4 t c =
     let a = c .before .before .before .before .before .before .before .before .before .args in
     let g = c .before .before .before .before .before .before .before .before .before .pre .1 .0 in
@@ -261,17 +265,8 @@ try-tail-returns-4 t c =
       counted = omega arith;
     }
 
-try-tail-cast-next : (t : Pair) → try-tail-lts.Need-cast-next (goes-on-reads.Asked, goes-on-reads.Learnt, closes-cycle-reads.Asked, closes-cycle-reads.Learnt, settle-below t, settle.Post) (try-tail-at t) try-tail.Post
-try-tail-cast-next t c = omega (arith, c .before .before .before .before .before .before .before .before .before .pre .1 .0 .matrix-ok .small)
-
-try-tail-array-write-next : (t : Pair) → try-tail-lts.Need-array-write-next (goes-on-reads.Asked, goes-on-reads.Learnt, closes-cycle-reads.Asked, closes-cycle-reads.Learnt, settle-below t, settle.Post) (try-tail-at t) try-tail.Post
-try-tail-array-write-next t c = omega (arith, c .before .before .before .before .before .before .before .before .before .pre .1 .0 .matrix-ok .small)
-
-try-tail-add-settle : (t : Pair) → try-tail-lts.Need-add-settle (goes-on-reads.Asked, goes-on-reads.Learnt, closes-cycle-reads.Asked, closes-cycle-reads.Learnt, settle-below t, settle.Post) (try-tail-at t) try-tail.Post
-try-tail-add-settle t c = omega (arith, c .before .before .before .before .before .before .before .before .before .pre .1 .0 .matrix-ok .small)
-
-try-tail-add-settle-2 : (t : Pair) → try-tail-lts.Need-add-settle-2 (goes-on-reads.Asked, goes-on-reads.Learnt, closes-cycle-reads.Asked, closes-cycle-reads.Learnt, settle-below t, settle.Post) (try-tail-at t) try-tail.Post
-try-tail-add-settle-2 t c =
+try-tail-add-after : (t : Pair) → try-tail-lts.Need-add-after (goes-on-reads.Asked, goes-on-reads.Learnt, closes-cycle-reads.Asked, closes-cycle-reads.Learnt, is-over-reads.Asked, is-over-reads.Learnt, settle-below t, settle.Post) (try-tail-at t) try-tail.Post
+try-tail-add-after t c =
     let a = c .before .before .before .before .before .before .before .before .before .args in
     let g = c .before .before .before .before .before .before .before .before .before .pre .1 .0 in
     let h : a .v < a .n = c .before .before .before .before .before .before .before .before .before .pre .1 .1 in
@@ -279,34 +274,67 @@ try-tail-add-settle-2 t c =
     let k : a .t < a .n = c .before .before .before .before .before .before .before .before .before .pre .1 .3 in
     omega (arith, sum-small (a .m .now) (a .t2) (a .n) (a .root) (a .v) (a .sum) g, weight-most (a .m .now) (a .t2) (a .n) (a .root) (a .v) (a .sum) g (a .t) k h, g .matrix-ok .small)
 
-try-tail-settle-requires : (t : Pair) → try-tail-lts.Need-settle-requires (goes-on-reads.Asked, goes-on-reads.Learnt, closes-cycle-reads.Asked, closes-cycle-reads.Learnt, settle-below t, settle.Post) (try-tail-at t) try-tail.Post
+try-tail-add-is-over : (t : Pair) → try-tail-lts.Need-add-is-over (goes-on-reads.Asked, goes-on-reads.Learnt, closes-cycle-reads.Asked, closes-cycle-reads.Learnt, is-over-reads.Asked, is-over-reads.Learnt, settle-below t, settle.Post) (try-tail-at t) try-tail.Post
+try-tail-add-is-over t c = omega (arith, c .before .before .before .before .before .before .before .before .before .pre .1 .0 .matrix-ok .small)
+
+try-tail-is-over-requires : (t : Pair) → try-tail-lts.Need-is-over-requires (goes-on-reads.Asked, goes-on-reads.Learnt, closes-cycle-reads.Asked, closes-cycle-reads.Learnt, is-over-reads.Asked, is-over-reads.Learnt, settle-below t, settle.Post) (try-tail-at t) try-tail.Post
+try-tail-is-over-requires t c κs = search needs
+
+try-tail-returns-5 : (t : Pair) → try-tail-lts.Need-returns-5 (goes-on-reads.Asked, goes-on-reads.Learnt, closes-cycle-reads.Asked, closes-cycle-reads.Learnt, is-over-reads.Asked, is-over-reads.Learnt, settle-below t, settle.Post) (try-tail-at t) try-tail.Post
+try-tail-returns-5 t c =
+    let a = c .before .before .before .before .before .before .before .before .before .before .before .args in
+    let g = c .before .before .before .before .before .before .before .before .before .before .before .pre .1 .0 in
+    let h : a .v < a .n = c .before .before .before .before .before .before .before .before .before .before .before .pre .1 .1 in
+    let d = c .before .before .before .before .before .before .before .before .before .before .before .pre .1 .2 in
+    let k : a .t < a .n = c .before .before .before .before .before .before .before .before .before .before .before .pre .1 .3 in
+    let f = c .before .is-over in
+    let q : eqb (a .v + 1) (a .n) && ltb (a .budget) (a .sum + getD (a .m .now) (cell (a .t) (a .v)) 0) ≡ true = sym (f .ensures) ∙ c .if5 .taken in
+    let last : a .v + 1 ≡ a .n = eqb-true (a .v + 1) (a .n) (and-left (eqb (a .v + 1) (a .n)) _ q) in
+    record {
+      scanned = sym (over-met (a .v) (a .t) (matrix-instance (a .n) (a .root) (a .budget) (a .m .now)) (take (a .v) (a .t2)) (a .progress .left) (a .progress .trees) (a .progress .ended) (a .out .now)
+          (arc-there (a .m .now) (a .t2) (a .n) (a .root) (a .v) (a .sum) g (a .t) k h (a .budget) d (c .before .before .before .before .before .before .if2 .left)) (sym (c .before .before .before .before .before .before .before .before .before .goes-on .ensures) ∙ not-false (c .before .before .before .before .before .before .before .before .before .goes-on .result) (c .before .before .before .before .before .before .before .before .if1 .left)) (c .before .before .before .before .before .if3 .left)
+          (sym (c .before .before .before .closes-cycle .ensures) ∙ c .before .before .if4 .left) last
+          (omega (arith, last-sum (a .m .now) (a .t2) (a .n) (a .root) (a .v) (a .sum) g (a .t) (a .budget) k h d last, ltb-true (a .budget) (a .sum + getD (a .m .now) (cell (a .t) (a .v)) 0) (and-right (eqb (a .v + 1) (a .n)) _ q))));
+      counted = omega arith;
+    }
+
+try-tail-cast-next : (t : Pair) → try-tail-lts.Need-cast-next (goes-on-reads.Asked, goes-on-reads.Learnt, closes-cycle-reads.Asked, closes-cycle-reads.Learnt, is-over-reads.Asked, is-over-reads.Learnt, settle-below t, settle.Post) (try-tail-at t) try-tail.Post
+try-tail-cast-next t c = omega (arith, c .before .before .before .before .before .before .before .before .before .before .before .pre .1 .0 .matrix-ok .small)
+
+try-tail-array-write-next : (t : Pair) → try-tail-lts.Need-array-write-next (goes-on-reads.Asked, goes-on-reads.Learnt, closes-cycle-reads.Asked, closes-cycle-reads.Learnt, is-over-reads.Asked, is-over-reads.Learnt, settle-below t, settle.Post) (try-tail-at t) try-tail.Post
+try-tail-array-write-next t c = omega (arith, c .before .before .before .before .before .before .before .before .before .before .before .pre .1 .0 .matrix-ok .small)
+
+try-tail-add-settle : (t : Pair) → try-tail-lts.Need-add-settle (goes-on-reads.Asked, goes-on-reads.Learnt, closes-cycle-reads.Asked, closes-cycle-reads.Learnt, is-over-reads.Asked, is-over-reads.Learnt, settle-below t, settle.Post) (try-tail-at t) try-tail.Post
+try-tail-add-settle t c = omega (arith, c .before .before .before .before .before .before .before .before .before .before .before .pre .1 .0 .matrix-ok .small)
+
+try-tail-settle-requires : (t : Pair) → try-tail-lts.Need-settle-requires (goes-on-reads.Asked, goes-on-reads.Learnt, closes-cycle-reads.Asked, closes-cycle-reads.Learnt, is-over-reads.Asked, is-over-reads.Learnt, settle-below t, settle.Post) (try-tail-at t) try-tail.Post
 try-tail-settle-requires t c κs =
-    let a = c .before .before .before .before .before .before .before .before .before .before .args in
-    let g = c .before .before .before .before .before .before .before .before .before .before .pre .1 .0 in
-    let h : a .v < a .n = c .before .before .before .before .before .before .before .before .before .before .pre .1 .1 in
-    let d = c .before .before .before .before .before .before .before .before .before .before .pre .1 .2 in
-    let k : a .t < a .n = c .before .before .before .before .before .before .before .before .before .before .pre .1 .3 in (
-      subst (falls-as-pair (a .n - (a .v + 1), a .n + 1)) (c .before .before .before .before .before .before .before .before .before .before .pre .0) (Prod·Lex·left _ _ (omega arith)),
-      (tail-settled (a .m .now) (a .t2) (a .n) (a .root) (a .v) (a .sum) g (a .t) k h d, refl, omega (arith, c .before .before .before .before .if3 .left)),
+    let a = c .before .before .before .before .before .before .before .before .before .before .before .before .args in
+    let g = c .before .before .before .before .before .before .before .before .before .before .before .before .pre .1 .0 in
+    let h : a .v < a .n = c .before .before .before .before .before .before .before .before .before .before .before .before .pre .1 .1 in
+    let d = c .before .before .before .before .before .before .before .before .before .before .before .before .pre .1 .2 in
+    let k : a .t < a .n = c .before .before .before .before .before .before .before .before .before .before .before .before .pre .1 .3 in (
+      subst (falls-as-pair (a .n - (a .v + 1), a .n + 1)) (c .before .before .before .before .before .before .before .before .before .before .before .before .pre .0) (Prod·Lex·left _ _ (omega arith)),
+      (tail-settled (a .m .now) (a .t2) (a .n) (a .root) (a .v) (a .sum) g (a .t) k h d, refl, omega (arith, c .before .before .before .before .before .before .if3 .left)),
     )
 
-try-tail-same-length : (t : Pair) → try-tail-lts.Need-same-length (goes-on-reads.Asked, goes-on-reads.Learnt, closes-cycle-reads.Asked, closes-cycle-reads.Learnt, settle-below t, settle.Post) (try-tail-at t) try-tail.Post
+try-tail-same-length : (t : Pair) → try-tail-lts.Need-same-length (goes-on-reads.Asked, goes-on-reads.Learnt, closes-cycle-reads.Asked, closes-cycle-reads.Learnt, is-over-reads.Asked, is-over-reads.Learnt, settle-below t, settle.Post) (try-tail-at t) try-tail.Post
 try-tail-same-length t c = search needs
 
-try-tail-returns-5 : (t : Pair) → try-tail-lts.Need-returns-5 (goes-on-reads.Asked, goes-on-reads.Learnt, closes-cycle-reads.Asked, closes-cycle-reads.Learnt, settle-below t, settle.Post) (try-tail-at t) try-tail.Post
-try-tail-returns-5 t c =
-    let a = c .before .before .before .before .before .before .before .before .before .before .before .before .before .args in
-    let g = c .before .before .before .before .before .before .before .before .before .before .before .before .before .pre .1 .0 in
-    let h : a .v < a .n = c .before .before .before .before .before .before .before .before .before .before .before .before .before .pre .1 .1 in
-    let d = c .before .before .before .before .before .before .before .before .before .before .before .before .before .pre .1 .2 in
-    let k : a .t < a .n = c .before .before .before .before .before .before .before .before .before .before .before .before .before .pre .1 .3 in
+try-tail-returns-6 : (t : Pair) → try-tail-lts.Need-returns-6 (goes-on-reads.Asked, goes-on-reads.Learnt, closes-cycle-reads.Asked, closes-cycle-reads.Learnt, is-over-reads.Asked, is-over-reads.Learnt, settle-below t, settle.Post) (try-tail-at t) try-tail.Post
+try-tail-returns-6 t c =
+    let a = c .before .before .before .before .before .before .before .before .before .before .before .before .before .before .before .args in
+    let g = c .before .before .before .before .before .before .before .before .before .before .before .before .before .before .before .pre .1 .0 in
+    let h : a .v < a .n = c .before .before .before .before .before .before .before .before .before .before .before .before .before .before .before .pre .1 .1 in
+    let d = c .before .before .before .before .before .before .before .before .before .before .before .before .before .before .before .pre .1 .2 in
+    let k : a .t < a .n = c .before .before .before .before .before .before .before .before .before .before .before .before .before .before .before .pre .1 .3 in
     record {
       scanned = c .before .before .settle .ensures .scanned
           ∙ ap (λ (ps : List ℕ). scan (a .n) (events-from (a .n - (a .v + 1)) (a .v + 1) (matrix-instance (a .n) (a .root) (a .budget) (a .m .now)) ps) (place (a .progress .left - 1) (a .progress .trees) Complete (a .out .now)))
           (prefix-more (a .t2) (a .v) (a .t) (omega (arith, g .places, g .matrix-ok .small)))
           ∙ sym (goes-on (a .v) (a .t) (matrix-instance (a .n) (a .root) (a .budget) (a .m .now)) (take (a .v) (a .t2)) (a .progress .left) (a .progress .trees) (a .progress .ended) (a .out .now)
-          (arc-there (a .m .now) (a .t2) (a .n) (a .root) (a .v) (a .sum) g (a .t) k h (a .budget) d (c .before .before .before .before .before .before .before .before .if2 .left)) (sym (c .before .before .before .before .before .before .before .before .before .before .before .goes-on .ensures) ∙ not-false (c .before .before .before .before .before .before .before .before .before .before .before .goes-on .result) (c .before .before .before .before .before .before .before .before .before .before .if1 .left)) (c .before .before .before .before .before .before .before .if3 .left)
-          (sym (c .before .before .before .before .before .closes-cycle .ensures) ∙ c .before .before .before .before .if4 .left));
+          (arc-there (a .m .now) (a .t2) (a .n) (a .root) (a .v) (a .sum) g (a .t) k h (a .budget) d (c .before .before .before .before .before .before .before .before .before .before .if2 .left)) (sym (c .before .before .before .before .before .before .before .before .before .before .before .before .before .goes-on .ensures) ∙ not-false (c .before .before .before .before .before .before .before .before .before .before .before .before .before .goes-on .result) (c .before .before .before .before .before .before .before .before .before .before .before .before .if1 .left)) (c .before .before .before .before .before .before .before .before .before .if3 .left)
+          (sym (c .before .before .before .before .before .before .before .closes-cycle .ensures) ∙ c .before .before .before .before .before .before .if4 .left));
       counted = c .before .before .settle .ensures .counted;
     }
 
@@ -330,7 +358,7 @@ pub +settle+try-tail-spec : {M : Type 1} → statement M
     (settle-loop-again t)
     (settle-same-length-3 t)
     (settle-returns-4 t))
-    (λ t. try-tail-lts.spec (goes-on-reads.Asked, goes-on-reads.Learnt, closes-cycle-reads.Asked, closes-cycle-reads.Learnt, settle-below t, settle.Post) (try-tail-at t) try-tail.Post
+    (λ t. try-tail-lts.spec (goes-on-reads.Asked, goes-on-reads.Learnt, closes-cycle-reads.Asked, closes-cycle-reads.Learnt, is-over-reads.Asked, is-over-reads.Learnt, settle-below t, settle.Post) (try-tail-at t) try-tail.Post
     (try-tail-goes-on-requires t)
     (try-tail-returns t)
     (try-tail-mul-weight t)
@@ -340,13 +368,16 @@ pub +settle+try-tail-spec : {M : Type 1} → statement M
     (try-tail-element-copy-out-weight t)
     (try-tail-returns-2 t)
     (try-tail-returns-3 t)
-    (try-tail-sub-t26 t)
+    (try-tail-sub-t27 t)
     (try-tail-closes-cycle-requires t)
     (try-tail-returns-4 t)
+    (try-tail-add-after t)
+    (try-tail-add-is-over t)
+    (try-tail-is-over-requires t)
+    (try-tail-returns-5 t)
     (try-tail-cast-next t)
     (try-tail-array-write-next t)
     (try-tail-add-settle t)
-    (try-tail-add-settle-2 t)
     (try-tail-settle-requires t)
     (try-tail-same-length t)
-    (try-tail-returns-5 t))
+    (try-tail-returns-6 t))
