@@ -2,12 +2,13 @@
 // vertex. Vertices left and then tails left fall as a pair, so the walk ends, and no more than twice as many calls are
 // open as there are vertices.
 ghost use mathlib.Core.Path.{_≡_};
-ghost use mathlib.Core.Bool.{true, _&&_};
+ghost use mathlib.Core.Bool.{true, _&&_, _||_};
 ghost use mathlib.Core.Logic.{_≢_};
 ghost use Prim.Native.Nat.{_+_, _-_, _≤_, _<_};
 ghost use lib.Dec.{eqb, ltb};
-ghost use lib.ListN.{take};
-ghost use Rattle.instance.specs.Limits.{max-tries};
+ghost use lib.ListN.{length, take};
+ghost use Rattle.instance.specs.Limits.{max-vertices, max-tries};
+ghost use Rattle.instance.specs.Arborescence.{reaches};
 ghost use Rattle.instance.specs.Matrix.{matrix-instance};
 ghost use Rattle.enumeration.specs.Events.{events-from, tail-events};
 ghost use Rattle.backtracking.specs.Listing.{is-complete, Settling, Walks};
@@ -30,11 +31,16 @@ fn goes_on(ended: Ended) -> bool
     }
 }
 
-// Whether all vertices are settled, and the tree is over the budget.
-fn is_over(n: u32, budget: u32, v: u32, sum: u32) -> bool
-    ensures { λ r. ⌜ r ≡ eqb v n && ltb budget sum ⌝ }
+// Whether nothing comes after the arc from t into v: it closes a cycle, or all vertices are settled and the sum with it
+// is over the budget.
+fn ends_there(parents: &[u8; VERTICES], n: u32, budget: u32, v: u32, t: u32, sum: u32) -> bool
+    requires { ⌜ (length (now parents) ≡ max-vertices) × (n ≤ max-vertices) × (v < n) ⌝ }
+    ensures { λ r. ⌜ r ≡ reaches n v (take v (now (parents .entry))) t || (eqb (v + 1) n && ltb budget sum) ⌝ }
 {
-    if v == n {
+    if closes_cycle(parents, n, v, t) {
+        return true;
+    }
+    if v + 1 == n {
         return budget < sum;
     }
     false
@@ -69,7 +75,7 @@ pub fn settle(
     let mut p = progress;
     let mut t: u32 = 0;
     while t < n {
-        p = try_tail(m, parents, n, root, budget, v, t, sum, p, out);
+        p = try_tail(m, &parents, n, root, budget, v, t, sum, p, out);
         t += 1;
     }
     p
@@ -78,7 +84,7 @@ pub fn settle(
 // Tries the arc from t into vertex v: counts the try, and goes on to the next vertex where no cycle is closed.
 fn try_tail(
     m: &[u32; CELLS],
-    parents: [u8; VERTICES],
+    parents: &[u8; VERTICES],
     n: u32,
     root: u32,
     budget: u32,
@@ -88,8 +94,8 @@ fn try_tail(
     progress: Progress,
     out: &mut [u8],
 ) -> Progress
-    requires { ⌜ Settling (now m) parents n root v sum × (v < n) × (v ≢ root) × (t < n) × (progress .trees + progress .left ≤ max-tries + 1) ⌝ }
-    ensures { λ r. ⌜ Walks n (tail-events (n - (v + 1)) v (matrix-instance n root budget (now (m .entry))) (take v parents) t) progress (now (out .entry)) (now (out .exit)) r ⌝ }
+    requires { ⌜ Settling (now m) (now parents) n root v sum × (v < n) × (v ≢ root) × (t < n) × (progress .trees + progress .left ≤ max-tries + 1) ⌝ }
+    ensures { λ r. ⌜ Walks n (tail-events (n - (v + 1)) v (matrix-instance n root budget (now (m .entry))) (take v (now (parents .entry))) t) progress (now (out .entry)) (now (out .exit)) r ⌝ }
 {
     let left = progress.left;
     let trees = progress.trees;
@@ -108,19 +114,20 @@ fn try_tail(
             ended: Ended::AtLimit,
         };
     }
+    let after = sum + weight;
+    if ends_there(parents, n, budget, v, t, after) {
+        return Progress {
+            left: left - 1,
+            trees,
+            ended: Ended::Complete,
+        };
+    }
+    let mut next = *parents;
+    next[v as usize] = t as u8;
     let tried = Progress {
         left: left - 1,
         trees,
         ended: Ended::Complete,
     };
-    if closes_cycle(&parents, n, v, t) {
-        return tried;
-    }
-    let after = sum + weight;
-    if is_over(n, budget, v + 1, after) {
-        return tried;
-    }
-    let mut next = parents;
-    next[v as usize] = t as u8;
     settle(m, next, n, root, budget, v + 1, after, tried, out)
 }

@@ -79,3 +79,18 @@ pub fn front(s: &[u8], length: u32) -> &[u8] {
     }
     s
 }
+
+// One byte put at a place, if the buffer has it.
+fn put_byte(out: &mut [u8], k: u32, value: u8) {
+    let at = k as usize;
+    if at < out.len() {
+        out[at] = value;
+    }
+}
+
+// The first so many bytes of a slice, put into a buffer from a place on.
+pub fn put_bytes(out: &mut [u8], from: u32, s: &[u8], count: u32) {
+    for k in 0..count {
+        put_byte(out, plus(from, k), narrow(byte(s, k)));
+    }
+}

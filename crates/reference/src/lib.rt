@@ -23,4 +23,5 @@ pub mod script; // script.rt: lines of a program's standard input
 pub mod shown; // shown.rt: the documents' conditions on a shown tree and cuts
 pub mod tally; // tally.rt: what a program counts and prints
 pub mod trees; // trees.rt: all trees of a small instance
+pub mod walk; // walk.rt: the walk that lists all plans, with its limit and its room
 pub mod worked; // worked.rt: document 01's worked instances

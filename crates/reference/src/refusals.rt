@@ -39,6 +39,9 @@ pub const OVERCHARGED: u32 = 24; // a link overcharged
 
 pub const WRONG_AMOUNTS: u32 = 25; // amounts not adding up
 
+// Of a listing of all plans (02, A7).
+pub const BAD_TRY_LIMIT: u32 = 26; // a try limit of 0 or above 1,000,000
+
 // Of a card with records (02, A8).
 pub const BAD_RECORDS: u32 = 27; // a count above 200, kind 3, a record naming a non-link or a value out of range
 

@@ -1,8 +1,12 @@
-// All trees of an instance of at most six vertices, by listing every choice of a parent for each vertex.
+// All trees of an instance of at most six vertices, by listing every choice of a parent for each vertex; and by the
+// same choices all tries that document 02, A7, counts.
 ghost use Prim.Native.Nat.{_<_};
+use crate::access::byte;
 use crate::access::narrow;
 use crate::access::of_byte;
 use crate::access::plus;
+use crate::access::put_bytes;
+use crate::access::times;
 use crate::problem::ABSENT;
 use crate::problem::CELLS;
 use crate::shown;
@@ -48,14 +52,16 @@ fn choices(n: u32) -> u32 {
     }
 }
 
-// The choice of a number: its digits to base n, one for each vertex but the root. 255 at every other vertex.
+// The choice of a number: its digits to base n, one for each vertex but the root. 255 at every other vertex. The last
+// vertex has the last digit, so the choices of ascending numbers ascend when compared vertex by vertex.
 fn choice(number: u32, n: u32, root: u32) -> [u8; PARENTS] {
     let mut parents = [255; PARENTS];
     let mut rest = number;
     if n == 0 {
         return parents;
     }
-    for v in 0..STRIDE {
+    for k in 0..STRIDE {
+        let v = STRIDE - 1 - k;
         if v < n {
             if v != root {
                 parents[v as usize] = narrow(rest % n);
@@ -101,4 +107,58 @@ pub fn list(table: &[u32; CELLS], n: u32, root: u32) -> Listing {
         }
     }
     l
+}
+
+// The trees of such an instance "within .. budget .. in ascending order of the feeder list, compared position by
+// position" (02, A7), put into a buffer one after the other, and how many there are.
+pub fn put_within(table: &[u32; CELLS], n: u32, root: u32, budget: u32, out: &mut [u8]) -> u32 {
+    let mut trees = 0;
+    let count = choices(n);
+    for number in 0..count {
+        let parents = choice(number, n, root);
+        let total = shown::tree_total(table, &parents, n, root);
+        let listed = if total <= budget && shown::tree_spans(&parents, n, root) {
+            1
+        } else {
+            0
+        };
+        put_bytes(out, times(n, trees), &parents, times(n, listed));
+        trees = plus(trees, listed);
+    }
+    trees
+}
+
+// Whether a choice stands for a try at a vertex: the arcs into it and into all before it remain, and those before it
+// close no ring, which is so where they make a tree with arcs from the root to all others, whether or not those remain.
+// Of the choices that are alike up to the vertex one counts, that with the root after it.
+fn is_try(table: &[u32; CELLS], choice: [u8; PARENTS], n: u32, root: u32, vertex: u32) -> bool {
+    for v in plus(vertex, 1)..n {
+        if v != root && byte(&choice, v) != root {
+            return false;
+        }
+    }
+    if shown::tree_total(table, &choice, plus(vertex, 1), root) == ABSENT {
+        return false;
+    }
+    let mut before = choice;
+    before[(vertex % STRIDE) as usize] = narrow(root);
+    shown::tree_spans(&before, n, root)
+}
+
+// "The number of tries ..: one for each remaining link into the next position, for each ring-free beginning, whether or
+// not the link closes a ring." (02, A7)
+pub fn all_tries(table: &[u32; CELLS], n: u32, root: u32) -> u32 {
+    let mut tries = 0;
+    if n == 0 {
+        return 0;
+    }
+    for k in 0..times(n, choices(n)) {
+        let vertex = k % n;
+        if vertex != root {
+            if is_try(table, choice(k / n, n, root), n, root, vertex) {
+                tries = plus(tries, 1);
+            }
+        }
+    }
+    tries
 }

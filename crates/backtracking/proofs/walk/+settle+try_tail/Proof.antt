@@ -1,8 +1,9 @@
 -- The walk's two functions end by a pair, vertices left and then tails left, and each does what the events of its vertex
 -- or its tail say. One law for each way through them (StepLaws); what is asked is kept by SettlingLaws. Assumes nothing.
 use mathlib.Core.Path.{_≡_, refl, sym, ap, _∙_, subst}
-use mathlib.Core.Bool.{true, _&&_}
+use mathlib.Core.Bool.{Bool, true, false, _&&_, _||_}
 use mathlib.Core.List.{List, [], _∷_}
+use mathlib.Core.Logic.{⊎-elim}
 use mathlib.Core.WellFounded.{WellFounded, Prod·Lex, Prod·Lex·left, Prod·Lex·right, Prod·lexAccessible}
 use Prim.Native.Nat.{ℕ, _+_, _-_, _≤_, _<_}
 use native.Mathlib.Omega.{arith}
@@ -13,9 +14,10 @@ use borrow.Author.Tests.{not-true, not-false, eqb-true, ltb-true}
 use borrow.Fn.Kinds.{In}
 use borrow.Fn.PlainCycle.{Measures, is, falls, and, less-wf}
 use Rattle.base.specs.Lists.{join-below}
-use Rattle.base.proofs.BoolLaws.{and-left, and-right}
+use Rattle.base.proofs.BoolLaws.{test, and-left, and-right, or-false-left}
 use Rattle.instance.specs.Limits.{max-tries, no-parent}
 use Rattle.instance.specs.Instance.{cell}
+use Rattle.instance.specs.Arborescence.{reaches}
 use Rattle.instance.specs.Matrix.{matrix-instance}
 use Rattle.enumeration.specs.Events.{listed, events-from, tail-events}
 use Rattle.enumeration.specs.declared.Ended.the-variants.{Complete}
@@ -28,10 +30,9 @@ use Rattle.backtracking.proofs.walk.+settle+try_tail.Lts-settle as sett
 use Rattle.backtracking.proofs.walk.try_tail.Reads as try-tail
 use Rattle.backtracking.proofs.walk.try_tail.Kinds as try-tail-kinds
 use Rattle.backtracking.proofs.walk.+settle+try_tail.Lts-try_tail as try-tail-lts
-use Rattle.backtracking.proofs.cycle.closes_cycle.Reads as closes-cycle-reads
+use Rattle.backtracking.proofs.walk.ends_there.Reads as ends-there-reads
 use Rattle.backtracking.proofs.store.store_tree.Reads as store-tree-reads
 use Rattle.backtracking.proofs.walk.goes_on.Reads as goes-on-reads
-use Rattle.backtracking.proofs.walk.is_over.Reads as is-over-reads
 use Rattle.backtracking.proofs.walk.+settle+try_tail.{statement}
 use Rattle.backtracking.proofs.walk.+settle+try_tail.Proof.PairTie.{close}
 mod PairTie
@@ -50,7 +51,7 @@ pair-wf = record { apply = λ p. Prod·lexAccessible (less-wf .apply (p .0)) (le
 abbrev μ-settle : Measures 2 settle-kinds.ps Pair
 μ-settle κs a = (a .1 .1 .0 - a .1 .1 .1 .1 .1 .0, a .1 .1 .0 + 1)
 
-abbrev μ-try-tail : Measures 2 try-tail-kinds.ps Pair
+abbrev μ-try-tail : Measures 3 try-tail-kinds.ps Pair
 μ-try-tail κs a = (a .1 .1 .0 - a .1 .1 .1 .1 .1 .0, a .1 .1 .0 - a .1 .1 .1 .1 .1 .1 .0)
 
 abbrev settle-at : Pair → In 2 settle-kinds.ps
@@ -59,11 +60,11 @@ settle-at t = and 2 settle-kinds.ps (is 2 settle-kinds.ps μ-settle t) settle.Pr
 abbrev settle-below : Pair → In 2 settle-kinds.ps
 settle-below t = and 2 settle-kinds.ps (falls 2 settle-kinds.ps falls-as-pair μ-settle t) settle.Pre
 
-abbrev try-tail-at : Pair → In 2 try-tail-kinds.ps
-try-tail-at t = and 2 try-tail-kinds.ps (is 2 try-tail-kinds.ps μ-try-tail t) try-tail.Pre
+abbrev try-tail-at : Pair → In 3 try-tail-kinds.ps
+try-tail-at t = and 3 try-tail-kinds.ps (is 3 try-tail-kinds.ps μ-try-tail t) try-tail.Pre
 
-abbrev try-tail-below : Pair → In 2 try-tail-kinds.ps
-try-tail-below t = and 2 try-tail-kinds.ps (falls 2 try-tail-kinds.ps falls-as-pair μ-try-tail t) try-tail.Pre
+abbrev try-tail-below : Pair → In 3 try-tail-kinds.ps
+try-tail-below t = and 3 try-tail-kinds.ps (falls 3 try-tail-kinds.ps falls-as-pair μ-try-tail t) try-tail.Pre
 
 -- SETTLING A VERTEX: the loop has done what the events of the tails below t say
 abbrev settle-Inv-loop : settle-lts.InvT-loop
@@ -146,25 +147,25 @@ settle-loop-holds t c =
 
 settle-try-tail-requires : (t : Pair) → settle-lts.Need-try-tail-requires (store-tree-reads.Asked, store-tree-reads.Learnt, settle-below t, settle.Post, try-tail-below t, try-tail.Post) (settle-at t) settle.Post settle-Inv-loop settle-μ-loop
 settle-try-tail-requires t c κs =
-    let a = c .before .before .before .before .before .before .args in
-    let g = c .before .before .before .before .before .before .pre .1 .0 in
-    let l = c .before .before .loop in
-    let h : a .v < a .n = omega (arith, g .up-to, c .before .before .before .before .if1 .left) in (
-      subst (falls-as-pair (a .n - a .v, a .n - l .t)) (c .before .before .before .before .before .before .pre .0) (Prod·Lex·right _ (omega arith)),
-      (g, h, c .before .before .before .if3 .left, omega arith, l .inv .2),
+    let a = c .before .before .before .before .before .before .before .args in
+    let g = c .before .before .before .before .before .before .before .pre .1 .0 in
+    let l = c .before .before .before .loop in
+    let h : a .v < a .n = omega (arith, g .up-to, c .before .before .before .before .before .if1 .left) in (
+      subst (falls-as-pair (a .n - a .v, a .n - l .t)) (c .before .before .before .before .before .before .before .pre .0) (Prod·Lex·right _ (omega arith)),
+      (g, h, c .before .before .before .before .if3 .left, omega arith, l .inv .2),
     )
 
 settle-add-t : (t : Pair) → settle-lts.Need-add-t (store-tree-reads.Asked, store-tree-reads.Learnt, settle-below t, settle.Post, try-tail-below t, try-tail.Post) (settle-at t) settle.Post settle-Inv-loop settle-μ-loop
-settle-add-t t c = omega (arith, c .before .before .before .before .before .before .before .before .before .pre .1 .0 .matrix-ok .small)
+settle-add-t t c = omega (arith, c .before .before .before .before .before .before .before .before .before .before .pre .1 .0 .matrix-ok .small)
 
 settle-loop-less : (t : Pair) → settle-lts.Need-loop-less (store-tree-reads.Asked, store-tree-reads.Learnt, settle-below t, settle.Post, try-tail-below t, try-tail.Post) (settle-at t) settle.Post settle-Inv-loop settle-μ-loop
 settle-loop-less t c = omega arith
 
 settle-loop-again : (t : Pair) → settle-lts.Need-loop-again (store-tree-reads.Asked, store-tree-reads.Learnt, settle-below t, settle.Post, try-tail-below t, try-tail.Post) (settle-at t) settle.Post settle-Inv-loop settle-μ-loop
 settle-loop-again t c =
-    let a = c .before .before .before .before .before .before .before .before .before .args in
-    let g = c .before .before .before .before .before .before .before .before .before .pre .1 .0 in
-    let l = c .before .before .before .before .before .loop in
+    let a = c .before .before .before .before .before .before .before .before .before .before .args in
+    let g = c .before .before .before .before .before .before .before .before .before .before .pre .1 .0 in
+    let l = c .before .before .before .before .before .before .loop in
     let f = c .before .before .try-tail in (
       omega arith,
       f .kept .1 .1 .1 .1 .1 .1 .1 .1 .1 .0 ∙ l .inv .1,
@@ -192,35 +193,35 @@ settle-returns-4 t c =
     }
 
 -- TRYING A TAIL
-try-tail-goes-on-requires : (t : Pair) → try-tail-lts.Need-goes-on-requires (goes-on-reads.Asked, goes-on-reads.Learnt, closes-cycle-reads.Asked, closes-cycle-reads.Learnt, is-over-reads.Asked, is-over-reads.Learnt, settle-below t, settle.Post) (try-tail-at t) try-tail.Post
+try-tail-goes-on-requires : (t : Pair) → try-tail-lts.Need-goes-on-requires (goes-on-reads.Asked, goes-on-reads.Learnt, ends-there-reads.Asked, ends-there-reads.Learnt, settle-below t, settle.Post) (try-tail-at t) try-tail.Post
 try-tail-goes-on-requires t c κs = search needs
 
-try-tail-returns : (t : Pair) → try-tail-lts.Need-returns (goes-on-reads.Asked, goes-on-reads.Learnt, closes-cycle-reads.Asked, closes-cycle-reads.Learnt, is-over-reads.Asked, is-over-reads.Learnt, settle-below t, settle.Post) (try-tail-at t) try-tail.Post
+try-tail-returns : (t : Pair) → try-tail-lts.Need-returns (goes-on-reads.Asked, goes-on-reads.Learnt, ends-there-reads.Asked, ends-there-reads.Learnt, settle-below t, settle.Post) (try-tail-at t) try-tail.Post
 try-tail-returns t c =
     let a = c .before .before .before .args in
     let f = c .before .goes-on in
     record {
-      scanned = sym (scan-ended (a .n) (tail-events (a .n - (a .v + 1)) (a .v) (matrix-instance (a .n) (a .root) (a .budget) (a .m .now)) (take (a .v) (a .t2)) (a .t)) (place-of (a .progress) (a .out .now))
+      scanned = sym (scan-ended (a .n) (tail-events (a .n - (a .v + 1)) (a .v) (matrix-instance (a .n) (a .root) (a .budget) (a .m .now)) (take (a .v) (a .parents .now)) (a .t)) (place-of (a .progress) (a .out .now))
           (sym (f .ensures) ∙ not-true (f .result) (c .if1 .taken)));
       counted = omega arith;
     }
 
-try-tail-mul-weight : (t : Pair) → try-tail-lts.Need-mul-weight (goes-on-reads.Asked, goes-on-reads.Learnt, closes-cycle-reads.Asked, closes-cycle-reads.Learnt, is-over-reads.Asked, is-over-reads.Learnt, settle-below t, settle.Post) (try-tail-at t) try-tail.Post
+try-tail-mul-weight : (t : Pair) → try-tail-lts.Need-mul-weight (goes-on-reads.Asked, goes-on-reads.Learnt, ends-there-reads.Asked, ends-there-reads.Learnt, settle-below t, settle.Post) (try-tail-at t) try-tail.Post
 try-tail-mul-weight t c = omega (arith, c .before .before .before .pre .1 .0 .matrix-ok .small, c .before .before .before .pre .1 .0 .matrix-ok .size)
 
-try-tail-add-weight : (t : Pair) → try-tail-lts.Need-add-weight (goes-on-reads.Asked, goes-on-reads.Learnt, closes-cycle-reads.Asked, closes-cycle-reads.Learnt, is-over-reads.Asked, is-over-reads.Learnt, settle-below t, settle.Post) (try-tail-at t) try-tail.Post
+try-tail-add-weight : (t : Pair) → try-tail-lts.Need-add-weight (goes-on-reads.Asked, goes-on-reads.Learnt, ends-there-reads.Asked, ends-there-reads.Learnt, settle-below t, settle.Post) (try-tail-at t) try-tail.Post
 try-tail-add-weight t c = omega (arith, c .before .before .before .pre .1 .0 .matrix-ok .small, c .before .before .before .pre .1 .0 .matrix-ok .size)
 
-try-tail-cast-weight : (t : Pair) → try-tail-lts.Need-cast-weight (goes-on-reads.Asked, goes-on-reads.Learnt, closes-cycle-reads.Asked, closes-cycle-reads.Learnt, is-over-reads.Asked, is-over-reads.Learnt, settle-below t, settle.Post) (try-tail-at t) try-tail.Post
+try-tail-cast-weight : (t : Pair) → try-tail-lts.Need-cast-weight (goes-on-reads.Asked, goes-on-reads.Learnt, ends-there-reads.Asked, ends-there-reads.Learnt, settle-below t, settle.Post) (try-tail-at t) try-tail.Post
 try-tail-cast-weight t c = omega (arith, c .before .before .before .pre .1 .0 .matrix-ok .small, c .before .before .before .pre .1 .0 .matrix-ok .size)
 
-try-tail-mul-weight-2 : (t : Pair) → try-tail-lts.Need-mul-weight-2 (goes-on-reads.Asked, goes-on-reads.Learnt, closes-cycle-reads.Asked, closes-cycle-reads.Learnt, is-over-reads.Asked, is-over-reads.Learnt, settle-below t, settle.Post) (try-tail-at t) try-tail.Post
+try-tail-mul-weight-2 : (t : Pair) → try-tail-lts.Need-mul-weight-2 (goes-on-reads.Asked, goes-on-reads.Learnt, ends-there-reads.Asked, ends-there-reads.Learnt, settle-below t, settle.Post) (try-tail-at t) try-tail.Post
 try-tail-mul-weight-2 t c = omega (arith, c .before .before .before .pre .1 .0 .matrix-ok .small, c .before .before .before .pre .1 .0 .matrix-ok .size)
 
-try-tail-element-copy-out-weight : (t : Pair) → try-tail-lts.Need-element-copy-out-weight (goes-on-reads.Asked, goes-on-reads.Learnt, closes-cycle-reads.Asked, closes-cycle-reads.Learnt, is-over-reads.Asked, is-over-reads.Learnt, settle-below t, settle.Post) (try-tail-at t) try-tail.Post
+try-tail-element-copy-out-weight : (t : Pair) → try-tail-lts.Need-element-copy-out-weight (goes-on-reads.Asked, goes-on-reads.Learnt, ends-there-reads.Asked, ends-there-reads.Learnt, settle-below t, settle.Post) (try-tail-at t) try-tail.Post
 try-tail-element-copy-out-weight t c = omega (arith, c .before .before .before .pre .1 .0 .matrix-ok .small, c .before .before .before .pre .1 .0 .matrix-ok .size)
 
-try-tail-returns-2 : (t : Pair) → try-tail-lts.Need-returns-2 (goes-on-reads.Asked, goes-on-reads.Learnt, closes-cycle-reads.Asked, closes-cycle-reads.Learnt, is-over-reads.Asked, is-over-reads.Learnt, settle-below t, settle.Post) (try-tail-at t) try-tail.Post
+try-tail-returns-2 : (t : Pair) → try-tail-lts.Need-returns-2 (goes-on-reads.Asked, goes-on-reads.Learnt, ends-there-reads.Asked, ends-there-reads.Learnt, settle-below t, settle.Post) (try-tail-at t) try-tail.Post
 try-tail-returns-2 t c =
     let a = c .before .before .before .before .before .args in
     let g = c .before .before .before .before .before .pre .1 .0 in
@@ -228,11 +229,11 @@ try-tail-returns-2 t c =
     let d = c .before .before .before .before .before .pre .1 .2 in
     let k : a .t < a .n = c .before .before .before .before .before .pre .1 .3 in
     record {
-      scanned = sym (no-arc-there (a .v) (a .t) (matrix-instance (a .n) (a .root) (a .budget) (a .m .now)) (take (a .v) (a .t2)) (place-of (a .progress) (a .out .now)) (arc-missing (a .m .now) (a .t2) (a .n) (a .root) (a .v) (a .sum) g (a .t) k h (a .budget) (c .if2 .taken)));
+      scanned = sym (no-arc-there (a .v) (a .t) (matrix-instance (a .n) (a .root) (a .budget) (a .m .now)) (take (a .v) (a .parents .now)) (place-of (a .progress) (a .out .now)) (arc-missing (a .m .now) (a .parents .now) (a .n) (a .root) (a .v) (a .sum) g (a .t) k h (a .budget) (c .if2 .taken)));
       counted = omega arith;
     }
 
-try-tail-returns-3 : (t : Pair) → try-tail-lts.Need-returns-3 (goes-on-reads.Asked, goes-on-reads.Learnt, closes-cycle-reads.Asked, closes-cycle-reads.Learnt, is-over-reads.Asked, is-over-reads.Learnt, settle-below t, settle.Post) (try-tail-at t) try-tail.Post
+try-tail-returns-3 : (t : Pair) → try-tail-lts.Need-returns-3 (goes-on-reads.Asked, goes-on-reads.Learnt, ends-there-reads.Asked, ends-there-reads.Learnt, settle-below t, settle.Post) (try-tail-at t) try-tail.Post
 try-tail-returns-3 t c =
     let a = c .before .before .before .before .before .before .args in
     let g = c .before .before .before .before .before .before .pre .1 .0 in
@@ -240,101 +241,92 @@ try-tail-returns-3 t c =
     let d = c .before .before .before .before .before .before .pre .1 .2 in
     let k : a .t < a .n = c .before .before .before .before .before .before .pre .1 .3 in
     record {
-      scanned = sym (limit-met (a .v) (a .t) (matrix-instance (a .n) (a .root) (a .budget) (a .m .now)) (take (a .v) (a .t2)) (a .progress .left) (a .progress .trees) (a .progress .ended) (a .out .now)
-          (arc-there (a .m .now) (a .t2) (a .n) (a .root) (a .v) (a .sum) g (a .t) k h (a .budget) d (c .before .if2 .left)) (sym (c .before .before .before .before .goes-on .ensures) ∙ not-false (c .before .before .before .before .goes-on .result) (c .before .before .before .if1 .left)) (c .if3 .taken));
+      scanned = sym (limit-met (a .v) (a .t) (matrix-instance (a .n) (a .root) (a .budget) (a .m .now)) (take (a .v) (a .parents .now)) (a .progress .left) (a .progress .trees) (a .progress .ended) (a .out .now)
+          (arc-there (a .m .now) (a .parents .now) (a .n) (a .root) (a .v) (a .sum) g (a .t) k h (a .budget) d (c .before .if2 .left)) (sym (c .before .before .before .before .goes-on .ensures) ∙ not-false (c .before .before .before .before .goes-on .result) (c .before .before .before .if1 .left)) (c .if3 .taken));
       counted = omega arith;
     }
 
-try-tail-sub-t27 : (t : Pair) → try-tail-lts.Need-sub-t27 (goes-on-reads.Asked, goes-on-reads.Learnt, closes-cycle-reads.Asked, closes-cycle-reads.Learnt, is-over-reads.Asked, is-over-reads.Learnt, settle-below t, settle.Post) (try-tail-at t) try-tail.Post
-try-tail-sub-t27 t c = omega (arith, c .if3 .left)
-
-try-tail-closes-cycle-requires : (t : Pair) → try-tail-lts.Need-closes-cycle-requires (goes-on-reads.Asked, goes-on-reads.Learnt, closes-cycle-reads.Asked, closes-cycle-reads.Learnt, is-over-reads.Asked, is-over-reads.Learnt, settle-below t, settle.Post) (try-tail-at t) try-tail.Post
-try-tail-closes-cycle-requires t c κs = (search needs, c .before .before .before .before .before .before .before .pre .1 .0 .matrix-ok .small, c .before .before .before .before .before .before .before .pre .1 .1)
-
-try-tail-returns-4 : (t : Pair) → try-tail-lts.Need-returns-4 (goes-on-reads.Asked, goes-on-reads.Learnt, closes-cycle-reads.Asked, closes-cycle-reads.Learnt, is-over-reads.Asked, is-over-reads.Learnt, settle-below t, settle.Post) (try-tail-at t) try-tail.Post
-try-tail-returns-4 t c =
-    let a = c .before .before .before .before .before .before .before .before .before .args in
-    let g = c .before .before .before .before .before .before .before .before .before .pre .1 .0 in
-    let h : a .v < a .n = c .before .before .before .before .before .before .before .before .before .pre .1 .1 in
-    let d = c .before .before .before .before .before .before .before .before .before .pre .1 .2 in
-    let k : a .t < a .n = c .before .before .before .before .before .before .before .before .before .pre .1 .3 in
-    record {
-      scanned = sym (cycle-met (a .v) (a .t) (matrix-instance (a .n) (a .root) (a .budget) (a .m .now)) (take (a .v) (a .t2)) (a .progress .left) (a .progress .trees) (a .progress .ended) (a .out .now)
-          (arc-there (a .m .now) (a .t2) (a .n) (a .root) (a .v) (a .sum) g (a .t) k h (a .budget) d (c .before .before .before .before .if2 .left)) (sym (c .before .before .before .before .before .before .before .goes-on .ensures) ∙ not-false (c .before .before .before .before .before .before .before .goes-on .result) (c .before .before .before .before .before .before .if1 .left)) (c .before .before .before .if3 .left)
-          (sym (c .before .closes-cycle .ensures) ∙ c .if4 .taken));
-      counted = omega arith;
-    }
-
-try-tail-add-after : (t : Pair) → try-tail-lts.Need-add-after (goes-on-reads.Asked, goes-on-reads.Learnt, closes-cycle-reads.Asked, closes-cycle-reads.Learnt, is-over-reads.Asked, is-over-reads.Learnt, settle-below t, settle.Post) (try-tail-at t) try-tail.Post
+try-tail-add-after : (t : Pair) → try-tail-lts.Need-add-after (goes-on-reads.Asked, goes-on-reads.Learnt, ends-there-reads.Asked, ends-there-reads.Learnt, settle-below t, settle.Post) (try-tail-at t) try-tail.Post
 try-tail-add-after t c =
-    let a = c .before .before .before .before .before .before .before .before .before .args in
-    let g = c .before .before .before .before .before .before .before .before .before .pre .1 .0 in
-    let h : a .v < a .n = c .before .before .before .before .before .before .before .before .before .pre .1 .1 in
-    let d = c .before .before .before .before .before .before .before .before .before .pre .1 .2 in
-    let k : a .t < a .n = c .before .before .before .before .before .before .before .before .before .pre .1 .3 in
-    omega (arith, sum-small (a .m .now) (a .t2) (a .n) (a .root) (a .v) (a .sum) g, weight-most (a .m .now) (a .t2) (a .n) (a .root) (a .v) (a .sum) g (a .t) k h, g .matrix-ok .small)
+    let a = c .before .before .before .before .before .before .args in
+    let g = c .before .before .before .before .before .before .pre .1 .0 in
+    let h : a .v < a .n = c .before .before .before .before .before .before .pre .1 .1 in
+    let d = c .before .before .before .before .before .before .pre .1 .2 in
+    let k : a .t < a .n = c .before .before .before .before .before .before .pre .1 .3 in
+    omega (arith, sum-small (a .m .now) (a .parents .now) (a .n) (a .root) (a .v) (a .sum) g, weight-most (a .m .now) (a .parents .now) (a .n) (a .root) (a .v) (a .sum) g (a .t) k h, g .matrix-ok .small)
 
-try-tail-add-is-over : (t : Pair) → try-tail-lts.Need-add-is-over (goes-on-reads.Asked, goes-on-reads.Learnt, closes-cycle-reads.Asked, closes-cycle-reads.Learnt, is-over-reads.Asked, is-over-reads.Learnt, settle-below t, settle.Post) (try-tail-at t) try-tail.Post
-try-tail-add-is-over t c = omega (arith, c .before .before .before .before .before .before .before .before .before .pre .1 .0 .matrix-ok .small)
+try-tail-ends-there-requires : (t : Pair) → try-tail-lts.Need-ends-there-requires (goes-on-reads.Asked, goes-on-reads.Learnt, ends-there-reads.Asked, ends-there-reads.Learnt, settle-below t, settle.Post) (try-tail-at t) try-tail.Post
+try-tail-ends-there-requires t c κs = (c .before .before .before .before .before .before .pre .1 .0 .places, c .before .before .before .before .before .before .pre .1 .0 .matrix-ok .small, c .before .before .before .before .before .before .pre .1 .1)
 
-try-tail-is-over-requires : (t : Pair) → try-tail-lts.Need-is-over-requires (goes-on-reads.Asked, goes-on-reads.Learnt, closes-cycle-reads.Asked, closes-cycle-reads.Learnt, is-over-reads.Asked, is-over-reads.Learnt, settle-below t, settle.Post) (try-tail-at t) try-tail.Post
-try-tail-is-over-requires t c κs = search needs
+try-tail-sub-t29 : (t : Pair) → try-tail-lts.Need-sub-t29 (goes-on-reads.Asked, goes-on-reads.Learnt, ends-there-reads.Asked, ends-there-reads.Learnt, settle-below t, settle.Post) (try-tail-at t) try-tail.Post
+try-tail-sub-t29 t c = omega (arith, c .before .before .if3 .left)
 
-try-tail-returns-5 : (t : Pair) → try-tail-lts.Need-returns-5 (goes-on-reads.Asked, goes-on-reads.Learnt, closes-cycle-reads.Asked, closes-cycle-reads.Learnt, is-over-reads.Asked, is-over-reads.Learnt, settle-below t, settle.Post) (try-tail-at t) try-tail.Post
-try-tail-returns-5 t c =
-    let a = c .before .before .before .before .before .before .before .before .before .before .before .args in
-    let g = c .before .before .before .before .before .before .before .before .before .before .before .pre .1 .0 in
-    let h : a .v < a .n = c .before .before .before .before .before .before .before .before .before .before .before .pre .1 .1 in
-    let d = c .before .before .before .before .before .before .before .before .before .before .before .pre .1 .2 in
-    let k : a .t < a .n = c .before .before .before .before .before .before .before .before .before .before .before .pre .1 .3 in
-    let f = c .before .is-over in
-    let q : eqb (a .v + 1) (a .n) && ltb (a .budget) (a .sum + getD (a .m .now) (cell (a .t) (a .v)) 0) ≡ true = sym (f .ensures) ∙ c .if5 .taken in
-    let last : a .v + 1 ≡ a .n = eqb-true (a .v + 1) (a .n) (and-left (eqb (a .v + 1) (a .n)) _ q) in
+try-tail-returns-4 : (t : Pair) → try-tail-lts.Need-returns-4 (goes-on-reads.Asked, goes-on-reads.Learnt, ends-there-reads.Asked, ends-there-reads.Learnt, settle-below t, settle.Post) (try-tail-at t) try-tail.Post
+try-tail-returns-4 t c =
+    let a = c .before .before .before .before .before .before .before .before .args in
+    let g = c .before .before .before .before .before .before .before .before .pre .1 .0 in
+    let h : a .v < a .n = c .before .before .before .before .before .before .before .before .pre .1 .1 in
+    let d = c .before .before .before .before .before .before .before .before .pre .1 .2 in
+    let k : a .t < a .n = c .before .before .before .before .before .before .before .before .pre .1 .3 in
+    let cycle = reaches (a .n) (a .v) (take (a .v) (a .parents .now)) (a .t) in
+    let last = eqb (a .v + 1) (a .n) in
+    let after = a .sum + getD (a .m .now) (cell (a .t) (a .v)) 0 in
+    let over = ltb (a .budget) after in
+    let arc = arc-there (a .m .now) (a .parents .now) (a .n) (a .root) (a .v) (a .sum) g (a .t) k h (a .budget) d (c .before .before .before .if2 .left) in
+    let on = sym (c .before .before .before .before .before .before .goes-on .ensures) ∙ not-false (c .before .before .before .before .before .before .goes-on .result) (c .before .before .before .before .before .if1 .left) in
     record {
-      scanned = sym (over-met (a .v) (a .t) (matrix-instance (a .n) (a .root) (a .budget) (a .m .now)) (take (a .v) (a .t2)) (a .progress .left) (a .progress .trees) (a .progress .ended) (a .out .now)
-          (arc-there (a .m .now) (a .t2) (a .n) (a .root) (a .v) (a .sum) g (a .t) k h (a .budget) d (c .before .before .before .before .before .before .if2 .left)) (sym (c .before .before .before .before .before .before .before .before .before .goes-on .ensures) ∙ not-false (c .before .before .before .before .before .before .before .before .before .goes-on .result) (c .before .before .before .before .before .before .before .before .if1 .left)) (c .before .before .before .before .before .if3 .left)
-          (sym (c .before .before .before .closes-cycle .ensures) ∙ c .before .before .if4 .left) last
-          (omega (arith, last-sum (a .m .now) (a .t2) (a .n) (a .root) (a .v) (a .sum) g (a .t) (a .budget) k h d last, ltb-true (a .budget) (a .sum + getD (a .m .now) (cell (a .t) (a .v)) 0) (and-right (eqb (a .v + 1) (a .n)) _ q))));
+      scanned = sym (⊎-elim
+          (λ (q : cycle ≡ true). cycle-met (a .v) (a .t) (matrix-instance (a .n) (a .root) (a .budget) (a .m .now)) (take (a .v) (a .parents .now)) (a .progress .left) (a .progress .trees) (a .progress .ended) (a .out .now) arc on (c .before .before .if3 .left) q)
+          (λ (q : cycle ≡ false).
+          let r : last && over ≡ true = subst (λ (x : Bool). x || (last && over) ≡ true) q (sym (c .before .ends-there .ensures) ∙ c .if4 .taken) in
+          let e : a .v + 1 ≡ a .n = eqb-true (a .v + 1) (a .n) (and-left last over r) in
+          over-met (a .v) (a .t) (matrix-instance (a .n) (a .root) (a .budget) (a .m .now)) (take (a .v) (a .parents .now)) (a .progress .left) (a .progress .trees) (a .progress .ended) (a .out .now) arc on (c .before .before .if3 .left) q e
+          (omega (arith, last-sum (a .m .now) (a .parents .now) (a .n) (a .root) (a .v) (a .sum) g (a .t) (a .budget) k h d e, ltb-true (a .budget) after (and-right last over r))))
+          (test cycle));
       counted = omega arith;
     }
 
-try-tail-cast-next : (t : Pair) → try-tail-lts.Need-cast-next (goes-on-reads.Asked, goes-on-reads.Learnt, closes-cycle-reads.Asked, closes-cycle-reads.Learnt, is-over-reads.Asked, is-over-reads.Learnt, settle-below t, settle.Post) (try-tail-at t) try-tail.Post
-try-tail-cast-next t c = omega (arith, c .before .before .before .before .before .before .before .before .before .before .before .pre .1 .0 .matrix-ok .small)
+try-tail-cast-next : (t : Pair) → try-tail-lts.Need-cast-next (goes-on-reads.Asked, goes-on-reads.Learnt, ends-there-reads.Asked, ends-there-reads.Learnt, settle-below t, settle.Post) (try-tail-at t) try-tail.Post
+try-tail-cast-next t c = omega (arith, c .before .before .before .before .before .before .before .before .before .pre .1 .0 .matrix-ok .small)
 
-try-tail-array-write-next : (t : Pair) → try-tail-lts.Need-array-write-next (goes-on-reads.Asked, goes-on-reads.Learnt, closes-cycle-reads.Asked, closes-cycle-reads.Learnt, is-over-reads.Asked, is-over-reads.Learnt, settle-below t, settle.Post) (try-tail-at t) try-tail.Post
-try-tail-array-write-next t c = omega (arith, c .before .before .before .before .before .before .before .before .before .before .before .pre .1 .0 .matrix-ok .small)
+try-tail-array-write-next : (t : Pair) → try-tail-lts.Need-array-write-next (goes-on-reads.Asked, goes-on-reads.Learnt, ends-there-reads.Asked, ends-there-reads.Learnt, settle-below t, settle.Post) (try-tail-at t) try-tail.Post
+try-tail-array-write-next t c = omega (arith, c .before .before .before .before .before .before .before .before .before .pre .1 .0 .matrix-ok .small)
 
-try-tail-add-settle : (t : Pair) → try-tail-lts.Need-add-settle (goes-on-reads.Asked, goes-on-reads.Learnt, closes-cycle-reads.Asked, closes-cycle-reads.Learnt, is-over-reads.Asked, is-over-reads.Learnt, settle-below t, settle.Post) (try-tail-at t) try-tail.Post
-try-tail-add-settle t c = omega (arith, c .before .before .before .before .before .before .before .before .before .before .before .pre .1 .0 .matrix-ok .small)
+try-tail-sub-t26 : (t : Pair) → try-tail-lts.Need-sub-t26 (goes-on-reads.Asked, goes-on-reads.Learnt, ends-there-reads.Asked, ends-there-reads.Learnt, settle-below t, settle.Post) (try-tail-at t) try-tail.Post
+try-tail-sub-t26 t c = omega (arith, c .before .before .before .if3 .left)
 
-try-tail-settle-requires : (t : Pair) → try-tail-lts.Need-settle-requires (goes-on-reads.Asked, goes-on-reads.Learnt, closes-cycle-reads.Asked, closes-cycle-reads.Learnt, is-over-reads.Asked, is-over-reads.Learnt, settle-below t, settle.Post) (try-tail-at t) try-tail.Post
+try-tail-add-settle : (t : Pair) → try-tail-lts.Need-add-settle (goes-on-reads.Asked, goes-on-reads.Learnt, ends-there-reads.Asked, ends-there-reads.Learnt, settle-below t, settle.Post) (try-tail-at t) try-tail.Post
+try-tail-add-settle t c = omega (arith, c .before .before .before .before .before .before .before .before .before .pre .1 .0 .matrix-ok .small)
+
+try-tail-settle-requires : (t : Pair) → try-tail-lts.Need-settle-requires (goes-on-reads.Asked, goes-on-reads.Learnt, ends-there-reads.Asked, ends-there-reads.Learnt, settle-below t, settle.Post) (try-tail-at t) try-tail.Post
 try-tail-settle-requires t c κs =
-    let a = c .before .before .before .before .before .before .before .before .before .before .before .before .args in
-    let g = c .before .before .before .before .before .before .before .before .before .before .before .before .pre .1 .0 in
-    let h : a .v < a .n = c .before .before .before .before .before .before .before .before .before .before .before .before .pre .1 .1 in
-    let d = c .before .before .before .before .before .before .before .before .before .before .before .before .pre .1 .2 in
-    let k : a .t < a .n = c .before .before .before .before .before .before .before .before .before .before .before .before .pre .1 .3 in (
-      subst (falls-as-pair (a .n - (a .v + 1), a .n + 1)) (c .before .before .before .before .before .before .before .before .before .before .before .before .pre .0) (Prod·Lex·left _ _ (omega arith)),
-      (tail-settled (a .m .now) (a .t2) (a .n) (a .root) (a .v) (a .sum) g (a .t) k h d, refl, omega (arith, c .before .before .before .before .before .before .if3 .left)),
+    let a = c .before .before .before .before .before .before .before .before .before .before .args in
+    let g = c .before .before .before .before .before .before .before .before .before .before .pre .1 .0 in
+    let h : a .v < a .n = c .before .before .before .before .before .before .before .before .before .before .pre .1 .1 in
+    let d = c .before .before .before .before .before .before .before .before .before .before .pre .1 .2 in
+    let k : a .t < a .n = c .before .before .before .before .before .before .before .before .before .before .pre .1 .3 in (
+      subst (falls-as-pair (a .n - (a .v + 1), a .n + 1)) (c .before .before .before .before .before .before .before .before .before .before .pre .0) (Prod·Lex·left _ _ (omega arith)),
+      (tail-settled (a .m .now) (a .parents .now) (a .n) (a .root) (a .v) (a .sum) g (a .t) k h d, refl, omega (arith, c .before .before .before .before .if3 .left)),
     )
 
-try-tail-same-length : (t : Pair) → try-tail-lts.Need-same-length (goes-on-reads.Asked, goes-on-reads.Learnt, closes-cycle-reads.Asked, closes-cycle-reads.Learnt, is-over-reads.Asked, is-over-reads.Learnt, settle-below t, settle.Post) (try-tail-at t) try-tail.Post
+try-tail-same-length : (t : Pair) → try-tail-lts.Need-same-length (goes-on-reads.Asked, goes-on-reads.Learnt, ends-there-reads.Asked, ends-there-reads.Learnt, settle-below t, settle.Post) (try-tail-at t) try-tail.Post
 try-tail-same-length t c = search needs
 
-try-tail-returns-6 : (t : Pair) → try-tail-lts.Need-returns-6 (goes-on-reads.Asked, goes-on-reads.Learnt, closes-cycle-reads.Asked, closes-cycle-reads.Learnt, is-over-reads.Asked, is-over-reads.Learnt, settle-below t, settle.Post) (try-tail-at t) try-tail.Post
-try-tail-returns-6 t c =
-    let a = c .before .before .before .before .before .before .before .before .before .before .before .before .before .before .before .args in
-    let g = c .before .before .before .before .before .before .before .before .before .before .before .before .before .before .before .pre .1 .0 in
-    let h : a .v < a .n = c .before .before .before .before .before .before .before .before .before .before .before .before .before .before .before .pre .1 .1 in
-    let d = c .before .before .before .before .before .before .before .before .before .before .before .before .before .before .before .pre .1 .2 in
-    let k : a .t < a .n = c .before .before .before .before .before .before .before .before .before .before .before .before .before .before .before .pre .1 .3 in
+try-tail-returns-5 : (t : Pair) → try-tail-lts.Need-returns-5 (goes-on-reads.Asked, goes-on-reads.Learnt, ends-there-reads.Asked, ends-there-reads.Learnt, settle-below t, settle.Post) (try-tail-at t) try-tail.Post
+try-tail-returns-5 t c =
+    let a = c .before .before .before .before .before .before .before .before .before .before .before .before .before .args in
+    let g = c .before .before .before .before .before .before .before .before .before .before .before .before .before .pre .1 .0 in
+    let h : a .v < a .n = c .before .before .before .before .before .before .before .before .before .before .before .before .before .pre .1 .1 in
+    let d = c .before .before .before .before .before .before .before .before .before .before .before .before .before .pre .1 .2 in
+    let k : a .t < a .n = c .before .before .before .before .before .before .before .before .before .before .before .before .before .pre .1 .3 in
+    let cycle = reaches (a .n) (a .v) (take (a .v) (a .parents .now)) (a .t) in
     record {
       scanned = c .before .before .settle .ensures .scanned
           ∙ ap (λ (ps : List ℕ). scan (a .n) (events-from (a .n - (a .v + 1)) (a .v + 1) (matrix-instance (a .n) (a .root) (a .budget) (a .m .now)) ps) (place (a .progress .left - 1) (a .progress .trees) Complete (a .out .now)))
-          (prefix-more (a .t2) (a .v) (a .t) (omega (arith, g .places, g .matrix-ok .small)))
-          ∙ sym (goes-on (a .v) (a .t) (matrix-instance (a .n) (a .root) (a .budget) (a .m .now)) (take (a .v) (a .t2)) (a .progress .left) (a .progress .trees) (a .progress .ended) (a .out .now)
-          (arc-there (a .m .now) (a .t2) (a .n) (a .root) (a .v) (a .sum) g (a .t) k h (a .budget) d (c .before .before .before .before .before .before .before .before .before .before .if2 .left)) (sym (c .before .before .before .before .before .before .before .before .before .before .before .before .before .goes-on .ensures) ∙ not-false (c .before .before .before .before .before .before .before .before .before .before .before .before .before .goes-on .result) (c .before .before .before .before .before .before .before .before .before .before .before .before .if1 .left)) (c .before .before .before .before .before .before .before .before .before .if3 .left)
-          (sym (c .before .before .before .before .before .before .before .closes-cycle .ensures) ∙ c .before .before .before .before .before .before .if4 .left));
+          (prefix-more (a .parents .now) (a .v) (a .t) (omega (arith, g .places, g .matrix-ok .small)))
+          ∙ sym (goes-on (a .v) (a .t) (matrix-instance (a .n) (a .root) (a .budget) (a .m .now)) (take (a .v) (a .parents .now)) (a .progress .left) (a .progress .trees) (a .progress .ended) (a .out .now)
+          (arc-there (a .m .now) (a .parents .now) (a .n) (a .root) (a .v) (a .sum) g (a .t) k h (a .budget) d (c .before .before .before .before .before .before .before .before .if2 .left)) (sym (c .before .before .before .before .before .before .before .before .before .before .before .goes-on .ensures) ∙ not-false (c .before .before .before .before .before .before .before .before .before .before .before .goes-on .result) (c .before .before .before .before .before .before .before .before .before .before .if1 .left)) (c .before .before .before .before .before .before .before .if3 .left)
+          (or-false-left cycle (eqb (a .v + 1) (a .n) && ltb (a .budget) (a .sum + getD (a .m .now) (cell (a .t) (a .v)) 0)) (sym (c .before .before .before .before .before .before .ends-there .ensures) ∙ c .before .before .before .before .before .if4 .left)));
       counted = c .before .before .settle .ensures .counted;
     }
 
@@ -358,7 +350,7 @@ pub +settle+try-tail-spec : {M : Type 1} → statement M
     (settle-loop-again t)
     (settle-same-length-3 t)
     (settle-returns-4 t))
-    (λ t. try-tail-lts.spec (goes-on-reads.Asked, goes-on-reads.Learnt, closes-cycle-reads.Asked, closes-cycle-reads.Learnt, is-over-reads.Asked, is-over-reads.Learnt, settle-below t, settle.Post) (try-tail-at t) try-tail.Post
+    (λ t. try-tail-lts.spec (goes-on-reads.Asked, goes-on-reads.Learnt, ends-there-reads.Asked, ends-there-reads.Learnt, settle-below t, settle.Post) (try-tail-at t) try-tail.Post
     (try-tail-goes-on-requires t)
     (try-tail-returns t)
     (try-tail-mul-weight t)
@@ -368,16 +360,14 @@ pub +settle+try-tail-spec : {M : Type 1} → statement M
     (try-tail-element-copy-out-weight t)
     (try-tail-returns-2 t)
     (try-tail-returns-3 t)
-    (try-tail-sub-t27 t)
-    (try-tail-closes-cycle-requires t)
-    (try-tail-returns-4 t)
     (try-tail-add-after t)
-    (try-tail-add-is-over t)
-    (try-tail-is-over-requires t)
-    (try-tail-returns-5 t)
+    (try-tail-ends-there-requires t)
+    (try-tail-sub-t29 t)
+    (try-tail-returns-4 t)
     (try-tail-cast-next t)
     (try-tail-array-write-next t)
+    (try-tail-sub-t26 t)
     (try-tail-add-settle t)
     (try-tail-settle-requires t)
     (try-tail-same-length t)
-    (try-tail-returns-6 t))
+    (try-tail-returns-5 t))

@@ -5,10 +5,10 @@ use Rattle.reference.proofs.trees.choice.Statement.{statement}
 use Rattle.reference.proofs.trees.choice.Tie as tie
 
 abbrev Inv-loop : tie.InvT-loop
-Inv-loop number n root parents₀ rest₀ v₀ parents rest v = Unit
+Inv-loop number n root parents₀ rest₀ k₀ parents rest k = Unit
 
 abbrev μ-loop : tie.MeasureT-loop
-μ-loop number n root parents₀ rest₀ v₀ parents rest v = 8 - v
+μ-loop number n root parents₀ rest₀ k₀ parents rest k = 8 - k
 
 pub choice-spec : {M : Type 1} → statement M
 choice-spec =
@@ -16,6 +16,8 @@ choice-spec =
     (tie.spec
     Inv-loop
     μ-loop
+    (λ c. search needs)
+    (λ c. search needs)
     (λ c. search needs)
     (λ c. search needs)
     (λ c. search needs)
