@@ -1,11 +1,14 @@
 // The baseline: exact states by one dense planning for each arc, written for speed in plain Rust and from documents 01
 // and 02 alone. Reads a card on standard input and prints what the planner prints but for the feed lines, since which
-// cheapest tree is shown is free.
+// cheapest tree is shown is free. With the argument `all` it lists all plans instead, by a recursive walk in place, and
+// prints what print_listing prints.
 use std::io::{Read, Write};
 
 const NONE: u32 = 1_048_575;
 const MAX_BUDGET: u32 = 32_505_794;
 const INF: u32 = u32::MAX;
+const MAX_TRIES: u32 = 1_000_000;
+const ROOM: usize = 16_384;
 type Rows = [[u32; 32]; 32];
 
 struct Instance {
@@ -256,8 +259,88 @@ fn text(card: &[u8]) -> String {
     out
 }
 
+// A walk over all plans: the positions below the next one have their feeders.
+struct Walk<'a> {
+    s: &'a Instance,
+    rows: &'a Rows,
+    parents: [u8; 32],
+    trees: Vec<(u32, [u8; 32])>,
+    tries: u32,
+    ended: &'static str,
+}
+
+impl Walk<'_> {
+    // Whether the way from t comes to v, so that t must not feed it.
+    fn closes_ring(&self, v: usize, t: usize) -> bool {
+        let mut at = t;
+        while at < v {
+            at = self.parents[at] as usize;
+        }
+        at == v
+    }
+
+    // Every way to settle v and those after it; false where the walk has ended before its time.
+    fn settle(&mut self, v: usize, sum: u32) -> bool {
+        if v == self.s.n {
+            return sum > self.s.budget || self.store(sum);
+        }
+        if v == self.s.root {
+            return self.settle(v + 1, sum);
+        }
+        for t in 0..self.s.n {
+            let price = self.rows[v][t];
+            if price == INF {
+                continue;
+            }
+            if self.tries == MAX_TRIES {
+                self.ended = "limit";
+                return false;
+            }
+            self.tries += 1;
+            if self.closes_ring(v, t) {
+                continue;
+            }
+            self.parents[v] = t as u8;
+            if !self.settle(v + 1, sum + price) {
+                return false;
+            }
+        }
+        true
+    }
+
+    fn store(&mut self, sum: u32) -> bool {
+        if (self.trees.len() + 1) * self.s.n > ROOM {
+            self.ended = "room";
+            return false;
+        }
+        self.trees.push((sum, self.parents));
+        true
+    }
+}
+
+fn listing(card: &[u8]) -> String {
+    let s = match open(card) {
+        Ok(s) => s,
+        Err(k) => return format!("refused {k}\n"),
+    };
+    let rows = remaining(&s);
+    let mut walk = Walk { s: &s, rows: &rows, parents: [255; 32], trees: Vec::new(), tries: 0, ended: "complete" };
+    walk.settle(0, 0);
+    let mut out = format!("positions {} root {} budget {}\n", s.n, s.root, s.budget);
+    out.push_str(&format!("{} trees {} tries {}\n", walk.ended, walk.trees.len(), walk.tries));
+    for (sum, parents) in &walk.trees {
+        out.push_str("tree");
+        for p in &parents[..s.n] {
+            out.push_str(&format!(" {p}"));
+        }
+        out.push_str(&format!(" total {sum}\n"));
+    }
+    out
+}
+
 fn main() {
     let mut card = Vec::new();
     std::io::stdin().read_to_end(&mut card).expect("a card on standard input");
-    std::io::stdout().write_all(text(&card).as_bytes()).expect("standard output");
+    let printed = if std::env::args().nth(1).is_some_and(|a| a == "all") { listing(&card) } else { text(&card) };
+    std::io::stdout().write_all(printed.as_bytes()).expect("standard output");
 }

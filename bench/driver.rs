@@ -1,8 +1,9 @@
 // Makes cards of several families with a fixed seed, runs the planner's print_plan and the baseline on the same cards
-// in turn, checks that they print the same outcome and states, and prints times and ratios. Arguments: PRINT_PLAN
-// BASELINE [valgrind]. A time is that of a whole process, its start included (but for those of an opening): the least
-// of several runs, since other processes only add to it. Under valgrind it also prints what no clock shows: plannings,
-// the deepest stack, and the instructions of the planning process after its start.
+// in turn, checks that they print the same outcome and states, and prints times and ratios; the same for print_listing,
+// whose whole text must be the baseline's. Arguments: PRINT_PLAN PRINT_LISTING BASELINE [valgrind]. A time is that of a
+// whole process, its start included (but for those of an opening and of a listing): the least of several runs, since
+// other processes only add to it. Under valgrind it also prints what no clock shows: plannings, the deepest stack, and
+// the instructions of the planning process after its start.
 use std::fs::{self, File};
 use std::io::{Read, Write};
 use std::process::{Command, Stdio};
@@ -154,14 +155,22 @@ fn dear(r: &mut Random, n: usize) -> Instance {
     Instance::new(n, 0).fill(|_, _| MAX_WEIGHT - r.below(u64::from(MAX_WEIGHT) - DRAWN) as u32)
 }
 
+// A program with its arguments, if it has any, behind spaces.
+fn command(program: &str) -> Command {
+    let mut words = program.split(' ');
+    let mut command = Command::new(words.next().unwrap());
+    command.args(words);
+    command
+}
+
 fn run(program: &str, card: &str) -> String {
-    let out = Command::new(program).stdin(File::open(card).unwrap()).output().expect(program);
+    let out = command(program).stdin(File::open(card).unwrap()).output().expect(program);
     String::from_utf8(out.stdout).unwrap()
 }
 
 fn time(program: &str, card: &str) -> f64 {
     let start = Instant::now();
-    let status = Command::new(program).stdin(File::open(card).unwrap()).stdout(Stdio::null()).status().expect(program);
+    let status = command(program).stdin(File::open(card).unwrap()).stdout(Stdio::null()).status().expect(program);
     assert!(status.success());
     start.elapsed().as_secs_f64() * 1000.0
 }
@@ -354,10 +363,49 @@ fn opening(ours: &str, deep: bool, r: &mut Random) {
     }
 }
 
+// One line of the listings' table: both print the same text, so they have made the same tries. From the times those of
+// a listing of one vertex are taken off; where hardly anything is left, a ratio would say nothing.
+fn listing_row(ours: &str, base: &str, deep: bool, start: (f64, f64), instance: &Instance) -> String {
+    fs::write(CARD, instance.card()).unwrap();
+    let text = run(ours, CARD);
+    assert_eq!(text, run(base, CARD));
+    let words: Vec<&str> = text.lines().nth(1).unwrap().split(' ').collect();
+    let (p, q) = times(base, ours);
+    let (p, q) = (p - start.0, q - start.1);
+    let ratio = if p < 0.2 { "-".to_string() } else { format!("{:.2}", q / p) };
+    let line = format!("{:<8} {:>5} {:>8} {p:>12.2} {q:>17.2} {ratio:>6}", words[0], words[2], words[4]);
+    if deep { format!("{line} {:>12}", peak_stack(ours, CARD)) } else { line }
+}
+
+// All plans, to 1,000,000 tries or to the end. With a budget below the cheapest total no tree is listed, so that
+// nothing but the walk is timed; with the largest one the trees fill the room after few tries, and mostly printing is
+// timed.
+fn listings(ours: &str, base: &str, deep: bool, r: &mut Random) {
+    let walks = format!("{base} all");
+    fs::write(CARD, Instance::new(1, 0).card()).unwrap();
+    let start = times(&walks, ours);
+    println!("a listing of one vertex: baseline {:.2} ms, print_listing {:.2} ms", start.0, start.1);
+    let more = if deep { "  stack bytes" } else { "" };
+    println!("family   budget      n ended    trees    tries  baseline ms  print_listing ms  ratio{more}");
+    let families: [(&str, fn(&mut Random, usize) -> Instance); 3] =
+        [("dense", dense), ("sparse", sparse), ("equal", equal)];
+    for (name, make) in families {
+        for n in [8, 16, 32] {
+            let instance = below(&with_budget(make(r, n), "tight", base));
+            let row = listing_row(ours, &walks, deep, start, &instance);
+            println!("{name:<8} {:<10} {n:>2} {row}", "below");
+        }
+    }
+    for n in [8, 16, 32] {
+        let row = listing_row(ours, &walks, deep, start, &dense(r, n));
+        println!("{:<8} {:<10} {n:>2} {row}", "dense", "unlimited");
+    }
+}
+
 fn main() {
     let args: Vec<String> = std::env::args().collect();
-    let (ours, base) = (&args[1], &args[2]);
-    let deep = args.get(3).is_some_and(|a| a == "valgrind");
+    let (ours, listing, base) = (&args[1], &args[2], &args[3]);
+    let deep = args.get(4).is_some_and(|a| a == "valgrind");
     fs::create_dir_all("target/bench").unwrap();
     let mut random = Random(0x9E37_79B9_7F4A_7C15);
     fs::write(CARD, Instance::new(1, 0).card()).unwrap();
@@ -390,4 +438,5 @@ fn main() {
     }
     // last, so that every row above keeps its cards
     opening(ours, deep, &mut random);
+    listings(listing, base, deep, &mut random);
 }

@@ -1,10 +1,8 @@
 // Reads a card on standard input and prints its plan, or the line of its refusal, on standard output; it does nothing
 // else. A read or a write that fails is named on standard error. What is printed is proved in `report`; this program
 // only reads and writes.
-ghost use Prim.Native.Nat.{_≤_};
-ghost use lib.ListN.{length};
+use card_input::read_input;
 use libc::STDERR_FILENO;
-use libc::STDIN_FILENO;
 use libc::STDOUT_FILENO;
 use report::MAX_HISTORY_CARD;
 use report::MAX_TEXT;
@@ -13,37 +11,6 @@ use report::report;
 // One byte more than the longest card of either kind: what follows does not matter (first-bytes-enough in
 // report/proofs/LongCards.antt).
 const MAX_INPUT: usize = MAX_HISTORY_CARD + 1;
-
-struct Input {
-    failed: bool,
-    length: usize,
-}
-
-// Reads until the buffer is full or the input ends, in whatever pieces it comes. A failed read is told apart from the
-// input's end.
-fn read_input(buf: &mut [u8]) -> Input
-    ensures { λ r. ⌜ r .length ≤ length (now (buf .exit)) ⌝ }
-{
-    let mut done = 0;
-    while done < buf.len() {
-        let got = libc::read(STDIN_FILENO, &mut buf[done..]);
-        if got < 0 {
-            return Input {
-                failed: true,
-                length: done,
-            };
-        }
-        let more = io::count(got, &buf[done..]);
-        if more == 0 {
-            break;
-        }
-        done += more;
-    }
-    Input {
-        failed: false,
-        length: done,
-    }
-}
 
 fn main() {
     let mut card = [0u8; MAX_INPUT];

@@ -20,7 +20,7 @@ fn put_feed(head: u32, tail: u32, weight: u32, out: &mut [u8], at: usize) -> usi
 }
 
 // The weight of the arc from tail to head; a cell that there is not holds no arc.
-fn listed_weight(weights: &[u32; CELLS], tail: u8, head: u32) -> u32
+pub fn listed_weight(weights: &[u32; CELLS], tail: u8, head: u32) -> u32
     requires { ⌜ length (now weights) ≡ cells ⌝ }
     ensures { λ r. ⌜ r ≡ listed-weight (now (weights .entry)) tail head ⌝ }
 {

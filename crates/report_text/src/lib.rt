@@ -7,6 +7,8 @@ mod heading; // heading.rt: the first two lines
 mod rows; // rows.rt: the rows of states
 mod whole; // whole.rt: the whole text
 
+pub use feeds::listed_weight;
+pub use heading::put_header;
 pub use whole::MAX_TEXT;
 pub use whole::write_refusal;
 pub use whole::write_report;

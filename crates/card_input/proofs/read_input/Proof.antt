@@ -4,8 +4,8 @@ use Prim.Native.Nat.{_-_, _≤_}
 use native.Mathlib.Omega.{arith}
 use lib.ListN.{length}
 use borrow.Author.Needs.{needs}
-use Rattle.print_plan.proofs.read_input.Statement.{statement}
-use Rattle.print_plan.proofs.read_input.Tie as tie
+use Rattle.card_input.proofs.read_input.Statement.{statement}
+use Rattle.card_input.proofs.read_input.Tie as tie
 
 abbrev Inv-loop : tie.InvT-loop
 Inv-loop buf₀ done₀ buf done = (done ≤ length buf) × (length buf ≡ length buf₀)
