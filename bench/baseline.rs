@@ -300,6 +300,9 @@ impl Walk<'_> {
             if self.closes_ring(v, t) {
                 continue;
             }
+            if v + 1 == self.s.n && sum + price > self.s.budget {
+                continue;
+            }
             self.parents[v] = t as u8;
             if !self.settle(v + 1, sum + price) {
                 return false;

@@ -31,8 +31,8 @@ fn goes_on(ended: Ended) -> bool
     }
 }
 
-// Whether nothing comes after the arc from t into v: it closes a cycle, or all vertices are settled and the sum with it
-// is over the budget.
+// Whether nothing comes after the arc from t into v: it closes a cycle, or v is the last vertex and the sum with it is
+// over the budget.
 fn ends_there(parents: &[u8; VERTICES], n: u32, budget: u32, v: u32, t: u32, sum: u32) -> bool
     requires { ⌜ (length (now parents) ≡ max-vertices) × (n ≤ max-vertices) × (v < n) ⌝ }
     ensures { λ r. ⌜ r ≡ reaches n v (take v (now (parents .entry))) t || (eqb (v + 1) n && ltb budget sum) ⌝ }

@@ -145,10 +145,10 @@ walks-alike a b limit room s g =
     same-walked (instance-of a) (instance-of b) (arcs .vertices)
     (same-events (instance-of a) (instance-of b) arcs (s .same-instances .same-budget) (v .root-below) (v .n-high)) limit room
 
-pub same-list :
+pub same-listing :
     {a b : Board} {limit : ℕ} {out out′ out″ : List ℕ} {r q : Listing} → Same-board (model-of a) (model-of b) → Enumerated a limit out out′ r →
     Enumerated b limit out out″ q → Same-listing r q out′ out″
-same-list {a} {b} {limit} {out} s x y =
+same-listing {a} {b} {limit} {out} s x y =
     record {
       same-result = enumerated x .result ∙ by-results (valid (model-of a)) refl ∙ ap (λ (g : Bool). results g (walked-on b limit out)) e ∙ sym (enumerated y .result);
       same-buffer = enumerated x .buffer ∙ by-buffers (valid (model-of a)) refl ∙ ap (λ (g : Bool). buffers g (walked-on b limit out)) e ∙ sym (enumerated y .buffer);

@@ -63,7 +63,7 @@ cases =
     -- one try earlier the limit comes first
     case (q 16) 21 11 AtLimit (t₁ ∷ t₂ ∷ []) 21 ∷
     -- a total equal to the budget is listed; one above it is not, though it is the cheapest. "The budget cuts no walk
-    -- short", not even one that no arc is left
+    -- short", not even where no arc is within it
     case (q 15) 24 4 Complete (t₁ ∷ []) 24 ∷
     case (q 14) 24 0 Complete [] 24 ∷
     case (q 0) 24 0 Complete [] 24 ∷
@@ -74,7 +74,7 @@ cases =
     case (q-cut 16) 9 12 Complete [] 9 ∷
     case (q-cut 16) 8 12 AtLimit [] 8 ∷
     -- the root takes no try in the middle: two arcs into 0, and two into 2 behind each, of which one closes a cycle;
-    -- the last total is over the budget, and at 8 its try is not made
+    -- the last total is over the budget, and at 8 the limit comes before its try
     case (middle 7) 6 6 Complete ((1 ∷ 255 ∷ 0 ∷ []) ∷ (1 ∷ 255 ∷ 1 ∷ []) ∷ []) 6 ∷
     case (middle 8) 5 9 AtLimit ((1 ∷ 255 ∷ 0 ∷ []) ∷ (1 ∷ 255 ∷ 1 ∷ []) ∷ []) 5 ∷
     -- nor at the end

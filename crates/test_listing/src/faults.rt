@@ -25,7 +25,7 @@ pub const LONGEST: u32 = 11;
 // A count for each kind of fault.
 const PLANTED: u32 = 12;
 
-// The first tree given twice; the first one left out; the first two swapped; another feeder in the last one.
+// The first tree given twice; the first one left out; the first two swapped; the last byte of the last one changed.
 const TOO_MANY: u32 = 0;
 
 const MISSING: u32 = 1;

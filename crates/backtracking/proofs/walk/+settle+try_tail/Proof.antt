@@ -1,5 +1,6 @@
--- The walk's two functions end by a pair, vertices left and then tails left, and each does what the events of its vertex
--- or its tail say. One law for each way through them (StepLaws); what is asked is kept by SettlingLaws. Assumes nothing.
+-- The walk's two functions end by a pair, vertices left and then tails left, and each does what the events of its
+-- vertex or its tail say. One law for each way through them (StepLaws); what is asked is kept by SettlingLaws. Assumes
+-- nothing.
 use mathlib.Core.Path.{_≡_, refl, sym, ap, _∙_, subst}
 use mathlib.Core.Bool.{Bool, true, false, _&&_, _||_}
 use mathlib.Core.List.{List, [], _∷_}
