@@ -363,15 +363,28 @@ fn opening(ours: &str, deep: bool, r: &mut Random) {
     }
 }
 
+// The same for two cards, with the first one's times taken off the second's: all four in turn, so that a slow spell of
+// the machine spoils none alone.
+fn times_after(base: &str, ours: &str, start: &str, card: &str) -> (f64, f64) {
+    let mut least = [f64::MAX; 4];
+    for _ in 0..15 {
+        for (k, &(program, card)) in [(base, start), (ours, start), (base, card), (ours, card)].iter().enumerate() {
+            least[k] = least[k].min(time(program, card));
+        }
+    }
+    (least[2] - least[0], least[3] - least[1])
+}
+
 // One line of the listings' table: both print the same text, so they have made the same tries. From the times those of
 // a listing of one vertex are taken off; where hardly anything is left, a ratio would say nothing.
-fn listing_row(ours: &str, base: &str, deep: bool, start: (f64, f64), instance: &Instance) -> String {
+fn listing_row(ours: &str, base: &str, deep: bool, instance: &Instance) -> String {
+    let start = format!("{CARD}0");
+    fs::write(&start, Instance::new(1, 0).card()).unwrap();
     fs::write(CARD, instance.card()).unwrap();
     let text = run(ours, CARD);
     assert_eq!(text, run(base, CARD));
     let words: Vec<&str> = text.lines().nth(1).unwrap().split(' ').collect();
-    let (p, q) = times(base, ours);
-    let (p, q) = (p - start.0, q - start.1);
+    let (p, q) = times_after(base, ours, &start, CARD);
     let ratio = if p < 0.2 { "-".to_string() } else { format!("{:.2}", q / p) };
     let line = format!("{:<8} {:>5} {:>8} {p:>12.2} {q:>17.2} {ratio:>6}", words[0], words[2], words[4]);
     if deep { format!("{line} {:>12}", peak_stack(ours, CARD)) } else { line }
@@ -382,9 +395,6 @@ fn listing_row(ours: &str, base: &str, deep: bool, start: (f64, f64), instance: 
 // timed.
 fn listings(ours: &str, base: &str, deep: bool, r: &mut Random) {
     let walks = format!("{base} all");
-    fs::write(CARD, Instance::new(1, 0).card()).unwrap();
-    let start = times(&walks, ours);
-    println!("a listing of one vertex: baseline {:.2} ms, print_listing {:.2} ms", start.0, start.1);
     let more = if deep { "  stack bytes" } else { "" };
     println!("family   budget      n ended    trees    tries  baseline ms  print_listing ms  ratio{more}");
     let families: [(&str, fn(&mut Random, usize) -> Instance); 3] =
@@ -392,13 +402,11 @@ fn listings(ours: &str, base: &str, deep: bool, r: &mut Random) {
     for (name, make) in families {
         for n in [8, 16, 32] {
             let instance = below(&with_budget(make(r, n), "tight", base));
-            let row = listing_row(ours, &walks, deep, start, &instance);
-            println!("{name:<8} {:<10} {n:>2} {row}", "below");
+            println!("{name:<8} {:<10} {n:>2} {}", "below", listing_row(ours, &walks, deep, &instance));
         }
     }
     for n in [8, 16, 32] {
-        let row = listing_row(ours, &walks, deep, start, &dense(r, n));
-        println!("{:<8} {:<10} {n:>2} {row}", "dense", "unlimited");
+        println!("{:<8} {:<10} {n:>2} {}", "dense", "unlimited", listing_row(ours, &walks, deep, &dense(r, n)));
     }
 }
 
@@ -438,5 +446,6 @@ fn main() {
     }
     // last, so that every row above keeps its cards
     opening(ours, deep, &mut random);
-    listings(listing, base, deep, &mut random);
+    // a seed of its own: an opening draws more under valgrind
+    listings(listing, base, deep, &mut Random(0x9E37_79B9_7F4A_7C15));
 }
