@@ -363,8 +363,8 @@ fn opening(ours: &str, deep: bool, r: &mut Random) {
     }
 }
 
-// The same for two cards, with the first one's times taken off the second's: all four in turn, so that a slow spell of
-// the machine spoils none alone.
+// The least of several runs of each program on two cards, with the first card's times taken off the second's: all four
+// in turn, so that a slow spell of the machine spoils none alone.
 fn times_after(base: &str, ours: &str, start: &str, card: &str) -> (f64, f64) {
     let mut least = [f64::MAX; 4];
     for _ in 0..15 {
