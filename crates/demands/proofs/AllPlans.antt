@@ -11,17 +11,17 @@ use Rattle.base.proofs.FrontLaws.{front-take, front-drop}
 use Rattle.instance.specs.Refusals.{invalid-board, bad-try-limit}
 use Rattle.instance.specs.Instance.{Instance, with-budget}
 use Rattle.instance.specs.States.{fits, fitting}
+use Rattle.theory.specs.Order.{Ascending}
+use Rattle.theory.proofs.OrderLaws.{ascending-once}
 use Rattle.theory.proofs.SameOutcomes.{arcs-same}
 use Rattle.enumeration.specs.Events.{events, tries}
 use Rattle.enumeration.specs.Walk.{limit-refused, Walked, walk, walked, joined}
-use Rattle.enumeration.specs.Order.{Ascending}
 use Rattle.enumeration.specs.declared.Ended.the-variants.{Complete, AtLimit, NoRoom}
 use Rattle.enumeration.proofs.ListedLaws.{tries-budget}
 use Rattle.enumeration.proofs.RunLaws.{tries-to}
 use Rattle.enumeration.proofs.MemberLaws.{Among, among-fitting}
-use Rattle.enumeration.proofs.OrderLaws.{ascending-once, trees-ascending}
 use Rattle.enumeration.proofs.SameEvents.{same-events}
-use Rattle.enumeration.proofs.WalkLaws.{limit-due, room-counted, tries-within, tries-most, trees-tries, trees-size, tree-at, complete-all, enough-completes, complete-enough, trees-first, room-due}
+use Rattle.enumeration.proofs.WalkLaws.{limit-due, room-counted, tries-within, tries-most, trees-tries, trees-size, tree-at, complete-all, enough-completes, complete-enough, trees-first, trees-ascending, room-due}
 use Rattle.commands.specs.Valid.{valid}
 use Rattle.commands.specs.LogLists.{Input, input-after}
 use Rattle.commands.specs.Effective.{effective}

@@ -9,7 +9,7 @@ ghost use Rattle.detours.specs.Descendants.{Descendant-flag, Descendants
 use instance::limits::VERTICES;
 
 // 1 where the vertex is a descendant of the head, as the head is itself.
-fn is_descendant(parents: &[u8; VERTICES], n: u32, root: u32, head: u32, vertex: u32) -> u8
+pub fn is_descendant(parents: &[u8; VERTICES], n: u32, root: u32, head: u32, vertex: u32) -> u8
     requires { ⌜ (n ≤ max-vertices) × (length (now parents) ≡ max-vertices) × Rooted n root (take n (now parents)) × (head < n) × (head ≢ root) × (vertex < n) ⌝ }
     ensures { λ r. ⌜ Descendant-flag (take n (now (parents .entry))) head vertex r ⌝ }
 {

@@ -1,6 +1,6 @@
 -- Cycles. A prefix has no parent for the vertices from v on, so that a path in it ends there, and is a path in every
--- list that goes on from it. In an arborescence each step of a path comes nearer to the root, so no path comes back to
--- where it began: an arc that closes a cycle begins no arborescence. Assumes nothing.
+-- list that goes on from it; and no path of an arborescence comes back to where it began: an arc that closes a cycle
+-- begins no arborescence. Assumes nothing.
 use mathlib.Core.Path.{_≡_, sym, subst}
 use mathlib.Core.Bool.{true, false}
 use mathlib.Core.List.{List, _∷_, _++_}
@@ -17,8 +17,7 @@ use Rattle.instance.specs.Limits.{max-vertices, no-parent}
 use Rattle.instance.specs.Instance.{Instance}
 use Rattle.instance.specs.Arborescence.{remaining, parent, reaches, is-arborescence}
 use Rattle.instance.proofs.ArborescenceLaws.{joined}
-use Rattle.paths.specs.Paths.{Rooted, Descends}
-use Rattle.paths.proofs.PathLaws.{depth, depth-falls, root-avoids, none-avoids, descends-not}
+use Rattle.paths.proofs.PathLaws.{none-avoids, no-return}
 use Rattle.paths.proofs.ExchangeLaws.{rooted}
 
 pub below-or-from : (u v : ℕ) → (u < v) ⊎ (v ≤ u)
@@ -51,30 +50,6 @@ module _ (ps : List ℕ) (v : ℕ) (size : length ps ≡ v) where
           absurd
           (not-both (reaches k w ps no-parent) (subst (λ (x : ℕ). reaches k w ps x ≡ true) (from-bare u i) q)
           (none-avoids ps w (omega arith) b k))
-
--- NO CYCLE IN AN ARBORESCENCE
-module _ (n root : ℕ) (ps : List ℕ) (k : Rooted n root ps) (small : n ≤ max-vertices) (v : ℕ) (below : v < n) (apart : v ≢ root) where
-  -- what a path comes to is no deeper than where it began
-  no-deeper : (j u : ℕ) → u < n → reaches j v ps u ≡ true → depth n root ps v ≤ depth n root ps u
-  unfolding reaches
-  no-deeper zero u l e = rw (eqb-true u v e) (omega arith)
-  no-deeper (suc j) u l e =
-      ⊎-elim (λ (q : eqb u v ≡ true). rw (eqb-true u v q) (omega arith))
-      (λ (q : eqb u v ≡ false). at (rw q at e) (no-deeper j) (ℕ-discrete u root) (eqb-false u v q)) (test (eqb u v))
-    where
-      at : reaches j v ps (parent ps u) ≡ true → ((w : ℕ) → w < n → reaches j v ps w ≡ true → depth n root ps v ≤ depth n root ps w)
-          → Dec (u ≡ root) → u ≢ v → depth n root ps v ≤ depth n root ps u
-      at q h (yes z) d = absurd (descends-not ps v root (suc j, rw (sym z) e) (root-avoids n root ps k small v below apart))
-      at q h (no z) d =
-          let a = depth-falls n root ps k u l z in
-          let b = h (parent ps u) (k .below u l (ne-eqb u root z)) q in
-          omega arith
-
-  no-return : Descends ps v (parent ps v) → ⊥
-  no-return d =
-      let a = depth-falls n root ps k v below apart in
-      let b = no-deeper (d .0) (parent ps v) (k .below v below (ne-eqb v root apart)) (d .1) in
-      omega arith
 
 -- WHAT BEGINS NO ARBORESCENCE
 module _ (s : Instance) (ps : List ℕ) (v : ℕ) (size : length ps ≡ v) (below : v < s .n) (apart : eqb v (s .root) ≡ false) (t : ℕ) (l : List ℕ) where

@@ -1,7 +1,7 @@
 -- The walk of an instance with its limit and its room (02, A7): it is complete exactly if both suffice, and then it has
 -- every fitting arborescence; it always has the first ones; it ends at the limit only where one more try is due, and
--- for want of room only where one more tree is; and how many trees and tries there are. Assumes nothing.
-use mathlib.Core.Path.{_≡_, _∙_, subst}
+-- for want of room only where one more tree is; its trees ascend; and how many trees and tries there are. Assumes nothing.
+use mathlib.Core.Path.{_≡_, sym, _∙_, subst}
 use mathlib.Core.List.{List, []}
 use Prim.Native.Nat.{ℕ, _+_, _*_, _≤_, _<_}
 use native.Mathlib.Omega.{arith}
@@ -10,6 +10,8 @@ use lib.ListN.{length, getD, take, drop}
 use Rattle.instance.specs.Limits.{max-vertices}
 use Rattle.instance.specs.Instance.{Instance}
 use Rattle.instance.specs.States.{fitting}
+use Rattle.theory.specs.Order.{Ascending}
+use Rattle.theory.proofs.OrderLaws.{take-ascending, fitting-ascending}
 use Rattle.enumeration.specs.declared.Ended.the-variants.{Complete, AtLimit, NoRoom}
 use Rattle.enumeration.specs.Events.{events, tries}
 use Rattle.enumeration.specs.Walk.{walked, joined}
@@ -73,6 +75,11 @@ module _ (s : Instance) (limit room : ℕ) where
     trees-first =
         subst (λ (pss : List (List ℕ)). walked s limit room .trees ≡ take (length (walked s limit room .trees)) pss) (listed-all s root-below small)
         (run-first its-run)
+
+    -- "in ascending order"
+    pub trees-ascending : Ascending (walked s limit room .trees)
+    trees-ascending =
+        subst (λ (pss : List (List ℕ)). Ascending pss) (sym trees-first) (take-ascending (length (walked s limit room .trees)) (fitting-ascending s))
 
     -- NO ROOM
     pub room-due : walked s limit room .ended ≡ NoRoom

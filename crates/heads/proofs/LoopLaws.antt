@@ -1,5 +1,5 @@
--- The loops over the heads of a set: a set and a number of two bits a head, put together head by head, and marks put at
--- one head more. Assumes nothing.
+-- The loops over the heads of a set: a number of two bits a head, put together head by head, and marks put at one head
+-- more. Assumes nothing.
 use mathlib.Core.Path.{_≡_, refl, sym, ap, _∙_}
 use mathlib.Core.Bool.{Bool, true, false, _&&_, _||_, cond}
 use mathlib.Core.List.{List}
@@ -20,26 +20,6 @@ use Rattle.instance.specs.Instance.{cell}
 use Rattle.instance.proofs.SetBits.{bit-small}
 use Rattle.commands.specs.Heads.{put-marks}
 use Rattle.commands.proofs.HeadsLaws.{put-same, put-none, put-one}
-
--- A SET, head by head
-shifted-bit : (h : ℕ) → h < 32 → 1 * 2 ^ h % 4294967296 ≡ 2 ^ h
-shifted-bit h l = shl-exact {a = 1} 1 h 32 (omega arith) (omega arith) ∙ one-mul (2 ^ h)
-
-module _ (q : ℕ → Bool) (h arcs : ℕ) (l : h < 32) (e : arcs ≡ from-digits 2 h (λ v. cond (q v) 1 0)) where
-  arcs-below : arcs < 2 ^ h
-  arcs-below = rw e (digits-below 2 h (λ v. cond (q v) 1 0) (zero-lt-suc 1) (λ v _. bit-small (q v)))
-
-  pub head-fits : arcs + 1 * 2 ^ h % 4294967296 < 4294967296
-  head-fits =
-      let a = arcs-below in
-      let b : 2 ^ suc h ≤ 4294967296 = pow-mono {i = suc h} {j = 32} (omega arith) in
-      rw (shifted-bit h l) (omega (arith, pow-suc 2 h))
-
-  pub head-more : q h ≡ true → arcs + 1 * 2 ^ h % 4294967296 ≡ from-digits 2 (h + 1) (λ v. cond (q v) 1 0)
-  head-more t = rw (shifted-bit h l, add-one h, digits-more 2 h (λ v. cond (q v) 1 0), t, e, one-mul (2 ^ h))
-
-  pub head-skip : q h ≡ false → arcs ≡ from-digits 2 (h + 1) (λ v. cond (q v) 1 0)
-  head-skip t = rw (add-one h, digits-more 2 h (λ v. cond (q v) 1 0), t, e, zero-mul (2 ^ h), add-zero)
 
 -- MARKS, two bits a head
 pub four-pow : (h : ℕ) → 2 ^ (2 * h) ≡ 4 ^ h

@@ -3,17 +3,18 @@
 use mathlib.Core.Path.{_≡_, refl, sym, ap, _∙_}
 use mathlib.Core.Bool.{Bool, true, false, cond}
 use mathlib.Core.Logic.{⊎-elim}
-use Prim.Native.Nat.{ℕ, zero, suc, _+_, _/_, _%_, _^_, _≤_, _<_}
+use Prim.Native.Nat.{ℕ, zero, suc, _+_, _*_, _/_, _%_, _^_, _≤_, _<_}
 use native.Mathlib.Omega.{arith}
-use native.Mathlib.Nat.{pow-suc, div-eq-of-lt, div-eq-of-lt-le, div-lt-iff-lt-mul, le-div-iff-mul-le, one-mul, zero-div, zero-lt-suc}
+use native.Mathlib.Nat.{pow-suc, div-eq-of-lt, div-eq-of-lt-le, div-lt-iff-lt-mul, le-div-iff-mul-le, one-mul, zero-mul, add-zero, zero-div, zero-lt-suc}
+use native.Mathlib.Numerals.{add-one}
 use lib.Dec.{ltb, eqb}
-use lib.Pow.{pow-pos, pow-mono, shr-shr}
+use lib.Pow.{pow-pos, pow-mono, shr-shr, shl-exact}
 use borrow.Author.Tests.{lt-ltb, ltb-true, ltb-false, eq-eqb, eqb-true}
 use Rattle.base.specs.Bounded.{any-below}
 use Rattle.base.specs.Digits.{from-digits, digit}
 use Rattle.base.proofs.BoolLaws.{test, same-test, not-both, or-left, or-right}
 use Rattle.base.proofs.BoundedLaws.{any-found, any-false}
-use Rattle.base.proofs.DigitLaws.{digit-low, digit-top, digit-of}
+use Rattle.base.proofs.DigitLaws.{digit-low, digit-top, digit-of, digits-more, digits-below}
 use Rattle.instance.specs.Cuts.{inside}
 
 -- ONE VERTEX MORE, the highest
@@ -49,6 +50,26 @@ pub inside-digits : (k : ℕ) (q : ℕ → Bool) (v : ℕ) → v < k → inside 
 unfolding inside digit
 inside-digits k q v l =
     ap (λ (x : ℕ). eqb x 1) (digit-of 2 k (λ h. cond (q h) 1 0) (zero-lt-suc 1) (λ h _. bit-small (q h)) v l) ∙ bit-read (q v)
+
+-- as a program puts it together, vertex by vertex
+pub one-shifted : (h : ℕ) → h < 32 → 1 * 2 ^ h % 4294967296 ≡ 2 ^ h
+one-shifted h l = shl-exact {a = 1} 1 h 32 (omega arith) (omega arith) ∙ one-mul (2 ^ h)
+
+module _ (q : ℕ → Bool) (h set : ℕ) (l : h < 32) (e : set ≡ from-digits 2 h (λ v. cond (q v) 1 0)) where
+  set-below : set < 2 ^ h
+  set-below = rw e (digits-below 2 h (λ v. cond (q v) 1 0) (zero-lt-suc 1) (λ v _. bit-small (q v)))
+
+  pub set-fits : set + 1 * 2 ^ h % 4294967296 < 4294967296
+  set-fits =
+      let a = set-below in
+      let b : 2 ^ suc h ≤ 4294967296 = pow-mono {i = suc h} {j = 32} (omega arith) in
+      rw (one-shifted h l) (omega (arith, pow-suc 2 h))
+
+  pub set-more : q h ≡ true → set + 1 * 2 ^ h % 4294967296 ≡ from-digits 2 (h + 1) (λ v. cond (q v) 1 0)
+  set-more t = rw (one-shifted h l, add-one h, digits-more 2 h (λ v. cond (q v) 1 0), t, e, one-mul (2 ^ h))
+
+  pub set-skip : q h ≡ false → set ≡ from-digits 2 (h + 1) (λ v. cond (q v) 1 0)
+  set-skip t = rw (add-one h, digits-more 2 h (λ v. cond (q v) 1 0), t, e, zero-mul (2 ^ h), add-zero)
 
 -- THE BITS THAT A NUMBER HAS
 -- 0 has none, and every other number has one

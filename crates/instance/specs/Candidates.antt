@@ -1,10 +1,12 @@
--- Every list that could be a list of parents, and among them the arborescences and the least total. Assumes nothing:
--- these are definitions. They say what is right by listing everything; no program computes them.
-use mathlib.Core.Bool.{cond}
+-- Every list that could be a list of parents, and among them the arborescences, the least total and the first
+-- arborescence of that total. Assumes nothing: these are definitions. They say what is right by listing everything; no
+-- program computes them.
+use mathlib.Core.Bool.{Bool, false, cond}
 use mathlib.Core.List.{List, [], _∷_, _++_, map}
 use mathlib.Core.Option.{Option, none, some}
 use Prim.Native.Nat.{ℕ, zero, suc, min}
 use lib.Dec.{eqb}
+use lib.ListN.{getD, replicate}
 use Rattle.base.specs.Lists.{tabulate, select}
 use Rattle.instance.specs.Limits.{no-parent}
 use Rattle.instance.specs.Instance.{Instance}
@@ -42,3 +44,17 @@ least-total s (ps ∷ pss) = lesser (total s ps) (least-total s pss)
 -- the total of a minimum weight arborescence, or none where there is no arborescence
 unfoldable pub cheapest : Instance → Option ℕ
 cheapest s = least-total s (arborescences s)
+
+-- whether a total is the cheapest one
+unfoldable pub is-cheapest : (cheapest : Option ℕ) → (total : ℕ) → Bool
+is-cheapest none v = false
+is-cheapest (some w) v = eqb v w
+
+-- "all cheapest feed trees" (02, A10), in ascending order as the candidates are
+unfoldable pub cheapest-trees : Instance → List (List ℕ)
+cheapest-trees s = let w = cheapest s in select (λ ps. is-cheapest w (total s ps)) (arborescences s)
+
+-- THE PARENTS SHOWN. Document 01 left free which cheapest tree; 02, A10 amends it: "The feeder list is now, among all
+-- cheapest feed trees, the first when compared position by position." Where there is none: "255 .. everywhere"
+unfoldable pub first-tree : Instance → List ℕ
+first-tree s = getD (cheapest-trees s) 0 (replicate (s .n) no-parent)

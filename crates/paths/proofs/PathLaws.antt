@@ -101,6 +101,30 @@ module _ (n root : ℕ) (ps : List ℕ) where
         let size = k .size in
         avoids-up ps h root (λ z. e (sym z)) (rw (k .at-root) (none-avoids ps h (omega arith) (omega arith)))
 
+-- NO CYCLE: each step of a path comes nearer to the root, so no path comes back to where it began
+module _ (n root : ℕ) (ps : List ℕ) (k : Rooted n root ps) (small : n ≤ max-vertices) (v : ℕ) (below : v < n) (apart : v ≢ root) where
+  -- what a path comes to is no deeper than where it began
+  no-deeper : (j u : ℕ) → u < n → reaches j v ps u ≡ true → depth n root ps v ≤ depth n root ps u
+  unfolding reaches
+  no-deeper zero u l e = rw (eqb-true u v e) (omega arith)
+  no-deeper (suc j) u l e =
+      ⊎-elim (λ (q : eqb u v ≡ true). rw (eqb-true u v q) (omega arith))
+      (λ (q : eqb u v ≡ false). at (rw q at e) (no-deeper j) (ℕ-discrete u root) (eqb-false u v q)) (test (eqb u v))
+    where
+      at : reaches j v ps (parent ps u) ≡ true → ((w : ℕ) → w < n → reaches j v ps w ≡ true → depth n root ps v ≤ depth n root ps w)
+          → Dec (u ≡ root) → u ≢ v → depth n root ps v ≤ depth n root ps u
+      at q h (yes z) d = absurd (descends-not ps v root (suc j, rw (sym z) e) (root-avoids n root ps k small v below apart))
+      at q h (no z) d =
+          let a = depth-falls n root ps k u l z in
+          let b = h (parent ps u) (k .below u l (ne-eqb u root z)) q in
+          omega arith
+
+  pub no-return : Descends ps v (parent ps v) → ⊥
+  no-return d =
+      let a = depth-falls n root ps k v below apart in
+      let b = no-deeper (d .0) (parent ps v) (k .below v below (ne-eqb v root apart)) (d .1) in
+      omega arith
+
 -- THE PARENT OF ONE VERTEX CHANGED
 module _ (ps : List ℕ) (h t : ℕ) where
   abbrev qs : List ℕ

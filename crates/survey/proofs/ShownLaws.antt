@@ -1,22 +1,15 @@
--- How long what is shown is: the parents n, the words of the cuts 122. Assumes nothing.
+-- How long the words of the cuts are that are shown: 122. Assumes nothing.
 use mathlib.Core.Path.{_≡_, refl, ap, _∙_}
-use mathlib.Core.Bool.{Bool, true, false}
 use mathlib.Core.List.{List, [], _∷_}
 use Prim.Native.Nat.{ℕ, _*_, _-_, _≤_}
 use native.Mathlib.Omega.{arith}
 use lib.ListN.{length, replicate, length-append, length-replicate}
-use Rattle.instance.specs.Limits.{max-vertices, no-parent, cut-words}
+use Rattle.instance.specs.Limits.{max-vertices, cut-words}
 use Rattle.instance.specs.Instance.{Instance}
 use Rattle.instance.specs.Cuts.{Cut, pair-words, words-of}
 use Rattle.instance.specs.declared.Outcome.{Outcome}
 use Rattle.instance.specs.declared.Outcome.the-variants.{Plan, Over, NoTree}
-use Rattle.instance.proofs.ArborescenceLaws.{parents-size}
-use Rattle.survey.specs.Survey.{Parents-by, Cuts-shown}
-
-pub parents-length : (b : Bool) (v : ℕ) (s : Instance) (ps : List ℕ) → Parents-by b v s ps → length ps ≡ s .n
-unfolding Parents-by
-parents-length true v s ps p = parents-size s ps (p .0)
-parents-length false v s ps p = ap length p ∙ length-replicate {A = ℕ} (s .n) no-parent
+use Rattle.survey.specs.Survey.{Cuts-shown}
 
 few-cuts : (o : Outcome) (s : Instance) (cs : List Cut) → s .n ≤ max-vertices → Cuts-shown o s cs → 2 * length cs ≤ cut-words
 unfolding Cuts-shown

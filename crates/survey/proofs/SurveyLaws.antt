@@ -11,23 +11,26 @@ use borrow.Author.Tests.{le-leb, lt-leb}
 use Rattle.instance.specs.Limits.{max-vertices, max-budget, no-parent, cells, cut-words}
 use Rattle.instance.specs.Instance.{Instance}
 use Rattle.instance.specs.Arborescence.{is-arborescence, total}
-use Rattle.instance.specs.Candidates.{cheapest}
+use Rattle.instance.specs.Candidates.{cheapest, first-tree}
 use Rattle.instance.specs.Cuts.{Cut, cuts-in, pair-words, words-of, values, Proves}
 use Rattle.instance.specs.Matrix.{matrix, matrix-instance, unmarked}
 use Rattle.instance.specs.declared.Outcome.{Outcome}
 use Rattle.instance.specs.declared.Outcome.the-variants.{Plan, Over, NoTree}
 use Rattle.instance.specs.States.{outcome-at, outcome, limit-at, total-limit}
 use Rattle.instance.specs.Valid.{valid-instance}
+use Rattle.base.proofs.BoolLaws.{is-false}
 use Rattle.base.proofs.PartLaws.{drop-replicate, take-replicate}
 use Rattle.instance.proofs.CutLaws.{cuts-length}
 use Rattle.theory.proofs.Restriction.{matrix-arborescence, matrix-total, matrix-proves, matrix-no-entry}
 use Rattle.theory.proofs.TotalLaws.{total-most}
+use Rattle.theory.proofs.Duality.{no-entry}
+use Rattle.theory.proofs.FirstLaws.{first-none, matrix-first}
 use Rattle.theory.proofs.Optimality.{proved-cheapest, shut-outcome}
 use Rattle.edmonds.specs.declared.Planned.{Planned}
 use Rattle.edmonds.specs.Planned.{Planned-matrix}
 use Rattle.usable.specs.Table.{Usable-table}
 use Rattle.usable.proofs.TableLaws.{shut-table}
-use Rattle.survey.specs.Survey.{Parents-by, Parents-shown, Cuts-shown, Surveys}
+use Rattle.survey.specs.Survey.{Cuts-shown, Surveys}
 use Rattle.survey.proofs.WordLaws.{words-again}
 
 -- WHAT THE TEST OF THE TOTAL TELLS
@@ -49,15 +52,7 @@ module _ (v b : ℕ) where
   unfolding limit-at
   limit-most k h l = omega arith
 
-  -- tree and cuts are shown with a total alike, within the budget or over it
-  tree-at : (s : Instance) (ps : List ℕ) → is-arborescence s ps ≡ true → total s ps ≡ v → Parents-shown (outcome-at b (some v)) s ps
-  unfolding outcome-at Parents-by
-  tree-at s ps a e = go (leb v b)
-    where
-      go : (t : Bool) → Parents-shown (cond t (Plan v) (Over v)) s ps
-      go true = (a, e)
-      go false = (a, e)
-
+  -- cuts are shown with a total alike, within the budget or over it
   cuts-at : (s : Instance) (cs : List Cut) → Proves s cs v → Cuts-shown (outcome-at b (some v)) s cs
   unfolding outcome-at Cuts-shown
   cuts-at s cs p = go (leb v b)
@@ -115,15 +110,15 @@ module _ (s : Instance) (small : s .n ≤ max-vertices) (reduced words : List �
     pub found-most : valid-instance s ≡ true → r .total ≤ max-budget
     found-most valid = let most = total-most s valid ps found-tree in omega (arith, same)
 
-    -- an arborescence: its tree and cuts are shown, within the budget or over it
-    pub found-survey : (o : Outcome) (limit : ℕ) (used : List ℕ) → o ≡ outcome-at (s .budget) (some (r .total)) → limit ≡ limit-at (s .budget) (some (r .total)) →
+    -- an arborescence: the first one and the cuts are shown, within the budget or over it
+    pub found-survey : (first : List ℕ) (o : Outcome) (limit : ℕ) (used : List ℕ) → length first ≡ max-vertices → take (s .n) first ≡ first-tree left → o ≡ outcome-at (s .budget) (some (r .total)) → limit ≡ limit-at (s .budget) (some (r .total)) →
         Usable-table (matrix-instance (s .n) (s .root) limit (matrix s)) used →
-        Surveys s (record { outcome = o; parents = r .parents; pairs = r .count; cuts = words; used = used })
-    found-survey o limit used q e table =
+        Surveys s (record { outcome = o; parents = first; pairs = r .count; cuts = words; used = used })
+    found-survey first o limit used size is q e table =
         record {
           result = q ∙ sym found-outcome;
-          places = p .parents-size;
-          parents-found = rw found-outcome (tree-at (r .total) (s .budget) s ps found-tree (sym same));
+          places = size;
+          parents-found = is ∙ matrix-first s small;
           cut-list = cs;
           counted = sym cut-count;
           cuts-found = rw found-outcome (cuts-at (r .total) (s .budget) s cs proves);
@@ -134,7 +129,7 @@ module _ (s : Instance) (small : s .n ≤ max-vertices) (reduced words : List �
   -- no arborescence
   pub none-survey : r .found ≡ false →
       Surveys s (record { outcome = NoTree; parents = replicate max-vertices no-parent; pairs = 1; cuts = set (replicate cut-words 0) 0 (r .set); used = replicate cells 0 })
-  unfolding Parents-by Cuts-shown words-of pair-words
+  unfolding Cuts-shown words-of pair-words
   none-survey f =
       let x : Cut = record { set = r .set; value = 0 } in
       let e = matrix-no-entry s small x .0 (p .no-entry f) in
@@ -142,7 +137,7 @@ module _ (s : Instance) (small : s .n ≤ max-vertices) (reduced words : List �
       record {
         result = sym is;
         places = refl;
-        parents-found = rw is (take-replicate (s .n) max-vertices no-parent small);
+        parents-found = take-replicate (s .n) max-vertices no-parent small ∙ sym (first-none s (λ qs. is-false (is-arborescence s qs) (λ a. no-entry s qs a x e)));
         cut-list = x ∷ [];
         counted = refl;
         cuts-found = rw is (x, refl, e);

@@ -1,6 +1,6 @@
-// Planning an instance: its remaining arcs, a minimum weight arborescence with the cuts that prove its total, and the
-// arcs that some arborescence uses within the larger of the budget and the cheapest total. No card and no board can be
-// seen from here.
+// Planning an instance: its remaining arcs, a minimum weight arborescence with the cuts that prove its total, the first
+// such arborescence, and the arcs that some arborescence uses within the larger of the budget and the cheapest total. No
+// card and no board can be seen from here.
 ghost use mathlib.Core.Path.{_≡_};
 ghost use mathlib.Core.Bool.{true};
 ghost use mathlib.Core.Option.{some};
@@ -11,6 +11,7 @@ ghost use Rattle.instance.specs.Instance.{instance-with};
 ghost use Rattle.instance.specs.States.{outcome-at as outcome-by, limit-at as limit-by};
 ghost use Rattle.instance.specs.declared.Outcome.the-variants as outcomes;
 ghost use Rattle.survey.specs.Survey.{Surveys};
+use first_tree::first_tree;
 use instance::Outcome;
 use instance::Vertex;
 use instance::limits::CELLS;
@@ -81,12 +82,13 @@ pub fn plan_instance<'a>(
     if !p.found {
         return no_tree(p.set);
     }
-    let parents = p.parents;
+    let found = p.parents;
     let total = p.total;
     let pairs = p.count;
+    let parents = first_tree(&m, &reduced, &cuts, found, n, root, total, pairs);
     let outcome = outcome_at(budget, total);
     let limit = limit_at(budget, total);
-    let used = usable_arcs(&m, &reduced, &parents, n, root, total, limit);
+    let used = usable_arcs(&m, &reduced, &found, n, root, total, limit);
     Survey {
         outcome,
         parents,

@@ -6,7 +6,7 @@
 -- parent; the root is met, which is outside, so some arc on the way has its head inside and its tail outside. So each
 -- cut charges some arc of the arborescence with its value, and by feasibility no arc is charged with more than its
 -- weight.
-use mathlib.Core.Path.{_≡_, subst}
+use mathlib.Core.Path.{_≡_, _∙_, subst}
 use mathlib.Core.Bool.{true, false, _&&_, not, cond}
 use mathlib.Core.List.{List, [], _∷_}
 use mathlib.Core.Logic.{⊎-elim, _≢_}
@@ -83,38 +83,44 @@ module _ (s : Instance) (ps : List ℕ) (a : is-arborescence s ps ≡ true) wher
       let at = parent ps (x .v) in
       not-both (enters (c .set) at (x .v)) (simp (x .out, x .into)) (e .shut at (x .v) (joined s ps a (x .v) (x .below) (x .not-root) .arc))
 
-  -- what each arc of the arborescence costs, and what it is charged
-  abbrev cost : ℕ → ℕ
+  -- what each arc of the arborescence costs, and what it is charged, by all cuts and by one
+  abbrev pub cost : ℕ → ℕ
   cost v = cond (eqb v (s .root)) 0 (weight s (parent ps v) v)
 
-  abbrev paid : List Cut → ℕ → ℕ
+  abbrev pub paid : List Cut → ℕ → ℕ
   paid cs v = cond (eqb v (s .root)) 0 (charged cs (parent ps v) v)
 
-  abbrev share : Cut → ℕ → ℕ
+  abbrev pub share : Cut → ℕ → ℕ
   share c v = cond (eqb v (s .root)) 0 (cond (enters (c .set) (parent ps v) v) (c .value) 0)
 
   -- each cut is paid at least once
-  share-here : (c : Cut) (x : Entering-arc (c .set)) → share c (x .v) ≡ c .value
+  pub share-once : (c : Cut) → set-ok s (c .set) ≡ true → c .value ≤ sum-below (s .n) (share c)
   unfolding enters
-  share-here c x = simp (x .not-root, x .out, x .into)
+  share-once c ok =
+      let x = entering-arc (c .set) ok in
+      let here : share c (x .v) ≡ c .value = simp (x .not-root, x .out, x .into) in
+      let room = sum-room (s .n) (λ v. 0) (share c) (λ v l. omega arith) (x .v) (x .below) in
+      let none = sum-zero (s .n) in
+      omega arith
 
-  values-paid : (cs : List Cut) → sets-ok s cs ≡ true → values cs ≤ sum-below (s .n) (paid cs)
-  unfolding charged values sets-ok
+  pub paid-more : (c : Cut) (cs : List Cut) → sum-below (s .n) (paid (c ∷ cs)) ≡ sum-below (s .n) (share c) + sum-below (s .n) (paid cs)
+  unfolding charged
+  paid-more c cs =
+      sum-eq (s .n) (paid (c ∷ cs)) (λ v. share c v + paid cs v)
+      (λ v l. cond-add (eqb v (s .root)) (cond (enters (c .set) (parent ps v) v) (c .value) 0) (charged cs (parent ps v) v))
+      ∙ sum-add (s .n) (share c) (paid cs)
+
+  pub values-paid : (cs : List Cut) → sets-ok s cs ≡ true → values cs ≤ sum-below (s .n) (paid cs)
+  unfolding values sets-ok
   values-paid [] ok = omega arith
   values-paid (c ∷ cs) ok =
       let rest = values-paid cs (and-right (set-ok s (c .set)) (sets-ok s cs) ok) in
-      let x = entering-arc (c .set) (and-left (set-ok s (c .set)) (sets-ok s cs) ok) in
-      let here = share-here c x in
-      let room = sum-room (s .n) (λ v. 0) (share c) (λ v l. omega arith) (x .v) (x .below) in
-      let none = sum-zero (s .n) in
-      let add = sum-add (s .n) (share c) (paid cs) in
-      let split =
-      sum-eq (s .n) (paid (c ∷ cs)) (λ v. share c v + paid cs v)
-      (λ v l. cond-add (eqb v (s .root)) (cond (enters (c .set) (parent ps v) v) (c .value) 0) (charged cs (parent ps v) v)) in
+      let once = share-once c (and-left (set-ok s (c .set)) (sets-ok s cs) ok) in
+      let more = paid-more c cs in
       omega arith
 
   module _ (cs : List Cut) (f : Feasible s cs) where
-    paid-cost : (v : ℕ) → v < s .n → paid cs v ≤ cost v
+    pub paid-cost : (v : ℕ) → v < s .n → paid cs v ≤ cost v
     paid-cost v l =
         cond-le (eqb v (s .root)) (charged cs (parent ps v) v) (weight s (parent ps v) v) (λ e. f .covered (parent ps v) v (joined s ps a v l e .arc))
 

@@ -1,4 +1,5 @@
 -- What is proved about the problem. Assumes nothing.
+pub mod OrderLaws
 pub mod MarkLaws
 pub mod CandidateLaws
 pub mod OutcomeLaws
@@ -15,3 +16,5 @@ pub mod Forced
 pub mod OutcomeStates
 pub mod SameOutcomes
 pub mod MatrixInstances
+pub mod FirstLaws
+pub mod Slackness

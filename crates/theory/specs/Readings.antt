@@ -1,4 +1,4 @@
--- Document 01's words on outcomes and link states, as 02 amends them, read as statements about all lists of parents,
+-- Document 01's words on outcomes, link states and the feeder list, as 02 amends them, read as statements about all lists of parents,
 -- where `instance` computes them from a listing. The theorems that the two agree are in proofs/. Assumes nothing: these
 -- are definitions.
 use mathlib.Core.Path.{_≡_}
@@ -13,6 +13,7 @@ use Rattle.instance.specs.Arborescence.{is-arborescence, total, uses}
 use Rattle.instance.specs.declared.Outcome.{Outcome}
 use Rattle.instance.specs.declared.Outcome.the-variants.{Plan, Over, NoTree}
 use Rattle.instance.specs.States.{fits}
+use Rattle.theory.specs.Order.{Same-or-before}
 
 -- KINDS OF LISTS
 -- a feed tree "within budget"
@@ -74,3 +75,10 @@ pub record Outcome-reads (s : Instance) (o : Outcome) : Type 0 where
   pub plans : (v : ℕ) → (o ≡ Plan v) ↔ (Least-total s v × (v ≤ s .budget))
   pub exceeds : (v : ℕ) → (o ≡ Over v) ↔ (Least-total s v × (s .budget < v))
   pub fails : (o ≡ NoTree) ↔ No-arborescence s
+
+-- ps is "among all cheapest feed trees, the first when compared position by position" (02, A10): an arborescence; none
+-- is cheaper; and each that is as cheap is ps or comes after it
+pub record First-reads (s : Instance) (ps : List ℕ) : Type 0 where
+  pub arborescence : is-arborescence s ps ≡ true
+  pub least : (qs : List ℕ) → is-arborescence s qs ≡ true → total s ps ≤ total s qs
+  pub first : (qs : List ℕ) → is-arborescence s qs ≡ true → total s qs ≡ total s ps → Same-or-before ps qs

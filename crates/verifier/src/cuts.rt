@@ -15,6 +15,7 @@ ghost use Rattle.certificate.specs.Certificate.{covered, none-overcharged};
 ghost use Rattle.verifier.specs.Selected.{Selects, covered-into};
 use checks::arc::is_arc;
 use checks::sets::is_below;
+use checks::sets::is_entering;
 use checks::sets::is_inside;
 use instance::limits::CELLS;
 use instance::limits::CUT_WORDS;
@@ -50,17 +51,6 @@ pub fn are_cuts(cuts: &[u32], n: u32, root: u32, count: u32) -> bool
         k += 1;
     }
     true
-}
-
-// Whether an arc enters a set.
-fn is_entering(set: u32, tail: u32, head: u32) -> bool
-    requires { ⌜ (tail < max-vertices) × (head < max-vertices) ⌝ }
-    ensures { λ r. ⌜ r ≡ enters set tail head ⌝ }
-{
-    if is_inside(set, tail) {
-        return false;
-    }
-    is_inside(set, head)
 }
 
 // Some of the cuts, as pairs from the front on.

@@ -9,7 +9,7 @@ use Rattle.instance.specs.Limits.{max-vertices}
 use Rattle.instance.specs.Matrix.{unmarked}
 use Rattle.commands.specs.Heads.{names-arc, heads-of}
 use Rattle.base.proofs.DigitLaws.{digits-none}
-use Rattle.heads.proofs.LoopLaws.{head-fits, head-more, head-skip}
+use Rattle.instance.proofs.SetBits.{set-fits, set-more, set-skip}
 use Rattle.heads.proofs.arcs.arc_heads.Statement.{statement}
 use Rattle.heads.proofs.arcs.arc_heads.Tie as tie
 
@@ -31,7 +31,7 @@ shl-arcs c = omega arith
 
 add-arcs : tie.Need-add-arcs Inv-loop μ-loop
 add-arcs c = let a = c .before .before .before .before .args in
-    record { fits = head-fits (names-arc (unmarked (a .n) (a .root) (a .weights .now)) (a .tail) (a .heads)) _ _ (omega arith) (c .before .before .before .loop .inv .1) }
+    record { fits = set-fits (names-arc (unmarked (a .n) (a .root) (a .weights .now)) (a .tail) (a .heads)) _ _ (omega arith) (c .before .before .before .loop .inv .1) }
 
 add-head : tie.Need-add-head Inv-loop μ-loop
 add-head c = omega arith
@@ -46,8 +46,8 @@ loop-again c =
     let q = names-arc (unmarked (a .n) (a .root) (a .weights .now)) (a .tail) (a .heads) in
     let r = c .before .names-arc .ensures in (
       omega arith,
-      ⊎-elim (λ w. rw (w .1) (head-more q _ _ (omega arith) (l .inv .1) (sym r ∙ w .0 .taken)))
-          (λ w. rw (w .1) (head-skip q _ _ (omega arith) (l .inv .1) (sym r ∙ w .0 .left))) (c .if1 .came),
+      ⊎-elim (λ w. rw (w .1) (set-more q _ _ (omega arith) (l .inv .1) (sym r ∙ w .0 .taken)))
+          (λ w. rw (w .1) (set-skip q _ _ (omega arith) (l .inv .1) (sym r ∙ w .0 .left))) (c .if1 .came),
     )
 
 returns : tie.Need-returns Inv-loop μ-loop

@@ -2,8 +2,8 @@
 use mathlib.Core.Path.{sym, _∙_}
 use borrow.Author.Needs.{needs}
 use Rattle.instance.specs.Cuts.{enters}
-use Rattle.verifier.proofs.cuts.is_entering.Statement.{statement}
-use Rattle.verifier.proofs.cuts.is_entering.Tie as tie
+use Rattle.checks.proofs.sets.is_entering.Statement.{statement}
+use Rattle.checks.proofs.sets.is_entering.Tie as tie
 
 is-inside-requires : tie.Need-is-inside-requires
 is-inside-requires c κs = search needs

@@ -1,6 +1,8 @@
 -- The order of lists of parents: "in ascending order of the feeder list, compared position by position, each once" (02,
--- A7). Assumes nothing: these are definitions.
+-- A7), "the first when compared position by position" (02, A10). Assumes nothing: these are definitions.
+use mathlib.Core.Path.{_≡_}
 use mathlib.Core.List.{List, [], _∷_}
+use mathlib.Core.Logic.{_⊎_}
 use Prim.Native.Nat.{ℕ, _<_}
 
 -- the first list comes before the second: it has the smaller number at the first position where they differ
@@ -17,3 +19,7 @@ pub data Before-all (xs : List ℕ) : List (List ℕ) → Type 0 where
 pub data Ascending : List (List ℕ) → Type 0 where
   empty : Ascending []
   next : {xs : List ℕ} {xss : List (List ℕ)} → Before-all xs xss → Ascending xss → Ascending (xs ∷ xss)
+
+-- the second list is the first, or comes after it
+abbrev pub Same-or-before : List ℕ → List ℕ → Type 0
+Same-or-before xs ys = (xs ≡ ys) ⊎ Before xs ys

@@ -1,23 +1,24 @@
 -- The order of lists of parents: no list comes before itself, and no two before one another. The candidates ascend, and
--- so do those that are selected from them, and the first ones of a list that ascends; so the trees of a walk do, and no
--- two of them are alike.
--- Assumes nothing.
-use mathlib.Core.Path.{_≡_, refl, sym, subst}
-use mathlib.Core.Bool.{Bool, true, false, cond}
+-- so do those that are selected from them, and the first ones of a list that ascends; no two of such a list are alike,
+-- and its first comes before all others. Assumes nothing.
+use mathlib.Core.Path.{_≡_, refl, sym, ap, subst}
+use mathlib.Core.Bool.{Bool, true, false, _&&_, _||_, cond, true≢false}
 use mathlib.Core.List.{List, [], _∷_, _++_, map}
-use mathlib.Core.Logic.{_⊎_, inl, inr, _≢_}
+use mathlib.Core.Logic.{_⊎_, inl, inr, ⊎-elim, _≢_}
 use Prim.Native.Nat.{ℕ, zero, suc, _≤_, _<_}
 use native.Mathlib.Omega.{arith}
-use lib.Dec.{eqb}
+use native.Mathlib.Nat.{eq-or-lt-of-le}
+use lib.Dec.{ltb, eqb}
 use lib.ListN.{length, getD, take}
-use Rattle.base.specs.Lists.{tabulate, tabulate-from, select}
-use Rattle.instance.specs.Limits.{max-vertices, no-parent}
+use borrow.Author.Tests.{ltb-true, lt-ltb, eqb-true, eq-eqb}
+use Rattle.base.specs.Lists.{tabulate, tabulate-from, select, all-of}
+use Rattle.base.proofs.BoolLaws.{and-left, and-right, and-both, or-cases, or-left, or-right}
+use Rattle.instance.specs.Limits.{no-parent}
 use Rattle.instance.specs.Instance.{Instance}
-use Rattle.instance.specs.Candidates.{prefixed, choices, candidates-from, candidates}
+use Rattle.instance.specs.Arborescence.{is-arborescence}
+use Rattle.instance.specs.Candidates.{prefixed, choices, candidates-from, candidates, arborescences}
 use Rattle.instance.specs.States.{fits, fitting}
-use Rattle.enumeration.specs.Walk.{walked}
-use Rattle.enumeration.specs.Order.{Before, here, there, Before-all, none, also, Ascending, empty, next}
-use Rattle.enumeration.proofs.WalkLaws.{trees-first}
+use Rattle.theory.specs.Order.{Before, here, there, Before-all, none, also, Ascending, empty, next, Same-or-before}
 
 -- ONE WAY ONLY
 -- the order of two lists, read at their fronts
@@ -38,6 +39,64 @@ before-once (x ∷ xs) (y ∷ ys) a b = at (before-once xs ys) (front-reads a) (
 
 pub before-irreflexive : (xs : List ℕ) → Before xs xs → ⊥
 before-irreflexive xs b = before-once xs xs b b
+
+pub both-same : (xs ys : List ℕ) → Same-or-before xs ys → Same-or-before ys xs → xs ≡ ys
+both-same xs ys (inl e) q = e
+both-same xs ys (inr b) (inl e) = sym e
+both-same xs ys (inr b) (inr c) = absurd (before-once xs ys b c)
+
+-- WHERE TWO LISTS FIRST DIFFER
+-- one number more in front of both
+more-front : (x y : ℕ) (xs ys : List ℕ) → x ≡ y → Same-or-before xs ys → Same-or-before (x ∷ xs) (y ∷ ys)
+more-front x y xs ys e r =
+    subst (λ (z : ℕ). Same-or-before (x ∷ xs) (z ∷ ys)) e
+    (⊎-elim (λ (q : xs ≡ ys). inl (ap (λ (l : List ℕ). x ∷ l) q)) (λ (b : Before xs ys). inr (there b)) r)
+
+-- of one length, and at each place up to which they agree the first has the smaller number or the same
+pub first-differ : (d : ℕ) (xs ys : List ℕ) → length xs ≡ length ys
+    → ((u : ℕ) → u < length xs → ((w : ℕ) → w < u → getD xs w d ≡ getD ys w d) → getD xs u d ≤ getD ys u d) → Same-or-before xs ys
+first-differ d [] [] e h = inl refl
+first-differ d [] (y ∷ ys) e h = absurd (omega arith)
+first-differ d (x ∷ xs) [] e h = absurd (omega arith)
+first-differ d (x ∷ xs) (y ∷ ys) e h =
+    ⊎-elim
+    (λ (q : x ≡ y).
+    more-front x y xs ys q (first-differ d xs ys (omega arith) (λ u l g. h (suc u) (omega arith) (λ w m. at q u g w m))))
+    (λ (l : x < y). inr (here l)) (eq-or-lt-of-le (h 0 (omega arith) (λ w m. absurd (omega arith))))
+  where
+    at : x ≡ y → (u : ℕ) → ((w : ℕ) → w < u → getD xs w d ≡ getD ys w d) → (w : ℕ) → w < suc u → getD (x ∷ xs) w d ≡ getD (y ∷ ys) w d
+    at q u g zero m = q
+    at q u g (suc w) m = g w (omega arith)
+
+-- A TEST FOR IT, so that it can be asked of every list that is selected
+unfoldable pub same-or-before : List ℕ → List ℕ → Bool
+same-or-before [] [] = true
+same-or-before [] (y ∷ ys) = false
+same-or-before (x ∷ xs) [] = false
+same-or-before (x ∷ xs) (y ∷ ys) = ltb x y || (eqb x y && same-or-before xs ys)
+
+same-passes : (xs : List ℕ) → same-or-before xs xs ≡ true
+unfolding same-or-before
+same-passes [] = refl
+same-passes (x ∷ xs) =
+    or-right (ltb x x) (eqb x x && same-or-before xs xs) (and-both (eqb x x) (same-or-before xs xs) (eq-eqb x x refl) (same-passes xs))
+
+before-passes : {xs ys : List ℕ} → Before xs ys → same-or-before xs ys ≡ true
+unfolding same-or-before
+before-passes (here {x = x} {y = y} {xs = xs} {ys = ys} l) = or-left (ltb x y) (eqb x y && same-or-before xs ys) (lt-ltb x y l)
+before-passes (there {x = x} {xs = xs} {ys = ys} b) =
+    or-right (ltb x x) (eqb x x && same-or-before xs ys) (and-both (eqb x x) (same-or-before xs ys) (eq-eqb x x refl) (before-passes b))
+
+pub passes-reads : (xs ys : List ℕ) → same-or-before xs ys ≡ true → Same-or-before xs ys
+unfolding same-or-before
+passes-reads [] [] e = inl refl
+passes-reads [] (y ∷ ys) e = absurd (true≢false (sym e))
+passes-reads (x ∷ xs) [] e = absurd (true≢false (sym e))
+passes-reads (x ∷ xs) (y ∷ ys) e =
+    ⊎-elim (λ (l : ltb x y ≡ true). inr (here (ltb-true x y l)))
+    (λ (q : eqb x y && same-or-before xs ys ≡ true).
+    more-front x y xs ys (eqb-true x y (and-left (eqb x y) (same-or-before xs ys) q)) (passes-reads xs ys (and-right (eqb x y) (same-or-before xs ys) q)))
+    (or-cases (ltb x y) (eqb x y && same-or-before xs ys) e)
 
 -- SOME OF A LIST THAT ASCENDS
 module _ (q : List ℕ → Bool) where
@@ -111,15 +170,13 @@ module _ (s : Instance) where
   unfolding candidates
   candidates-ascending = candidates-from-ascending (s .n) 0
 
+  pub arborescences-ascending : Ascending (arborescences s)
+  unfolding arborescences
+  arborescences-ascending = select-ascending (is-arborescence s) candidates-ascending
+
   pub fitting-ascending : Ascending (fitting s)
   unfolding fitting
   fitting-ascending = select-ascending (fits s) candidates-ascending
-
--- THE TREES OF A WALK, whatever its limit and its room
-pub trees-ascending : (s : Instance) (limit room : ℕ) → s .root < s .n → s .n ≤ max-vertices → Ascending (walked s limit room .trees)
-trees-ascending s limit room root-below small =
-    subst (λ (pss : List (List ℕ)). Ascending pss) (sym (trees-first s limit room root-below small))
-    (take-ascending (length (walked s limit room .trees)) (fitting-ascending s))
 
 -- EACH ONCE: no two of an ascending list are alike
 before-at : {xs : List ℕ} {xss : List (List ℕ)} → Before-all xs xss → (j : ℕ) → j < length xss → Before xs (getD xss j [])
@@ -133,3 +190,15 @@ ascending-once (next b a) i zero l m e = omega arith
 ascending-once (next {xs = xs} {xss = xss} b a) zero (suc j) l m e =
     before-irreflexive xs (subst (λ (ys : List ℕ). Before xs ys) (sym e) (before-at b j (omega arith)))
 ascending-once (next b a) (suc i) (suc j) l m e = ascending-once a i j (omega arith) (omega arith) e
+
+-- THE FIRST of an ascending list: each of the list is it, or comes after it
+all-pass : {xs : List ℕ} {xss : List (List ℕ)} → Before-all xs xss → all-of (same-or-before xs) xss ≡ true
+unfolding all-of
+all-pass none = refl
+all-pass {xs} (also {ys = ys} {yss = yss} b r) = and-both (same-or-before xs ys) (all-of (same-or-before xs) yss) (before-passes b) (all-pass r)
+
+pub first-passes : {xss : List (List ℕ)} (d : List ℕ) → Ascending xss → all-of (same-or-before (getD xss 0 d)) xss ≡ true
+unfolding all-of
+first-passes d empty = refl
+first-passes d (next {xs = xs} {xss = xss} b a) =
+    and-both (same-or-before xs xs) (all-of (same-or-before xs) xss) (same-passes xs) (all-pass b)

@@ -1,0 +1,74 @@
+-- The sets of tails that the search starts with: they have the arcs of reduced cost 0 and no others. Assumes nothing.
+use mathlib.Core.Path.{_≡_, sym, ap, _∙_}
+use mathlib.Core.Bool.{Bool, true, false, _&&_, cond}
+use mathlib.Core.List.{List}
+use mathlib.Core.Logic.{⊎-elim}
+use Prim.Native.Nat.{ℕ, _^_, _≤_, _<_}
+use native.Mathlib.Omega.{arith}
+use native.Mathlib.Nat.{zero-lt-suc}
+use lib.Dec.{ltb, eqb}
+use lib.ListN.{getD, replicate, length-replicate}
+use lib.Pow.{pow-pos}
+use borrow.Author.Tests.{ltb-true, ltb-false, eq-eqb}
+use Rattle.base.proofs.BoolLaws.{test, not-both, and-right, and-both}
+use Rattle.base.proofs.ListLaws.{replicate-at}
+use Rattle.base.proofs.DigitLaws.{digits-below}
+use Rattle.base.proofs.OverwriteLaws.{Overwritten, overwrite-none}
+use Rattle.instance.specs.Limits.{max-vertices}
+use Rattle.instance.specs.Instance.{cell, is-arc}
+use Rattle.instance.specs.Arborescence.{remaining}
+use Rattle.instance.specs.Cuts.{inside}
+use Rattle.instance.specs.Matrix.{unmarked}
+use Rattle.instance.proofs.ArcLaws.{remaining-ends, unmarked-remaining}
+use Rattle.instance.proofs.SetBits.{bit-small, inside-none, inside-below, inside-digits}
+use Rattle.first_tree.specs.Tails.{kept-by, Tails-ok, tight, tight-set, Tight-tails}
+
+module _ (m reduced : List ℕ) (n root : ℕ) where
+  -- FILLED from the front
+  pub tails-none : Overwritten max-vertices (replicate max-vertices 0) (replicate max-vertices 0) (tight-set m reduced n root n) 0
+  tails-none = overwrite-none (replicate max-vertices 0) (tight-set m reduced n root n) (length-replicate {A = ℕ} max-vertices 0)
+
+  pub tails-all : (zs : List ℕ) → Overwritten max-vertices (replicate max-vertices 0) zs (tight-set m reduced n root n) n → Tight-tails m reduced n root zs
+  tails-all zs o = record { size = o .size; into = o .done; rest = λ h l. o .rest h l ∙ replicate-at max-vertices h 0 }
+
+  -- WHAT IS IN THEM
+  set-below : (h : ℕ) → tight-set m reduced n root n h < 2 ^ n
+  unfolding tight-set
+  set-below h = digits-below 2 n (λ t. cond (tight m reduced n root t h) 1 0) (zero-lt-suc 1) (λ t _. bit-small (tight m reduced n root t h))
+
+  set-has : (t h : ℕ) → t < n → inside (tight-set m reduced n root n h) t ≡ tight m reduced n root t h
+  unfolding tight-set
+  set-has t h l = inside-digits n (λ u. tight m reduced n root u h) t l
+
+  module _ (zs : List ℕ) (k : Tight-tails m reduced n root zs) where
+    kept-has : (t h : ℕ) → t < n → h < n → kept-by zs t h ≡ tight m reduced n root t h
+    kept-has t h l b = ap (λ (c : ℕ). inside c t) (k .into h b) ∙ set-has t h l
+
+    kept-tail : (t h : ℕ) → h < n → kept-by zs t h ≡ true → t < n
+    kept-tail t h b e = inside-below n (tight-set m reduced n root n h) t (set-below h) (sym (ap (λ (c : ℕ). inside c t) (k .into h b)) ∙ e)
+
+    kept-head : (t h : ℕ) → kept-by zs t h ≡ true → h < n
+    kept-head t h e =
+        ⊎-elim (λ (b : ltb h n ≡ true). ltb-true h n b)
+        (λ (b : ltb h n ≡ false).
+        absurd (not-both (kept-by zs t h) e (ap (λ (c : ℕ). inside c t) (k .rest h (ltb-false h n b)) ∙ inside-none 0 t (pow-pos t)))) (test (ltb h n))
+
+    pub tight-ok : Tails-ok (unmarked n root m) zs
+    unfolding tight
+    tight-ok =
+        record {
+          size = k .size;
+          arcs =
+              λ t h e.
+              let b = kept-head t h e in
+              let l = kept-tail t h b e in
+              unmarked-remaining n root m t h
+              ∙ and-right (eqb (getD reduced (cell t h) 0) 0) (is-arc (unmarked n root m) t h) (sym (kept-has t h l b) ∙ e);
+        }
+
+    pub tight-kept : (t h : ℕ) → remaining (unmarked n root m) t h ≡ true → getD reduced (cell t h) 0 ≡ 0 → kept-by zs t h ≡ true
+    unfolding tight unmarked
+    tight-kept t h r z =
+        let end = remaining-ends (unmarked n root m) t h r in
+        kept-has t h (end .tail-below) (end .head-below)
+        ∙ and-both (eqb (getD reduced (cell t h) 0) 0) (is-arc (unmarked n root m) t h) (eq-eqb (getD reduced (cell t h) 0) 0 z) (sym (unmarked-remaining n root m t h) ∙ r)
