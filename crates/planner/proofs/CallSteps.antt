@@ -9,8 +9,10 @@ use Rattle.base.proofs.FrontLaws.{front-length, front-take, front-drop}
 use Rattle.instance.specs.Limits.{max-vertices, cut-words}
 use Rattle.instance.specs.Instance.{Instance}
 use Rattle.instance.specs.Cuts.{words-of}
-use Rattle.instance.specs.States.{shows-tree, total-in, outcome, states}
+use Rattle.instance.specs.Candidates.{first-tree}
+use Rattle.instance.specs.States.{outcome, states}
 use Rattle.theory.proofs.StateLaws.{states-read}
+use Rattle.theory.proofs.FirstLaws.{first-size}
 use Rattle.commands.specs.Commands.{Command, Result, applied, answered}
 use Rattle.commands.specs.Valid.{valid}
 use Rattle.commands.specs.Log.{Log, note, unnoted}
@@ -22,7 +24,7 @@ use Rattle.commands.proofs.LogLaws.{Tied, step-tied}
 use Rattle.commands.proofs.ValidLaws.{valid-parts}
 use Rattle.commands.proofs.AnsweredLaws.{answered-applied}
 use Rattle.board.proofs.CallLaws.{call-board, call-answer, call-valid, call-changes}
-use Rattle.survey.proofs.ShownLaws.{parents-length, words-length}
+use Rattle.survey.proofs.ShownLaws.{words-length}
 use Rattle.planner.specs.declared.View.{View}
 use Rattle.planner.specs.Looking.{Buffers, answer-of, short-for, Shows, Looks-at, Looks}
 use Rattle.planner.specs.Replaying.{Call, command, look, write, log-call, Makes}
@@ -64,15 +66,12 @@ pub shown-answer : (s : Instance) (v : View) (old new : Buffers) → Shows s old
 shown-answer s v old new x = ap answer-of (x .result)
 
 module _ (s : Instance) (v : View) (old new : Buffers) (x : Shows s old new v) where
-  pub tree-long : length (x .tree) ≡ s .n
-  tree-long = parents-length (shows-tree (outcome s)) (total-in (outcome s)) s (x .tree) (x .tree-shown)
-
   pub words-long : s .n ≤ max-vertices → length (words-of (x .cut-list)) ≡ cut-words
   words-long small = words-length (outcome s) s (x .cut-list) small (x .cuts-shown)
 
   -- what stands in the places that it fills
-  pub tree-front : take (s .n) (new .parents) ≡ x .tree
-  tree-front = ap (take (s .n)) (x .parents-buffer) ∙ front-take (x .tree) (old .parents) (s .n) tree-long
+  pub tree-front : take (s .n) (new .parents) ≡ first-tree s
+  tree-front = ap (take (s .n)) (x .parents-buffer) ∙ front-take (first-tree s) (old .parents) (s .n) (first-size s)
 
   pub states-front : take (s .n * s .n) (new .states) ≡ states s
   states-front = ap (take (s .n * s .n)) (x .states-buffer) ∙ front-take (states s) (old .states) (s .n * s .n) (states-read s .size)
@@ -85,10 +84,10 @@ module _ (s : Instance) (v : View) (old new : Buffers) (x : Shows s old new v) w
       let size = states-read s .size in
       let words = words-long small in
       record {
-        parents-long = ap length (x .parents-buffer) ∙ front-length (x .tree) (old .parents) (omega (arith, tree-long, r .for-parents));
+        parents-long = ap length (x .parents-buffer) ∙ front-length (first-tree s) (old .parents) (omega (arith, first-size s, r .for-parents));
         states-long = ap length (x .states-buffer) ∙ front-length (states s) (old .states) (omega (arith, size, r .for-states));
         cuts-long = ap length (x .cuts-buffer) ∙ front-length (words-of (x .cut-list)) (old .cuts) (omega (arith, words, r .for-cuts));
-        parents-after = ap (drop (s .n)) (x .parents-buffer) ∙ front-drop (x .tree) (old .parents) (s .n) tree-long;
+        parents-after = ap (drop (s .n)) (x .parents-buffer) ∙ front-drop (first-tree s) (old .parents) (s .n) (first-size s);
         states-after = ap (drop (s .n * s .n)) (x .states-buffer) ∙ front-drop (states s) (old .states) (s .n * s .n) size;
         cuts-after = ap (drop cut-words) (x .cuts-buffer) ∙ front-drop (words-of (x .cut-list)) (old .cuts) cut-words words;
       }

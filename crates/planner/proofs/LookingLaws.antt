@@ -3,7 +3,6 @@ use mathlib.Core.Path.{_≡_, refl, ap, _∙_}
 use mathlib.Core.Bool.{true, false, _||_}
 use mathlib.Core.List.{List}
 use Prim.Native.Nat.{ℕ, _*_, _≤_}
-use lib.ListN.{take}
 use lib.Dec.{ltb}
 use borrow.Author.Tests.{ltb-false}
 use Rattle.base.specs.Lists.{in-front}
@@ -30,12 +29,10 @@ pub shows :
     Shows s old new (Shown (r .outcome) (r .pairs))
 shows s r old new f d right =
     record {
-      tree = take (s .n) (r .parents);
       cut-list = f .cut-list;
       result = λ i. Shown (f .result i) (f .counted i);
-      tree-shown = f .parents-found;
       cuts-shown = f .cuts-found;
-      parents-buffer = d .parents;
+      parents-buffer = d .parents ∙ ap (λ (l : List ℕ). in-front l (old .parents)) (f .parents-found);
       states-buffer = d .states ∙ ap (λ (l : List ℕ). in-front l (old .states)) right;
       cuts-buffer = d .cuts ∙ ap (λ (l : List ℕ). in-front l (old .cuts)) (f .words);
     }

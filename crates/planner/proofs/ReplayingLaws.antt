@@ -18,9 +18,11 @@ use Rattle.base.proofs.PartLaws.{drop-later}
 use Rattle.instance.specs.Limits.{max-vertices, cut-words}
 use Rattle.instance.specs.Refusals.{buffer-short}
 use Rattle.instance.specs.Instance.{Instance}
+use Rattle.instance.specs.Candidates.{first-tree}
 use Rattle.instance.specs.States.{states}
 use Rattle.instance.specs.Cuts.{words-of}
 use Rattle.theory.proofs.StateLaws.{states-read}
+use Rattle.theory.proofs.FirstLaws.{first-size}
 use Rattle.commands.specs.Valid.{valid}
 use Rattle.commands.specs.Log.{Log}
 use Rattle.commands.specs.Effective.{effective}
@@ -34,7 +36,7 @@ use Rattle.planner.specs.declared.View.{View}
 use Rattle.planner.specs.declared.View.the-variants.{Refused}
 use Rattle.planner.specs.Looking.{Buffers, short-for, Shows, Looks}
 use Rattle.planner.specs.Replaying.{Call, call, calls, log-in, log-call, call-answers, calls-after, Makes, lists-short, Replays-at, Replays}
-use Rattle.planner.proofs.CallSteps.{Since, since-same, since-then, tree-long, words-long, looks-long, Call-step, call-step}
+use Rattle.planner.proofs.CallSteps.{Since, since-same, since-then, words-long, looks-long, Call-step, call-step}
 
 -- the calls from place i on
 abbrev from : (ks fs gs : List ℕ) → (i : ℕ) → List Call
@@ -123,12 +125,10 @@ shows-since s v old mid new small e x =
     let same : (k : ℕ) (l a b : List ℕ) → length l ≡ k → drop k a ≡ drop k b → in-front l a ≡ in-front l b =
     λ k l a b n q. sym (front-is l a k n) ∙ ap (λ (r : List ℕ). l ++ r) q ∙ front-is l b k n in
     record {
-      tree = x .tree;
       cut-list = x .cut-list;
       result = x .result;
-      tree-shown = x .tree-shown;
       cuts-shown = x .cuts-shown;
-      parents-buffer = x .parents-buffer ∙ same (s .n) (x .tree) (mid .parents) (old .parents) (tree-long s v mid new x) (e .parents-after);
+      parents-buffer = x .parents-buffer ∙ same (s .n) (first-tree s) (mid .parents) (old .parents) (first-size s) (e .parents-after);
       states-buffer = x .states-buffer ∙ same (s .n * s .n) (states s) (mid .states) (old .states) (states-read s .size) (e .states-after);
       cuts-buffer = x .cuts-buffer ∙ same cut-words (words-of (x .cut-list)) (mid .cuts) (old .cuts) (words-long s v mid new x small) (e .cuts-after);
     }

@@ -1,7 +1,7 @@
--- What a look yields. Unique, and so an equation: the outcome with its total, the states, every refusal, and all that
--- stands after the filled places. Free, each with what holds of it: the arborescence that is shown, the cuts and how
--- many they are, the set that no arc enters; each is named here, and the buffers are equations with it. Assumes
--- nothing: these are definitions.
+-- What a look yields. Unique, and so an equation: the outcome with its total, the parents, the states, every refusal,
+-- and all that stands after the filled places. Free, with what holds of them: the cuts and how many they are, the set
+-- that no arc enters; they are named here, and their buffer is an equation with them. Assumes nothing: these are
+-- definitions.
 use mathlib.Core.Path.{_≡_}
 use mathlib.Core.Bool.{Bool, true, false, _||_}
 use mathlib.Core.List.{List}
@@ -12,12 +12,13 @@ use Rattle.base.specs.Lists.{in-front}
 use Rattle.instance.specs.Limits.{cut-words}
 use Rattle.instance.specs.Refusals.{buffer-short, invalid-board}
 use Rattle.instance.specs.Instance.{Instance}
+use Rattle.instance.specs.Candidates.{first-tree}
 use Rattle.instance.specs.States.{outcome, states}
 use Rattle.instance.specs.Cuts.{Cut, words-of}
 use Rattle.commands.specs.Valid.{valid}
 use Rattle.board.specs.ModelOf.{model-of, instance-of}
 use Rattle.board.specs.declared.Board.{Board}
-use Rattle.survey.specs.Survey.{Parents-shown, Cuts-shown}
+use Rattle.survey.specs.Survey.{Cuts-shown}
 use Rattle.planner.specs.declared.View.{View}
 use Rattle.planner.specs.declared.View.the-variants.{Shown, Refused}
 
@@ -46,12 +47,11 @@ short-for n x = too-short n (length (x .parents)) (length (x .states)) (length (
 -- total; none"; "the number of pairs is in the result"; "the first n bytes", "the first n times n bytes, feeder by
 -- feeder", "the first 122 words", and "bytes and words after those keep their contents".
 pub record Shows (s : Instance) (old new : Buffers) (r : View) : Type 0 where
-  pub tree : List ℕ
   pub cut-list : List Cut
   pub result : r ≡ Shown (outcome s) (length cut-list)
-  pub tree-shown : Parents-shown (outcome s) s tree
   pub cuts-shown : Cuts-shown (outcome s) s cut-list
-  pub parents-buffer : new .parents ≡ in-front tree (old .parents)
+  -- "The tree is then no longer one of the free results; the cuts still are." (02, A10)
+  pub parents-buffer : new .parents ≡ in-front (first-tree s) (old .parents)
   pub states-buffer : new .states ≡ in-front (states s) (old .states)
   pub cuts-buffer : new .cuts ≡ in-front (words-of cut-list) (old .cuts)
 

@@ -1,7 +1,7 @@
 -- The longest text is one that the call prints: the card of the star of crate report_text opens as the star itself, and
 -- every report on it into a buffer that is long enough is `max-text` bytes long. So no smaller need than `max-text`
 -- would do for this call. Assumes nothing.
-use mathlib.Core.Path.{_≡_, refl, _∙_, ap, subst}
+use mathlib.Core.Path.{_≡_, refl, _∙_, ap}
 use mathlib.Core.Bool.{Bool, false, _&&_, cond}
 use mathlib.Core.List.{List}
 use Prim.Native.Nat.{ℕ, _/_, _≤_, _<_}
@@ -12,18 +12,16 @@ use Rattle.base.proofs.BoolLaws.{and-false-right}
 use Rattle.base.proofs.ListLaws.{replicate-at, length-tabulate, getD-tabulate}
 use Rattle.instance.specs.Limits.{max-weight, no-arc, free, cells}
 use Rattle.instance.specs.Instance.{Instance, weight-at, mark-at}
-use Rattle.instance.specs.States.{outcome}
 use Rattle.card_format.specs.Card.{on-card, instance-in, card-of}
 use Rattle.card_format.proofs.InstanceAgain.{written-opens, instance-back}
 use Rattle.commands.specs.Model.{Model, opened}
 use Rattle.history_format.specs.HistoryCard.{open-refusal, model-in}
 use Rattle.history_format.proofs.HistoryAgain.{model-of-card}
 use Rattle.history_format.proofs.Moves.{card-not-history, plain-card-opens}
-use Rattle.survey.specs.Survey.{Parents-by}
 use Rattle.report_text.specs.Whole.{report-text, max-text}
-use Rattle.report_text.proofs.LongestText.{star, star-cell, star-parents, star-valid, star-only, star-outcome, longest}
+use Rattle.report_text.proofs.LongestText.{star, star-cell, star-valid, longest}
 use Rattle.report.specs.declared.Reported.{Reported}
-use Rattle.report.specs.Reports.{Reports-instance, Reports-by, Reports}
+use Rattle.report.specs.Reports.{Reports-by, Reports}
 
 -- a cell where no arc can be is as a card's is
 off-card : (i : ℕ) → i < cells → on-card (star .n) (star .root) i ≡ false → (weight-at star i ≡ no-arc) × (mark-at star i ≡ free)
@@ -45,15 +43,8 @@ star-model =
     let plain = card-not-history (card-of star) (written-opens star star-valid) in
     ap (λ (m : Model). m .instance) (model-of-card (card-of star) plain) ∙ star-again
 
--- whichever cheapest tree is printed is the only one
-printed : (old new : List ℕ) (next : ℕ) → Reports-instance star old new next → next ≡ max-text
-unfolding Parents-by
-printed old new next x =
-    let only : x .parents ≡ star-parents = star-only (x .parents) ((rw star-outcome at (x .shown)) .0) in
-    x .text .place ∙ ap (λ (ps : List ℕ). length (report-text star (outcome star) ps)) only ∙ longest
-
 pub longest-printed : (old new : List ℕ) (r : Reported) → max-text ≤ length old → Reports (card-of star) old new r → r .length ≡ max-text
 unfolding Reports Reports-by
 longest-printed old new r h x =
     let shown = rw (le-ltb (length old) max-text h, eq-eqb (open-refusal (card-of star)) 0 (plain-card-opens (card-of star) (written-opens star star-valid))) at x in
-    printed old new (r .length) (subst (λ (s : Instance). Reports-instance s old new (r .length)) star-model (shown .reports))
+    shown .text .place ∙ ap (λ (s : Instance). length (report-text s)) star-model ∙ longest

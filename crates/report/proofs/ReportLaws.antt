@@ -14,12 +14,13 @@ use Rattle.base.proofs.FrontLaws.{front-length}
 use Rattle.instance.specs.Limits.{max-vertices, cells, cut-words}
 use Rattle.instance.specs.Refusals.{buffer-short}
 use Rattle.instance.specs.Instance.{Instance}
-use Rattle.instance.specs.Arborescence.{is-arborescence}
+use Rattle.instance.specs.Candidates.{first-tree}
 use Rattle.instance.specs.declared.Outcome.{Outcome}
-use Rattle.instance.specs.States.{shows-tree, total-in, outcome, states}
+use Rattle.instance.specs.States.{outcome, states}
 use Rattle.instance.specs.Valid.{valid-instance}
 use Rattle.instance.proofs.ValidLaws.{valid-small}
 use Rattle.theory.proofs.StateLaws.{states-read}
+use Rattle.theory.proofs.FirstLaws.{first-size}
 use Rattle.history_format.specs.HistoryCard.{open-refusal}
 use Rattle.history_format.proofs.HistoryNumbers.{open-refusal-most}
 use Rattle.commands.specs.Valid.{valid}
@@ -27,25 +28,18 @@ use Rattle.board.specs.ModelOf.{model-of, instance-of}
 use Rattle.board.specs.declared.Board.{Board}
 use Rattle.planner.specs.declared.View.{View}
 use Rattle.board.specs.declared.Answered.{Answered}
-use Rattle.survey.specs.Survey.{Parents-by}
 use Rattle.planner.specs.declared.View.the-variants.{Shown, Refused}
 use Rattle.planner.specs.Opening.{opened-from}
 use Rattle.planner.specs.Looking.{Buffers, too-short, Shows, Looks}
 use Rattle.commands.proofs.ValidLaws.{valid-fields}
-use Rattle.planner.proofs.CallSteps.{tree-long, tree-front, states-front, looks-long}
+use Rattle.planner.proofs.CallSteps.{tree-front, states-front, looks-long}
 use Rattle.planner.proofs.OpeningLaws.{opened-answer, opened-starts, opened-instance}
 use Rattle.report.specs.declared.Reported.{Reported}
 use Rattle.text.specs.Buffer.{Filled}
 use Rattle.report_text.specs.Whole.{whole-text, report-text, refused-text, max-text}
-use Rattle.report.specs.Reports.{Reports-instance, Reports-by, Reports}
+use Rattle.report.specs.Reports.{Reports-by, Reports}
 use Rattle.report_text.proofs.WholeLaws.{text-of-instance}
 use Rattle.report_text.proofs.LengthLaws.{report-length, refused-length}
-
--- the parents of a tree that is shown are those of an arborescence
-tree-parents : (b : Bool) (v : ℕ) (s : Instance) (ps : List ℕ) → Parents-by b v s ps → b ≡ true → is-arborescence s ps ≡ true
-unfolding Parents-by
-tree-parents true v s ps p e = p .0
-tree-parents false v s ps p e = absurd (true≢false (sym e))
 
 -- buffers of 32 bytes, 1,024 bytes and 122 words are long enough
 enough : (n a b c : ℕ) → n ≤ max-vertices → max-vertices ≤ a → cells ≤ b → cut-words ≤ c → too-short n a b c ≡ false
@@ -80,7 +74,7 @@ pub record Text-of (b : Board) (o : Outcome) (parents states : List ℕ) : Type 
   pub parents-room : b .n ≤ length parents
   pub states-room : b .n * b .n ≤ length states
   pub text-room : (m : ℕ) → max-text ≤ m → length (board-text b o parents states) ≤ m
-  pub reports : (old new : List ℕ) (r : ℕ) → Filled (board-text b o parents states) old new r → Reports-instance (instance-of b) old new r
+  pub reports : (old new : List ℕ) (r : ℕ) → Filled (board-text b o parents states) old new r → Filled (report-text (instance-of b)) old new r
 
 module _
     (b : Board)
@@ -118,14 +112,14 @@ module _
           parents-room = omega (arith, parents-size, small);
           states-room = omega (arith, states-size, squares);
           text-room = λ m h. let short = fits in omega arith;
-          reports = λ out out′ r w. record { parents = shows .tree; shown = shows .tree-shown; text = rw same at w };
+          reports = λ out out′ r w. rw same at w;
         }
       where
         squares : b .n * b .n ≤ cells
         squares = mul-le-mul small small
 
         parents-size : length (new .parents) ≡ length (old .parents)
-        parents-size = ap length (shows .parents-buffer) ∙ front-length (shows .tree) (old .parents) (omega (arith, small, tree-long S v old new shows))
+        parents-size = ap length (shows .parents-buffer) ∙ front-length (first-tree S) (old .parents) (omega (arith, small, first-size S))
 
         states-size : length (new .states) ≡ length (old .states)
         states-size = ap length (shows .states-buffer) ∙ front-length (states S) (old .states) (omega (arith, squares, states-read S .size))
@@ -133,13 +127,11 @@ module _
         found : o ≡ outcome S
         found = shown-outcome (sym e ∙ shows .result)
 
-        same : board-text b o (new .parents) (new .states) ≡ report-text S (outcome S) (shows .tree)
-        same =
-            rw found (text-of-instance S (outcome S) (new .parents) (new .states) (states-front S v old new shows))
-            ∙ ap (report-text S (outcome S)) (tree-front S v old new shows)
+        same : board-text b o (new .parents) (new .states) ≡ report-text S
+        same = text-of-instance S o (new .parents) (new .states) found (tree-front S v old new shows) (states-front S v old new shows)
 
         fits : length (board-text b o (new .parents) (new .states)) ≤ max-text
-        fits = rw same (report-length S valid-S (shows .tree) (tree-parents (shows-tree (outcome S)) (total-in (outcome S)) S (shows .tree) (shows .tree-shown)))
+        fits = rw same (report-length S valid-S)
 
 -- OPENED CARDS
 pub opened-good : (ws : List ℕ) (o : Answered) → o ≡ opened-from ws → o .answer ≡ 0 → valid (model-of (o .board)) ≡ true
@@ -165,11 +157,11 @@ refusal-reported ws old new o r h q n f =
     rw (le-ltb _ _ h, ne-eqb _ _ k) (record { answer = e; text = rw e at f })
 
 pub card-reported : (ws old new : List ℕ) (o : Answered) (r : ℕ) → max-text ≤ length old → o ≡ opened-from ws → o .answer ≡ 0
-    → Reports-instance (instance-of (o .board)) old new r → Reports ws old new (record { answer = 0; length = r })
+    → Filled (report-text (instance-of (o .board))) old new r → Reports ws old new (record { answer = 0; length = r })
 unfolding Reports Reports-by
 card-reported ws old new o r h q a f =
     let z = sym (opened-answer ws o q) ∙ a in
-    rw (le-ltb _ _ h, eq-eqb _ _ z) (record { answer = refl; reports = rw (opened-instance ws o q z) at f })
+    rw (le-ltb _ _ h, eq-eqb _ _ z) (record { answer = refl; text = rw (opened-instance ws o q z) at f })
 
 -- THE LENGTH that is answered lies within the buffer
 filled-within : {text old new : List ℕ} {r : ℕ} → Filled text old new r → r ≤ length new
@@ -184,4 +176,4 @@ reported-within ws old new r = go (ltb (length old) max-text) (eqb (open-refusal
     go : (t u : Bool) → Reports-by t u ws old new r → r .length ≤ length new
     go true u x = let z = ap (λ (y : Reported). y .length) (x .result) in omega arith
     go false false x = filled-within (x .text)
-    go false true x = filled-within (x .reports .text)
+    go false true x = filled-within (x .text)

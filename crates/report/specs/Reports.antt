@@ -1,5 +1,6 @@
 -- What is reported of a card: "The printing program reads a card on standard input and .. writes". Every byte is an
--- equation; free is only which arborescence is shown. Assumes nothing: these are definitions.
+-- equation, and nothing is free: of what a look leaves free, the cuts, nothing is printed. Assumes nothing: these are
+-- definitions.
 use mathlib.Core.Path.{_≡_}
 use mathlib.Core.Bool.{Bool, true, false}
 use mathlib.Core.List.{List}
@@ -7,20 +8,10 @@ use Prim.Native.Nat.{ℕ}
 use lib.Dec.{ltb, eqb}
 use lib.ListN.{length}
 use Rattle.instance.specs.Refusals.{buffer-short}
-use Rattle.instance.specs.Instance.{Instance}
-use Rattle.instance.specs.States.{outcome}
 use Rattle.history_format.specs.HistoryCard.{open-refusal, model-in}
-use Rattle.survey.specs.Survey.{Parents-shown}
 use Rattle.report.specs.declared.Reported.{Reported}
 use Rattle.text.specs.Buffer.{Filled}
 use Rattle.report_text.specs.Whole.{report-text, refused-text, max-text}
-
--- "count, root, budget; total; fed, feeder, price, by fed position; feeder and its n states": the outcome and the
--- states of the instance, and the parents of one of its cheapest arborescences where a tree is shown
-pub record Reports-instance (s : Instance) (old new : List ℕ) (next : ℕ) : Type 0 where
-  pub parents : List ℕ
-  pub shown : Parents-shown (outcome s) s parents
-  pub text : Filled (report-text s (outcome s) parents) old new next
 
 -- 14: "a lent buffer too short", "buffers as before"
 pub record Refuses (old new : List ℕ) (r : Reported) : Type 0 where
@@ -32,10 +23,11 @@ pub record Reports-refusal (card old new : List ℕ) (r : Reported) : Type 0 whe
   pub answer : r .answer ≡ open-refusal card
   pub text : Filled (refused-text (open-refusal card)) old new (r .length)
 
--- 0: "A board opened from a card has that card's marks and budget"; a look at it is what is printed
+-- 0: "A board opened from a card has that card's marks and budget"; a look at it is what is printed: "count, root,
+-- budget; total; fed, feeder, price, by fed position; feeder and its n states"
 pub record Reports-opened (card old new : List ℕ) (r : Reported) : Type 0 where
   pub answer : r .answer ≡ 0
-  pub reports : Reports-instance (model-in card .instance) old new (r .length)
+  pub text : Filled (report-text (model-in card .instance)) old new (r .length)
 
 -- by whether the buffer is too short for the longest text, and whether the card opens
 unfoldable pub Reports-by : (short opens : Bool) → (card old new : List ℕ) → Reported → Type 0

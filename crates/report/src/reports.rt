@@ -5,8 +5,9 @@ ghost use Prim.Native.Nat.{_≤_};
 ghost use lib.ListN.{length};
 ghost use Rattle.commands.specs.Valid.{valid};
 ghost use Rattle.board.specs.ModelOf.{model-of, instance-of};
-ghost use Rattle.report_text.specs.Whole.{max-text};
-ghost use Rattle.report.specs.Reports.{Reports-instance, Reports};
+ghost use Rattle.text.specs.Buffer.{Filled};
+ghost use Rattle.report_text.specs.Whole.{report-text, max-text};
+ghost use Rattle.report.specs.Reports.{Reports};
 use crate::Reported;
 use board::Board;
 use instance::limits::CELLS;
@@ -24,7 +25,7 @@ use report_text::write_report;
 fn report_board(b: Board, out: &mut [u8]) -> usize
     requires { ⌜ valid (model-of b) ≡ true ⌝ }
     requires { ⌜ max-text ≤ length (now out) ⌝ }
-    ensures { λ r. ⌜ Reports-instance (instance-of b) (now (out .entry)) (now (out .exit)) r ⌝ }
+    ensures { λ r. ⌜ Filled (report-text (instance-of b)) (now (out .entry)) (now (out .exit)) r ⌝ }
 {
     let n = b.n;
     let root = b.root;

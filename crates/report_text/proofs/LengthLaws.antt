@@ -1,7 +1,7 @@
--- How long the text can be: a buffer of `max-text` bytes has room for the text of every valid instance with its
--- outcome, since its weights and totals are short. Assumes nothing.
-use mathlib.Core.Path.{_≡_, refl}
-use mathlib.Core.Bool.{true, false}
+-- How long the text can be: a buffer of `max-text` bytes has room for the text of every valid instance, since its
+-- weights and totals are short. Assumes nothing.
+use mathlib.Core.Path.{_≡_, refl, sym, ap, _∙_}
+use mathlib.Core.Bool.{true, false, true≢false}
 use mathlib.Core.List.{List, _++_}
 use mathlib.Core.Logic.{⊎-elim}
 use Prim.Native.Nat.{ℕ, _+_, _^_, _≤_, _<_}
@@ -12,6 +12,7 @@ use Rattle.base.proofs.BoolLaws.{test}
 use Rattle.instance.specs.Limits.{max-vertices, max-budget}
 use Rattle.instance.specs.Instance.{Instance, weight, is-arc}
 use Rattle.instance.specs.Arborescence.{parent, is-arborescence}
+use Rattle.instance.specs.Candidates.{first-tree}
 use Rattle.instance.specs.declared.Outcome.{Outcome}
 use Rattle.instance.specs.declared.Outcome.the-variants.{Plan, Over, NoTree}
 use Rattle.instance.specs.States.{total-in, shows-tree, outcome, states}
@@ -19,8 +20,10 @@ use Rattle.instance.specs.Valid.{valid-instance}
 use Rattle.instance.proofs.ArcLaws.{arc-ends, remaining-arc}
 use Rattle.instance.proofs.ValidLaws.{valid-small, valid-root, valid-budget}
 use Rattle.instance.proofs.ArborescenceLaws.{joined}
+use Rattle.theory.specs.Readings.{No-arborescence}
 use Rattle.theory.proofs.StateLaws.{states-read}
 use Rattle.theory.proofs.OutcomeLaws.{outcome-reads}
+use Rattle.theory.proofs.FirstLaws.{some-or-none, first-reads}
 use Rattle.theory.proofs.TotalLaws.{weight-most, least-most}
 use Rattle.text.specs.Lines.{codes}
 use Rattle.text.proofs.DecimalLaws.{decimal-length}
@@ -77,14 +80,20 @@ module _ (s : Instance) (valid : valid-instance s ≡ true) where
       let n = valid-small s valid in
       (omega (arith, arc-ends s (parent ps v) v arc .tail-below), omega (arith, weight-most s valid (parent ps v) v arc))
 
-  pub report-length :
-      (ps : List ℕ) → (shows-tree (outcome s) ≡ true → is-arborescence s ps ≡ true) → length (report-text s (outcome s) ps) ≤ max-text
+  -- where a tree is shown there is an arborescence, and the first tree is one
+  tree-shown : shows-tree (outcome s) ≡ true → is-arborescence s (first-tree s) ≡ true
+  tree-shown e =
+      ⊎-elim (λ (w : (ps : List ℕ) × (is-arborescence s ps ≡ true)). first-reads s (w .0) (w .1) .arborescence)
+      (λ (x : No-arborescence s). absurd (true≢false (sym e ∙ ap shows-tree (outcome-reads s .fails .1 x))))
+      (some-or-none s)
+
+  pub report-length : length (report-text s) ≤ max-text
   unfolding report-text
-  report-length ps a =
+  report-length =
       let b = valid-budget s valid in
       let t = outcome-most in
-      text-length (s .weights) ps (states s) (s .n) (s .root) (s .budget) (outcome s) (valid-small s valid) (valid-root s valid) (omega arith) (omega arith)
-      (λ e. short ps (a e)) (state-digits s)
+      text-length (s .weights) (first-tree s) (states s) (s .n) (s .root) (s .budget) (outcome s) (valid-small s valid) (valid-root s valid) (omega arith)
+      (omega arith) (λ e. short (first-tree s) (tree-shown e)) (state-digits s)
 
 pub refused-length : (k : ℕ) → k < 100 → length (refused-text k) ≤ max-text
 unfolding refused-text codes

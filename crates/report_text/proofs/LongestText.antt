@@ -1,5 +1,4 @@
--- No shorter buffer would do: a valid instance whose text, with its own outcome and the parents of its only
--- arborescence, is `max-text` bytes long. It is a star: 32 vertices with the root 31, the greatest budget, and the arcs
+-- No shorter buffer would do: a valid instance whose text is `max-text` bytes long. It is a star: 32 vertices with the root 31, the greatest budget, and the arcs
 -- 31→v at the dearest price. They are its only arcs, so that they make its only arborescence, whose total is that
 -- budget. Its states need not be known: each is one digit. All its 1,024 cells are as a card's are, so that it is the
 -- very instance of its own card (`longest-printed` of crate report). Assumes nothing.
@@ -19,6 +18,7 @@ use Rattle.base.proofs.ListLaws.{replicate-at, length-tabulate, getD-tabulate, 
 use Rattle.instance.specs.Limits.{max-vertices, max-weight, no-arc, max-budget, free, no-parent, cells}
 use Rattle.instance.specs.Instance.{Instance, cell, weight, mark, can-be-arc, is-arc}
 use Rattle.instance.specs.Arborescence.{is-pinned, other-pinned, remaining, parent, reaches, is-arborescence, total}
+use Rattle.instance.specs.Candidates.{first-tree}
 use Rattle.instance.specs.declared.Outcome.the-variants.{Plan}
 use Rattle.instance.specs.States.{outcome, states}
 use Rattle.instance.specs.Valid.{cell-ok, cell-valid, header-valid, valid-instance}
@@ -26,6 +26,7 @@ use Rattle.instance.proofs.ArcLaws.{arc-ends, arc-weight, remaining-arc}
 use Rattle.theory.specs.Readings.{Least-total}
 use Rattle.instance.proofs.ArborescenceLaws.{parents-size, root-parent, joined, make-arborescence}
 use Rattle.theory.proofs.OutcomeLaws.{outcome-reads}
+use Rattle.theory.proofs.FirstLaws.{first-reads}
 use Rattle.text.specs.Decimal.{decimal-in, decimal}
 use Rattle.text.specs.Lines.{codes}
 use Rattle.report_text.specs.Heading.{header-line, outcome-line}
@@ -48,7 +49,7 @@ star = record { n = max-vertices; root = 31; budget = max-budget; weights = tabu
 abbrev star-parent : ℕ → ℕ
 star-parent v = cond (eqb v 31) no-parent 31
 
-unfoldable pub star-parents : List ℕ
+unfoldable star-parents : List ℕ
 star-parents = tabulate max-vertices star-parent
 
 star-weight : (t h : ℕ) → t < max-vertices → h < max-vertices → weight star t h ≡ star-weight-of t h
@@ -104,7 +105,7 @@ all-reach : all-below max-vertices (reaches max-vertices 31 star-parents) ≡ tr
 unfolding all-below reaches star-parents tabulate tabulate-from
 all-reach = refl
 
-pub star-tree : is-arborescence star star-parents ≡ true
+star-tree : is-arborescence star star-parents ≡ true
 unfolding star star-parents
 star-tree =
     make-arborescence star star-parents (length-tabulate max-vertices star-parent) (λ v l e. parent-is v l ∙ rw e)
@@ -114,7 +115,7 @@ star-tree =
       reach = all-at max-vertices (reaches max-vertices 31 star-parents) v l all-reach;
     })
 
-pub star-only : (ps : List ℕ) → is-arborescence star ps ≡ true → ps ≡ star-parents
+star-only : (ps : List ℕ) → is-arborescence star ps ≡ true → ps ≡ star-parents
 unfolding star star-parents
 star-only ps a = tabulate-is max-vertices ps star-parent no-parent (parents-size star ps a) (λ v l. go v l (eqb v 31) refl)
   where
@@ -122,11 +123,11 @@ star-only ps a = tabulate-is max-vertices ps star-parent no-parent (parents-size
     go v l true e = root-parent star ps a v l e
     go v l false e = star-tail (parent ps v) v (joined star ps a v l e .arc)
 
-pub star-total : total star star-parents ≡ max-budget
+star-total : total star star-parents ≡ max-budget
 unfolding total sum-below weight can-be-arc star star-parents tabulate tabulate-from
 star-total = refl
 
-pub star-outcome : outcome star ≡ Plan max-budget
+star-outcome : outcome star ≡ Plan max-budget
 unfolding star
 star-outcome = outcome-reads star .plans max-budget .1 (least, omega arith)
   where
@@ -148,8 +149,11 @@ star-feeds : length (feed-lines (star .weights) star-parents max-vertices 31 (Pl
 unfolding feed-lines feed-at feed-line join-below codes decimal decimal-in can-be-arc star star-parents tabulate tabulate-from
 star-feeds = refl
 
-pub longest : length (report-text star (outcome star) star-parents) ≡ max-text
+star-first : first-tree star ≡ star-parents
+star-first = star-only (first-tree star) (first-reads star star-parents star-tree .arborescence)
+
+pub longest : length (report-text star) ≡ max-text
 unfolding report-text star
 longest =
     let e = parts-length (star .weights) star-parents (states star) max-vertices 31 max-budget (Plan max-budget) in
-    rw star-outcome (omega (arith, e, star-heading, star-feeds, rows-longest (states star) (state-digits star)))
+    rw (star-outcome, star-first) (omega (arith, e, star-heading, star-feeds, rows-longest (states star) (state-digits star)))

@@ -1,12 +1,13 @@
 -- The text is written in four steps: header, outcome, feed lines and rows. It goes by the first n parents and the first
--- n times n states, and with those of an instance it is the instance's text. Assumes nothing.
+-- n times n states, and with those that a look shows it is the instance's text. Assumes nothing.
 use mathlib.Core.Path.{_≡_}
 use mathlib.Core.List.{List, _++_}
 use Prim.Native.Nat.{ℕ, _*_, _≤_}
 use lib.ListN.{length, take}
 use Rattle.instance.specs.Instance.{Instance}
 use Rattle.instance.specs.declared.Outcome.{Outcome}
-use Rattle.instance.specs.States.{states}
+use Rattle.instance.specs.Candidates.{first-tree}
+use Rattle.instance.specs.States.{outcome, states}
 use Rattle.text.specs.Buffer.{Room, Puts, Filled}
 use Rattle.text.proofs.BufferLaws.{room-whole, room-first, puts-room, puts-then, puts-filled}
 use Rattle.report_text.specs.Heading.{header-line, outcome-line}
@@ -50,7 +51,7 @@ module _ (ws ps ss : List ℕ) (n r b : ℕ) (o : Outcome) {old : List ℕ} (fit
         text-put rows = puts-filled (puts-then before-rows all rows)
 
 pub text-of-instance :
-    (s : Instance) (o : Outcome) (ps ss : List ℕ) → take (s .n * s .n) ss ≡ states s →
-    whole-text (s .weights) ps ss (s .n) (s .root) (s .budget) o ≡ report-text s o (take (s .n) ps)
+    (s : Instance) (o : Outcome) (ps ss : List ℕ) → o ≡ outcome s → take (s .n) ps ≡ first-tree s → take (s .n * s .n) ss ≡ states s →
+    whole-text (s .weights) ps ss (s .n) (s .root) (s .budget) o ≡ report-text s
 unfolding whole-text report-text
-text-of-instance s o ps ss e = rw (feeds-same (s .weights) ps (s .n) (s .root) o, rows-same ss (s .n), e)
+text-of-instance s o ps ss found tree e = rw (found, feeds-same (s .weights) ps (s .n) (s .root) (outcome s), tree, rows-same ss (s .n), e)

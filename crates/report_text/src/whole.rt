@@ -13,8 +13,8 @@ use instance::Outcome;
 use instance::limits::CELLS;
 use text::lines::put_line;
 
-// The longest text of a valid instance with its outcome (`report-length` and `longest` in proofs/): 32 vertices, and
-// every number as long as it can be.
+// The longest text of a valid instance (`report-length` and `longest` in proofs/): 32 vertices, and every number as
+// long as it can be.
 pub const MAX_TEXT: usize = 2241;
 
 // Writes the text from the buffer's beginning on and returns its length; the bytes after it keep their contents.
