@@ -7,6 +7,7 @@ use mathlib.Core.List.{List}
 use Prim.Native.Nat.{ℕ, _*_}
 use lib.ListN.{take}
 use Rattle.instance.specs.Instance.{Instance}
+use Rattle.instance.specs.Candidates.{first-tree}
 use Rattle.theory.specs.Readings.{States-read}
 use Rattle.theory.proofs.StateLaws.{states-read}
 use Rattle.commands.specs.LogLists.{Input, input-answers, input-after}
@@ -18,7 +19,7 @@ use Rattle.history_format.specs.HistoryCard.{open-refusal, model-in}
 use Rattle.planner.specs.declared.View.{View}
 use Rattle.planner.specs.Looking.{Buffers, short-for, Looks-at}
 use Rattle.planner.specs.Replaying.{log-in}
-use Rattle.planner.proofs.CallSteps.{states-front, looks-valid}
+use Rattle.planner.proofs.CallSteps.{tree-front, states-front, looks-valid}
 use Rattle.planner.proofs.Learnt.{Opened-by, opened-by, Looked, looked}
 use Rattle.planner.proofs.OpeningLaws.{opened-starts}
 use Rattle.demands.proofs.Runs.{Run, run-follows}
@@ -29,7 +30,8 @@ use Rattle.demands.proofs.Runs.{Run, run-follows}
 -- words are amended: "The claim about presses and the rule on reduced prices now use the larger of the budget and the
 -- cheapest total" (02, A2). A list of presses is answered by "how many were applied and the refusal number, or 0" (02,
 -- A1), and the book has both from the presses themselves. "The claim about presses now covers take-backs of records
--- that came on a card" (02, A8): the log of a card, `log-in`, begins with them.
+-- that came on a card" (02, A8): the log of a card, `log-in`, begins with them. And the feeder list "depends on root,
+-- marks and prices alone, not on the order of presses or take-backs, and the press claim gains it" (02, A10).
 pub record Demand-3 (ws : List ℕ) (is : List Input) (xs : List ℕ) (old new : Buffers) (v : View) : Type 0 where
   pub answers : xs ≡ input-answers is (log-in ws)
   pub last-look : Looks-at true (short-for (model-in ws .instance .n) old) (effective (input-after is (log-in ws))) old new v
@@ -39,11 +41,19 @@ pub record Demand-3 (ws : List ℕ) (is : List Input) (xs : List ℕ) (old new :
   pub states-shown :
       short-for (model-in ws .instance .n) old ≡ false →
       States-read (effective (input-after is (log-in ws))) (take (model-in ws .instance .n * model-in ws .instance .n) (new .states))
+  -- the n parents in the buffer: the first of the cheapest arborescences of the effective instance
+  pub parents-shown :
+      short-for (model-in ws .instance .n) old ≡ false → take (model-in ws .instance .n) (new .parents) ≡ first-tree (effective (input-after is (log-in ws)))
 
 shown-states : (t : Bool) (s : Instance) (v : View) (old new : Buffers) → Looks-at true t s old new v → t ≡ false → States-read s (take (s .n * s .n) (new .states))
 unfolding Looks-at
 shown-states true s v old new l e = absurd (true≢false e)
 shown-states false s v old new x e = subst (States-read s) (sym (states-front s v old new x)) (states-read s)
+
+shown-parents : (t : Bool) (s : Instance) (v : View) (old new : Buffers) → Looks-at true t s old new v → t ≡ false → take (s .n) (new .parents) ≡ first-tree s
+unfolding Looks-at
+shown-parents true s v old new l e = absurd (true≢false e)
+shown-parents false s v old new x e = tree-front s v old new x
 
 pub demand-3 :
     (ws : List ℕ) (is : List Input) (o : Answered) (xs : List ℕ) (last : Board) (v : View) (old new : Buffers) → open-refusal ws ≡ 0 →
@@ -63,4 +73,5 @@ demand-3 ws is o xs last v old new z p run l =
       answers = r .same-answers;
       last-look = looks;
       states-shown = λ e. subst (λ (m : ℕ). States-read (effective k) (take (m * m) (new .states))) n (shown-states t (effective k) v old new looks e);
+      parents-shown = λ e. subst (λ (m : ℕ). take m (new .parents) ≡ first-tree (effective k)) n (shown-parents t (effective k) v old new looks e);
     }

@@ -12,3 +12,4 @@ pub mod SeveralMarks
 pub mod CommandLists
 pub mod PlansElsewhere
 pub mod AllPlans
+pub mod OnePlan

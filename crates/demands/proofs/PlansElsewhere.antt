@@ -12,13 +12,14 @@ use Rattle.instance.specs.Limits.{max-vertices, max-cuts, cut-words}
 use Rattle.instance.specs.Refusals.{invalid-board, not-arborescence}
 use Rattle.instance.specs.Instance.{Instance}
 use Rattle.instance.specs.Arborescence.{is-arborescence, total}
+use Rattle.instance.specs.Candidates.{first-tree}
 use Rattle.instance.specs.Cuts.{cuts-in, pair-words, words-of, values, Feasible}
 use Rattle.instance.specs.declared.Outcome.{Outcome}
 use Rattle.instance.specs.declared.Outcome.the-variants.{Plan, Over, NoTree}
 use Rattle.instance.specs.States.{outcome}
-use Rattle.instance.proofs.ArborescenceLaws.{parents-size}
 use Rattle.theory.proofs.MarkLaws.{pinned-used, banned-unused}
 use Rattle.theory.proofs.OutcomeLaws.{outcome-reads}
+use Rattle.theory.proofs.FirstLaws.{first-size}
 use Rattle.theory.proofs.SameOutcomes.{arcs-same}
 use Rattle.certificate.specs.Certificate.{certificate-refusal}
 use Rattle.certificate.specs.Readings.{Accepted}
@@ -99,7 +100,7 @@ no-refusal false t s old new u x e = absurd (true≢false (sym e ∙ ap is-shown
 
 -- the buffers hold a tree and the cuts that prove it: they are accepted
 module _ (s : Instance) (new : Buffers) (u : View) (small : s .n ≤ max-vertices) (d : Demand-2 s new u) (w : ℕ)
-    (p : Proved-tree s (d .tree) (d .cuts) w) where
+    (p : Proved-tree s (first-tree s) (d .cuts) w) where
   words-all : length (words-of (d .cuts)) ≡ cut-words
   words-all = words-length (outcome s) s (d .cuts) small (d .cuts-shown)
 
@@ -109,7 +110,7 @@ module _ (s : Instance) (new : Buffers) (u : View) (small : s .n ≤ max-vertice
   parents-long : s .n ≤ length (new .parents)
   parents-long =
       let l = length-take (s .n) (new .parents) in
-      let m = ap length (d .in-parents) ∙ parents-size s (d .tree) (p .arborescence) in
+      let m = ap length (d .in-parents) ∙ first-size s in
       omega (arith, l, m)
 
   words-long : cut-words ≤ length (new .cuts)
