@@ -84,7 +84,7 @@ abbrev is-shown : View → Bool
 is-shown (Shown o k) = true
 is-shown (Refused a) = false
 
-abbrev outcome-in : View → Outcome
+abbrev pub outcome-in : View → Outcome
 outcome-in (Shown o k) = o
 outcome-in (Refused a) = NoTree
 
