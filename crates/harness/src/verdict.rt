@@ -23,6 +23,8 @@ pub const STATES: u32 = 5;
 
 pub const TOUCHED: u32 = 6;
 
+pub const FIRST: u32 = 7;
+
 // Whether the buffers are as before from these places on.
 fn untouched_from(s: Shown, parents_from: u32, states_from: u32, cuts_from: u32) -> bool {
     let parents = s.parents;
@@ -41,8 +43,8 @@ pub fn all_untouched(s: Shown) -> bool {
     untouched_from(s, 0, 0, 0)
 }
 
-// The parents and the cuts of what was shown, by the documents' conditions, for any n. The table holds the weights of
-// the remaining arcs. A refused look is not right, whatever stands in the buffers.
+// The parents and the cuts of what was shown, by the documents' conditions, for any n: a cheapest tree, but not which
+// one. The table holds the weights of the remaining arcs. A refused look is not right, whatever stands in the buffers.
 pub fn certified(table: &[u32; CELLS], n: u32, root: u32, s: Shown) -> u32 {
     let parents = s.parents;
     let cuts = s.cuts;
@@ -76,6 +78,12 @@ fn states_right(states: &[u8], list: Listing, p: Problem) -> bool {
     true
 }
 
+// Whether the parents are those of the listing's first cheapest tree.
+fn shows_first(list: Listing, n: u32, s: Shown) -> bool {
+    let parents = s.parents;
+    outcome::is_first(list, &parents, n)
+}
+
 // Everything that a look shows of an instance of at most six vertices, against its table of costs and its listing.
 pub fn against(table: &[u32; CELLS], list: Listing, p: Problem, s: Shown) -> u32 {
     let kind = outcome::kind(list, p.budget);
@@ -91,7 +99,14 @@ pub fn against(table: &[u32; CELLS], list: Listing, p: Problem, s: Shown) -> u32
     if !states_right(&states, list, p) {
         return STATES;
     }
-    certified(table, p.n, p.root, s)
+    let unproved = certified(table, p.n, p.root, s);
+    if unproved != 0 {
+        return unproved;
+    }
+    if !shows_first(list, p.n, s) {
+        return FIRST;
+    }
+    0
 }
 
 // The same where the listing is wanted only once.

@@ -4,6 +4,7 @@ use crate::problem;
 use crate::problem::CELLS;
 use crate::problem::MAX_VERTICES;
 use crate::problem::MAX_WEIGHT;
+use crate::problem::NO_ARC;
 use crate::problem::Problem;
 use crate::problem::STRIDE;
 use crate::random;
@@ -66,6 +67,65 @@ pub fn nth_instance(k: u32) -> Problem {
         10 => mixed(10, 2, 60, 0, 0),
         11 => mixed(11, 2, 8, 0, 30),
         _ => mixed(k, k % 6, k % 60, 0, k % 24),
+    }
+}
+
+// Vertices under other numbers: 13 is odd, so each of the 32 is one of them.
+fn renumbered_vertex(v: u32) -> u32 {
+    (v % MAX_VERTICES * 13 + 7) % MAX_VERTICES
+}
+
+fn renumbered(p: Problem) -> Problem {
+    let mut q = p;
+    q.root = renumbered_vertex(p.root);
+    for k in 0..CELLS as u32 {
+        let tail = renumbered_vertex(k / STRIDE);
+        let at = problem::cell(tail, renumbered_vertex(k % STRIDE));
+        q.weights[at] = p.weights[k as usize];
+        q.marks[at] = p.marks[k as usize];
+    }
+    q
+}
+
+// The weight between two vertices by the highest bit where their numbers differ: pairs, pairs of pairs, and so on.
+fn weight_between(tail: u32, head: u32) -> u32 {
+    let bits = tail ^ head;
+    if bits < 2 {
+        return 1;
+    }
+    if bits < 4 {
+        return 10;
+    }
+    if bits < 8 {
+        return 100;
+    }
+    if bits < 16 { 1000 } else { 10000 }
+}
+
+fn clustered(p: Problem) -> Problem {
+    let mut q = p;
+    for k in 0..CELLS as u32 {
+        let at = k as usize;
+        if p.weights[at] < NO_ARC {
+            q.weights[at] = weight_between(k / STRIDE, k % STRIDE);
+        }
+    }
+    q
+}
+
+// Instances with many cheapest trees: nested cycles that may be entered at many vertices at the same cost, in order and
+// renumbered; all weights equal, dense and sparse; few distinct weights; the two ends of the range; mostly 0; clusters
+// within clusters.
+pub fn nth_tied(k: u32) -> Problem {
+    match k % 8 {
+        0 => nested(access::plus(k, 1)),
+        1 => renumbered(nested(k)),
+        2 => mixed(k, 3, 0, 0, 0),
+        3 => mixed(k, 3, 46, 1, 2),
+        4 => mixed(k, 0, 44, 0, 2),
+        5 => mixed(k, 4, 40, 0, 4),
+        6 => mixed(k, 5, 48, 1, 2),
+        _ => clustered(mixed(k, 3, access::plus(k, k), 0, 0)),
     }
 }
 

@@ -1,4 +1,5 @@
 // What a look has to show under a budget, by the words of documents 01 and 02, from the listing of all trees.
+use crate::access;
 use crate::problem;
 use crate::problem::ABSENT;
 use crate::problem::Problem;
@@ -59,4 +60,11 @@ pub fn state(list: Listing, p: Problem, tail: u32, head: u32) -> u32 {
         list.totals[using],
         list.totals[avoiding],
     )
+}
+
+// "The feeder list is now, among all cheapest feed trees, the first when compared position by position" (02, A10),
+// whether within budget or over it; without a tree 255 everywhere.
+pub fn is_first(list: Listing, parents: &[u8], n: u32) -> bool {
+    let first = list.first;
+    access::equal_bytes(parents, &first, n)
 }

@@ -75,7 +75,8 @@ pub fn tree_spans(parents: &[u8], n: u32, root: u32) -> bool {
 
 // The parents of what is shown: a tree "picks one remaining link into each position except the root, so that every
 // position is reached from the root", with that total; "255 at the root", and everywhere when none: "when over budget,
-// .. the feeder list holds a cheapest tree" (02, A2).
+// .. the feeder list holds a cheapest tree" (02, A2). Which of the cheapest it is (02, A10) the listing of a small
+// instance says, outcome::is_first.
 pub fn parents_right(
     table: &[u32; CELLS], // the weights of the remaining arcs
     parents: &[u8], // the bytes that were shown, the parent of vertex k at place k

@@ -14,18 +14,21 @@ use crate::shown;
 // A listing has room for 8 vertices, more than it ever has: a parent for each, and a place for each arc between two.
 const STRIDE: u32 = 8;
 
-const PARENTS: usize = STRIDE as usize;
+pub const PARENTS: usize = STRIDE as usize;
 
 const ARCS: u32 = STRIDE * STRIDE;
 
 // For each arc a total of trees that use it, and one of trees that do not.
 pub const TOTALS: usize = 2 * ARCS as usize;
 
-// How many trees there are, the total of the cheapest, and for each arc the cheapest total of a tree that uses it and
-// of one that does not (at place; ABSENT where there is none).
+// How many trees there are, the total of the cheapest, the first and the last of the cheapest, and for each arc the
+// cheapest total of a tree that uses it and of one that does not (at place). ABSENT, and 255 everywhere, where there is
+// none.
 pub struct Listing {
     pub trees: u32,
     pub cheapest: u32,
+    pub first: [u8; PARENTS],
+    pub last: [u8; PARENTS],
     pub totals: [u32; TOTALS],
 }
 
@@ -76,6 +79,34 @@ fn smaller(a: u32, b: u32) -> u32 {
     if a < b { a } else { b }
 }
 
+// Whether one list of parents comes before another "when compared position by position": where they first differ, it
+// has the lower one. (02, A10)
+fn is_before(a: [u8; PARENTS], b: [u8; PARENTS]) -> bool {
+    for v in 0..PARENTS {
+        if a[v] != b[v] {
+            return a[v] < b[v];
+        }
+    }
+    false
+}
+
+// The listing with the first and the last of its cheapest trees after one tree more. They are compared, so the order in
+// which the trees come does not matter.
+fn with_ends(list: Listing, parents: [u8; PARENTS], total: u32) -> Listing {
+    let mut l = list;
+    let first = list.first;
+    let last = list.last;
+    let cheaper = total < list.cheapest;
+    let as_cheap = total == list.cheapest;
+    if cheaper || as_cheap && is_before(parents, first) {
+        l.first = parents;
+    }
+    if cheaper || as_cheap && is_before(last, parents) {
+        l.last = parents;
+    }
+    l
+}
+
 // The listing with one tree more.
 fn with_tree(list: Listing, parents: [u8; PARENTS], total: u32) -> Listing {
     let mut l = list;
@@ -94,6 +125,8 @@ pub fn list(table: &[u32; CELLS], n: u32, root: u32) -> Listing {
     let mut l = Listing {
         trees: 0,
         cheapest: ABSENT,
+        first: [255; PARENTS],
+        last: [255; PARENTS],
         totals: [ABSENT; TOTALS],
     };
     let count = choices(n);
@@ -102,7 +135,7 @@ pub fn list(table: &[u32; CELLS], n: u32, root: u32) -> Listing {
         let total = shown::tree_total(table, &parents, n, root);
         if total != ABSENT {
             if shown::tree_spans(&parents, n, root) {
-                l = with_tree(l, parents, total);
+                l = with_tree(with_ends(l, parents, total), parents, total);
             }
         }
     }

@@ -1,4 +1,4 @@
-// The states of a large instance.
+// The states of a large instance, and its cheapest total.
 use harness::boards;
 use harness::calls;
 use harness::calls::Shown;
@@ -97,11 +97,16 @@ pub fn states_fit(table: &[u32; CELLS], p: Problem, s: Shown) -> bool {
     true
 }
 
-// Whether two looks show the same states.
-pub fn same_states(s: Shown, other: Shown) -> bool {
+// Whether two looks show the same tree and the same states.
+pub fn same_shown(s: Shown, other: Shown) -> bool {
+    let parents = s.parents;
+    let other_parents = other.parents;
+    if !access::equal_bytes(&parents, &other_parents, MAX_VERTICES) {
+        return false;
+    }
     let states = s.states;
-    let others = other.states;
-    access::equal_bytes(&states, &others, CELLS as u32)
+    let other_states = other.states;
+    access::equal_bytes(&states, &other_states, CELLS as u32)
 }
 
 // A state of an instance of 32 vertices, whose states stand n to a row.
@@ -114,14 +119,13 @@ fn state_at(s: Shown, tail: u32, head: u32) -> u32 {
 }
 
 // In the place of a total that a look's tree and cuts do not prove, and of a state that rests on it.
-const UNPROVED: u32 = ABSENT - 1;
+pub const UNPROVED: u32 = ABSENT - 1;
 
-// The cheapest total of an instance with that mark, by a look whose tree and cuts prove it; ABSENT without a tree.
-fn total_with_mark(p: Problem, tail: u32, head: u32, mark: u8) -> u32 {
-    let q = worked::with_mark(p, tail, head, mark);
-    let s = look_at(q);
-    let table = problem::costs(q);
-    if verdict::certified(&table, q.n, q.root, s) != 0 {
+// The cheapest total of an instance, by a look whose tree and cuts prove it; ABSENT without a tree.
+pub fn proved_total(p: Problem) -> u32 {
+    let s = look_at(p);
+    let table = problem::costs(p);
+    if verdict::certified(&table, p.n, p.root, s) != 0 {
         return UNPROVED;
     }
     if s.kind == outcome::NONE {
@@ -133,14 +137,14 @@ fn total_with_mark(p: Problem, tail: u32, head: u32, mark: u8) -> u32 {
 // The state of an arc that remains under a limit on totals: by the cheapest tree that uses it, and the cheapest that
 // avoids it. A pinned arc that remains can not be avoided.
 fn state_of_remaining(p: Problem, limit: u32, tail: u32, head: u32) -> u32 {
-    let using = total_with_mark(p, tail, head, PINNED);
+    let using = proved_total(worked::with_mark(p, tail, head, PINNED));
     if using == UNPROVED {
         return UNPROVED;
     }
     if problem::mark_of(p, tail, head) == PINNED {
         return outcome::arc_state(limit, using, ABSENT);
     }
-    let avoiding = total_with_mark(p, tail, head, BANNED);
+    let avoiding = proved_total(worked::with_mark(p, tail, head, BANNED));
     if avoiding == UNPROVED {
         return UNPROVED;
     }

@@ -1,6 +1,6 @@
 // Instances of 32 vertices: dense, sparse, nested cycles, all weights equal. The shown tree and the cuts prove the
 // total; the states are held to what follows from the shown tree and the cuts, for some arcs to looks with that arc
-// pinned and banned, and one below the cheapest total to those at it.
+// pinned and banned; tree and states one below the cheapest total to those at it.
 use crate::exact;
 use crate::planted;
 use harness::calls::Shown;
@@ -131,8 +131,9 @@ fn tried_within(tally: Tally, p: Problem, budget: u32, g: Random) -> Tally {
     tried(tally, p, budget, g)
 }
 
-// "when over budget, the states are to be those for a budget equal to the cheapest total": all of them, one below that
-// total. One changed state has to be reported.
+// "when over budget, the states are to be those for a budget equal to the cheapest total" (02, A2): all of them, one
+// below that total; and the tree, which "depends on root, marks and prices alone" (02, A10). One changed state has to
+// be reported, and one changed parent.
 fn tried_over(tally: Tally, p: Problem, total: u32, g: Random) -> Tally {
     if total == 0 {
         return tally;
@@ -140,9 +141,11 @@ fn tried_over(tally: Tally, p: Problem, total: u32, g: Random) -> Tally {
     let t = tried(tally, p, total - 1, g);
     let at_total = exact::look_at(worked::with_budget(p, total));
     let below = exact::look_at(worked::with_budget(p, total - 1));
-    let u = tally::checked(t, OVERS, exact::same_states(at_total, below));
+    let u = tally::checked(t, OVERS, exact::same_shown(at_total, below));
     let wrong = planted::with_state(below, random::below(g, CELLS as u32));
-    tally::planted(u, !exact::same_states(at_total, wrong))
+    let v = tally::planted(u, !exact::same_shown(at_total, wrong));
+    let other = planted::with_parent(below, random::below(g, MAX_VERTICES), MAX_VERTICES);
+    tally::planted(v, !exact::same_shown(at_total, other))
 }
 
 // Budgets at the cheapest total, one above, somewhat above, and one below.

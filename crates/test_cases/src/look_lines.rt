@@ -62,9 +62,16 @@ pub fn outcome_right(line: Line, s: Session, kind: u32) -> bool {
     session::look_right(s)
 }
 
-// "feeders: 255 0 1 1": the parents that a look shows.
+// "feeders: 255 0 1 1": the parents of the reference's first cheapest tree, and those that a look shows.
 pub fn parents_right(line: Line, s: Session) -> bool {
     let board = s.board;
+    let p = session::problem_now(s);
+    let table = problem::costs(p);
+    let list = trees::list(&table, p.n, p.root);
+    let first = list.first;
+    if !script::expects_bytes(line, &first) {
+        return false;
+    }
     let shown = calls::look(board);
     let parents = shown.parents;
     script::expects_bytes(line, &parents)

@@ -2,6 +2,7 @@
 // their trees, and large ones by the documents' conditions.
 mod buffer_lines; // buffer_lines.rt: lines of the script on cards, lent buffers and plans
 mod exact; // exact.rt: states of a large instance
+mod first; // first.rt: the first cheapest tree of a large instance
 mod history_lines; // history_lines.rt: lines on cards byte by byte
 mod large; // large.rt: instances of 32 vertices
 mod limits; // limits.rt: the same at the dearest price and the greatest budget
@@ -15,4 +16,5 @@ fn main() {
     small::all();
     large::all();
     limits::all();
+    first::all();
 }

@@ -6,10 +6,20 @@ use reference::random;
 use reference::random::Random;
 use reference::shown::CUT_WORDS;
 use reference::shown::NO_PARENT;
+use reference::trees;
 
-fn with_parent(shown: Shown, vertex: u32) -> Shown {
+pub fn with_parent(shown: Shown, vertex: u32, parent: u32) -> Shown {
     let mut s = shown;
-    s.parents[(vertex % buffers::PARENTS as u32) as usize] = 0;
+    s.parents[(vertex % buffers::PARENTS as u32) as usize] = access::narrow(parent);
+    s
+}
+
+// Another tree in the place of the one shown.
+pub fn with_tree(shown: Shown, tree: [u8; trees::PARENTS], n: u32) -> Shown {
+    let mut parents = shown.parents;
+    access::put_bytes(&mut parents, 0, &tree, n);
+    let mut s = shown;
+    s.parents = parents;
     s
 }
 
@@ -33,10 +43,10 @@ pub fn with_fault(shown: Shown, n: u32, root: u32, g: Random) -> Shown {
     let mut s = shown;
     match random::below(g, 7) {
         0 => return with_word(s, 1),
-        1 => return with_parent(s, root),
+        1 => return with_parent(s, root, 0),
         2 => s.kind = access::plus(s.kind, 1) % 3,
         3 => s.pairs = access::plus(s.pairs, 1),
-        4 => return with_parent(s, n),
+        4 => return with_parent(s, n, 0),
         5 => return with_word(s, CUT_WORDS),
         _ => return with_state(s, random::below(random::next(g), access::times(n, n))),
     }

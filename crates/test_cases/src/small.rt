@@ -1,5 +1,5 @@
-// Random small instances, held to the listing of all their trees: kind, total, tree, cuts and every state, with budgets
-// at, just below and just above the cheapest total and the totals with one arc forced.
+// Random small instances, held to the listing of all their trees: kind, total, the first cheapest tree, cuts and every
+// state, with budgets at, just below and just above the cheapest total and the totals with one arc forced.
 use crate::planted;
 use harness::boards;
 use harness::buffers;
@@ -32,6 +32,8 @@ const LOOKS: u32 = 5;
 const KINDS: u32 = 6;
 
 const STATES: u32 = 9;
+
+const SEVERAL: u32 = 13;
 
 // The tally with the states of a look.
 fn with_states(tally: Tally, states: [u8; buffers::STATES], n: u32) -> Tally {
@@ -66,6 +68,26 @@ fn with_over_faults(
     )
 }
 
+// The last of several cheapest trees in the place of the first: the cuts prove it cheapest, so that it is not the first
+// is all that can be reported, and has to be (02, A10).
+fn with_last_tree(
+    tally: Tally,
+    table: &[u32; CELLS],
+    list: Listing,
+    p: Problem,
+    s: Shown,
+) -> Tally {
+    let last = list.last;
+    if outcome::is_first(list, &last, p.n) {
+        return tally;
+    }
+    let other = planted::with_tree(s, last, p.n);
+    tally::planted(
+        tally::with(tally, SEVERAL, 1),
+        verdict::against(table, list, p, other) == verdict::FIRST,
+    )
+}
+
 // A look under a budget, judged, and judged again with a fault planted.
 fn tried(tally: Tally, table: &[u32; CELLS], list: Listing, p: Problem, budget: u32) -> Tally {
     let q = worked::with_budget(p, budget);
@@ -76,7 +98,8 @@ fn tried(tally: Tally, table: &[u32; CELLS], list: Listing, p: Problem, budget: 
     let wrong = planted::with_fault(s, q.n, q.root, g);
     let u = tally::planted(t, verdict::against(table, list, q, wrong) != 0);
     let v = with_over_faults(u, table, list, q, s);
-    with_states(tally::with(v, access::plus(KINDS, s.kind), 1), states, q.n)
+    let w = with_last_tree(v, table, list, q, s);
+    with_states(tally::with(w, access::plus(KINDS, s.kind), 1), states, q.n)
 }
 
 // Looks at, just below and just above a total, if there is one.
@@ -151,6 +174,6 @@ fn run(count: u32) -> Tally {
 pub fn all() {
     tally::report(
         run(20000),
-        b"small instances\ntrees listed\nlooks\nplan\nover\nnone\nstate 0:\nstate 1:\nstate 2:\nstate 3:\n",
+        b"small instances\ntrees listed\nlooks\nplan\nover\nnone\nstate 0:\nstate 1:\nstate 2:\nstate 3:\nlooks with several cheapest trees\n",
     );
 }
