@@ -1,7 +1,8 @@
 // The baseline: exact states by one dense planning for each arc, written for speed in plain Rust and from documents 01
-// and 02 alone. Reads a card on standard input and prints what the planner prints but for the feed lines, since which
-// cheapest tree is shown is free. With the argument `all` it lists all plans instead, by a recursive walk in place, and
-// prints what print_listing prints.
+// and 02 alone. Reads a card on standard input and prints what the planner prints but for the feed lines: this is what
+// is timed, and it does what it did when any cheapest tree could be shown. With the argument `first` it prints the feed
+// lines too, those of the first cheapest tree. With the argument `all` it lists all plans instead, by a recursive walk
+// in place, and prints what print_listing prints.
 use std::io::{Read, Write};
 
 const NONE: u32 = 1_048_575;
@@ -206,20 +207,43 @@ fn cheapest(n: usize, root: usize, rows: &Rows) -> Option<u32> {
     Some(total)
 }
 
+// No arc into head h but the one from tail t.
+fn forced(rows: &Rows, h: usize, t: usize) -> Rows {
+    let mut one = *rows;
+    one[h] = [INF; 32];
+    one[h][t] = rows[h][t];
+    one
+}
+
 // Which arcs a tree with a total of at most the limit uses, indexed by head and then tail.
 fn usable(s: &Instance, rows: &Rows, limit: u32) -> [[bool; 32]; 32] {
     let mut used = [[false; 32]; 32];
     for h in (0..s.n).filter(|&h| h != s.root) {
         for t in 0..s.n {
             if rows[h][t] != INF {
-                let mut one = *rows;
-                one[h] = [INF; 32];
-                one[h][t] = rows[h][t];
-                used[h][t] = cheapest(s.n, s.root, &one).is_some_and(|v| v <= limit);
+                used[h][t] = cheapest(s.n, s.root, &forced(rows, h, t)).is_some_and(|v| v <= limit);
             }
         }
     }
     used
+}
+
+// The first of the trees with the cheapest total when tails are compared vertex by vertex. Vertices are settled
+// upwards, each by the lowest tail that leaves the cheapest total as it is, with all arcs settled before it forced too.
+fn first_tree(s: &Instance, rows: &Rows, total: u32) -> [usize; 32] {
+    let mut tails = [s.root; 32];
+    let mut left = *rows;
+    for h in (0..s.n).filter(|&h| h != s.root) {
+        let keeps = |&t: &usize| cheapest(s.n, s.root, &forced(&left, h, t)) == Some(total);
+        tails[h] = (0..s.n).find(keeps).expect("a cheapest tree begins with the arcs settled so far");
+        left = forced(&left, h, tails[h]);
+    }
+    tails
+}
+
+fn feed_lines(s: &Instance, tails: &[usize; 32]) -> String {
+    let line = |h: usize| format!("feed {h} from {} price {}\n", tails[h], s.weight[h][tails[h]]);
+    (0..s.n).filter(|&h| h != s.root).map(line).collect()
 }
 
 fn state(s: &Instance, used: &[bool; 32], tail: usize, head: usize) -> u8 {
@@ -234,7 +258,7 @@ fn state(s: &Instance, used: &[bool; 32], tail: usize, head: usize) -> u8 {
     }
 }
 
-fn text(card: &[u8]) -> String {
+fn text(card: &[u8], with_feeds: bool) -> String {
     let s = match open(card) {
         Ok(s) => s,
         Err(k) => return format!("refused {k}\n"),
@@ -246,6 +270,9 @@ fn text(card: &[u8]) -> String {
         None => out.push_str("none\n"),
         Some(v) => {
             out.push_str(&format!("{} {v}\n", if v > s.budget { "over" } else { "plan" }));
+            if with_feeds {
+                out.push_str(&feed_lines(&s, &first_tree(&s, &rows, v)));
+            }
             used = usable(&s, &rows, s.budget.max(v));
         }
     }
@@ -344,6 +371,10 @@ fn listing(card: &[u8]) -> String {
 fn main() {
     let mut card = Vec::new();
     std::io::stdin().read_to_end(&mut card).expect("a card on standard input");
-    let printed = if std::env::args().nth(1).is_some_and(|a| a == "all") { listing(&card) } else { text(&card) };
+    let printed = match std::env::args().nth(1).as_deref() {
+        Some("all") => listing(&card),
+        Some("first") => text(&card, true),
+        _ => text(&card, false),
+    };
     std::io::stdout().write_all(printed.as_bytes()).expect("standard output");
 }

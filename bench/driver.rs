@@ -1,159 +1,25 @@
-// Makes cards of several families with a fixed seed, runs the planner's print_plan and the baseline on the same cards
-// in turn, checks that they print the same outcome and states, and prints times and ratios; the same for print_listing,
-// whose whole text must be the baseline's. Arguments: PRINT_PLAN PRINT_LISTING BASELINE [valgrind]. A time is that of a
-// whole process, its start included (but for those of an opening and of a listing): the least of several runs, since
-// other processes only add to it. Under valgrind it also prints what no clock shows: plannings, the deepest stack, and
-// the instructions of the planning process after its start.
+// Runs the planner's print_plan and the baseline on the same cards (cards.rs) in turn, checks that they print the same
+// text, and prints times and ratios; the same for print_listing. With `against BEFORE`, a print_plan of another commit,
+// it compares print_plan with that and does nothing else. Arguments: PRINT_PLAN PRINT_LISTING BASELINE [against BEFORE]
+// [valgrind]. A time is that of a whole process, its start included (but for those of an answer and of a listing): the
+// least of several runs, since other processes only add to it. Under valgrind it also prints what no clock shows:
+// plannings, the deepest stack, and the instructions of the planning process after its start.
+mod cards;
+
+use cards::{FAMILIES, FURTHER, Family, Instance, MAX_BUDGET, MAX_WEIGHT, NONE, Random, dense, equal, nested, sparse};
 use std::fs::{self, File};
 use std::io::{Read, Write};
 use std::process::{Command, Stdio};
 use std::thread::sleep;
 use std::time::{Duration, Instant};
 
-const NONE: u32 = 1_048_575;
-const MAX_WEIGHT: u32 = 1_048_574;
-const MAX_BUDGET: u32 = 32_505_794;
-
-// The dearest price of most families: the limit before request A9, so that rows from then can be compared.
-const DRAWN: u64 = 1_000_000;
-
 const CARD: &str = "target/bench/card";
 
-const RECORDS: usize = 200;
+// The head over the names of rows.
+const NAMES: &str = "family            budget      n";
 
-struct Random(u64);
-
-impl Random {
-    fn below(&mut self, k: u64) -> u64 {
-        self.0 ^= self.0 << 13;
-        self.0 ^= self.0 >> 7;
-        self.0 ^= self.0 << 17;
-        (self.0 >> 11) % k
-    }
-}
-
-#[derive(Clone)]
-struct Instance {
-    n: usize,
-    root: usize,
-    budget: u32,
-    weight: Vec<u32>, // tail by tail
-    mark: Vec<u32>,
-}
-
-impl Instance {
-    fn new(n: usize, root: usize) -> Instance {
-        Instance { n, root, budget: MAX_BUDGET, weight: vec![NONE; n * n], mark: vec![0; n * n] }
-    }
-
-    fn fill(mut self, mut weight: impl FnMut(usize, usize) -> u32) -> Instance {
-        for t in 0..self.n {
-            for h in 0..self.n {
-                if t != h && h != self.root {
-                    self.weight[t * self.n + h] = weight(t, h);
-                }
-            }
-        }
-        self
-    }
-
-    fn put_sheet(&self, bits: &mut Vec<bool>) {
-        put(bits, self.n as u32, 6);
-        put(bits, self.root as u32, 5);
-        put(bits, self.budget, 25);
-        for t in 0..self.n {
-            for h in 0..self.n {
-                if t != h && h != self.root {
-                    put(bits, self.weight[t * self.n + h], 20);
-                    put(bits, self.mark[t * self.n + h], 2);
-                }
-            }
-        }
-    }
-
-    fn card(&self) -> Vec<u8> {
-        let mut bits = Vec::new();
-        self.put_sheet(&mut bits);
-        packed(bits)
-    }
-
-    // With as many records as there can be, each as long as it can be: group presses on all links of the root. Every
-    // pair must be a link.
-    fn history_card(&self) -> Vec<u8> {
-        let mut bits = Vec::new();
-        put(&mut bits, 63, 6);
-        self.put_sheet(&mut bits);
-        put(&mut bits, RECORDS as u32, 8);
-        let members = ((1u64 << self.n) - 1) as u32 & !(1 << self.root);
-        for k in 0..RECORDS {
-            put(&mut bits, 2, 2);
-            put(&mut bits, self.root as u32, 5);
-            put(&mut bits, members, 32);
-            (1..self.n).for_each(|h| put(&mut bits, ((h + k) % 3) as u32, 2));
-        }
-        packed(bits)
-    }
-}
-
-fn put(bits: &mut Vec<bool>, v: u32, width: u32) {
-    (0..width).rev().for_each(|k| bits.push(v >> k & 1 == 1));
-}
-
-fn packed(mut bits: Vec<bool>) -> Vec<u8> {
-    bits.resize((bits.len() + 7) / 8 * 8, false);
-    bits.chunks(8).map(|c| c.iter().fold(0, |v, &b| v << 1 | u8::from(b))).collect()
-}
-
-fn dense(r: &mut Random, n: usize) -> Instance {
-    let root = r.below(n as u64) as usize;
-    Instance::new(n, root).fill(|_, _| r.below(DRAWN + 1) as u32)
-}
-
-fn equal(r: &mut Random, n: usize) -> Instance {
-    let w = r.below(DRAWN + 1) as u32;
-    Instance::new(n, 0).fill(|_, _| w)
-}
-
-fn few(r: &mut Random, n: usize) -> Instance {
-    Instance::new(n, 0).fill(|_, _| r.below(4) as u32)
-}
-
-fn sparse(r: &mut Random, n: usize) -> Instance {
-    Instance::new(n, 0).fill(|t, h| if t + 1 == h || r.below(8) == 0 { r.below(DRAWN + 1) as u32 } else { NONE })
-}
-
-// Every contraction takes in one vertex more: v + 1 is cheapest from within {1 .. v}, and {1 .. v} cheapest from v + 1.
-fn nested(r: &mut Random, n: usize) -> Instance {
-    Instance::new(n, 0).fill(|t, h| match (t, h) {
-        (0, _) => 900_000 + r.below(1000) as u32,
-        (t, 1) => 100 * t as u32 + r.below(50) as u32,
-        (t, h) if t + 1 == h => 1 + r.below(5) as u32,
-        _ => 500_000 + r.below(300_000) as u32,
-    })
-}
-
-fn marked(r: &mut Random, n: usize) -> Instance {
-    let mut s = dense(r, n);
-    for h in 0..n {
-        for t in 0..n {
-            if t != h && h != s.root && r.below(3) == 0 {
-                s.mark[t * n + h] = 2;
-            }
-        }
-        if r.below(6) == 0 {
-            let t = s.root;
-            if t != h {
-                s.mark[t * n + h] = 1;
-            }
-        }
-    }
-    s
-}
-
-// Every price is above the limit before request A9.
-fn dear(r: &mut Random, n: usize) -> Instance {
-    Instance::new(n, 0).fill(|_, _| MAX_WEIGHT - r.below(u64::from(MAX_WEIGHT) - DRAWN) as u32)
-}
+// How often each program answers each card when looks are compared.
+const ANSWERS: usize = 60;
 
 // A program with its arguments, if it has any, behind spaces.
 fn command(program: &str) -> Command {
@@ -175,7 +41,7 @@ fn time(program: &str, card: &str) -> f64 {
     start.elapsed().as_secs_f64() * 1000.0
 }
 
-// The outcome and the rows; the tree is free, so the feed lines are left out.
+// The outcome and the rows: before request A10 any cheapest tree could be shown, so the feed lines are left out.
 fn fixed(text: &str) -> Vec<&str> {
     text.lines().filter(|l| !l.starts_with("feed ")).collect()
 }
@@ -278,13 +144,59 @@ fn is_over(instance: &Instance, base: &str) -> bool {
     run(base, CARD).lines().nth(1).is_some_and(|l| l.starts_with("over "))
 }
 
-// One line of the table: means of the times of five cards; under valgrind also the most plannings, the deepest stack
-// and the mean of the instructions. What is not measured has no column.
-fn row(ours: &str, base: &str, deep: bool, instances: &[Instance; 5]) -> String {
+// Five cards of a family with one kind of budget, for one line of a table.
+struct Row {
+    family: &'static str,
+    is_shuffled: bool,
+    budget: &'static str,
+    n: usize,
+    instances: [Instance; 5],
+}
+
+impl Row {
+    fn new(family: &Family, budget: &'static str, n: usize, instances: [Instance; 5]) -> Row {
+        Row { family: family.name, is_shuffled: family.is_shuffled, budget, n, instances }
+    }
+
+    fn name(&self) -> String {
+        let order = if self.is_shuffled { "shuffled" } else { "" };
+        format!("{:<8} {order:<8} {:<10} {:>2}", self.family, self.budget, self.n)
+    }
+}
+
+fn rows(families: &[Family], sizes: &[usize], base: &str, r: &mut Random) -> Vec<Row> {
+    let mut rows = Vec::new();
+    for family in families {
+        for budget in ["tight", "middling", "unlimited"] {
+            for &n in sizes {
+                let instances = std::array::from_fn(|_| with_budget(family.draw(r, n), budget, base));
+                // the same cards again, so that nothing more is drawn and every other row keeps its cards
+                let over = (budget == "tight").then(|| instances.each_ref().map(below));
+                rows.push(Row::new(family, budget, n, instances));
+                if let Some(instances) = over {
+                    assert!(instances.iter().all(|s| is_over(s, base)), "a card is not over its budget");
+                    rows.push(Row::new(family, "over", n, instances));
+                }
+            }
+        }
+    }
+    rows
+}
+
+// The further families have a seed of their own, so that all that is drawn with the first one stays as it was.
+fn all_rows(base: &str, r: &mut Random) -> Vec<Row> {
+    let mut all = rows(&FAMILIES, &[8, 16, 32], base, r);
+    all.extend(rows(&FURTHER, &[32], base, &mut Random::seeded()));
+    all
+}
+
+// The columns of a row: means of the times of five cards; under valgrind also the most plannings, the deepest stack and
+// the mean of the instructions. What is not measured has no column.
+fn columns(ours: &str, base: &str, deep: bool, instances: &[Instance; 5]) -> String {
     let (mut a, mut b, mut plannings, mut stack, mut instructions) = (0.0, 0.0, 0, 0, 0);
     for instance in instances {
         fs::write(CARD, instance.card()).unwrap();
-        assert_eq!(fixed(&run(base, CARD)), fixed(&run(ours, CARD)));
+        assert_eq!(run(&format!("{base} first"), CARD), run(ours, CARD));
         let (p, q) = times(base, ours);
         a += p / 5.0;
         b += q / 5.0;
@@ -317,6 +229,18 @@ fn answer_time(program: &str, card: &[u8]) -> f64 {
     took
 }
 
+// The least of several runs of each program on its card, in ms: all in turn, so that a slow spell of the machine spoils
+// none alone.
+fn least_answers(runs: usize, pairs: &[(&str, &[u8])]) -> Vec<f64> {
+    let mut least = vec![f64::MAX; pairs.len()];
+    for _ in 0..runs {
+        for (k, &(program, card)) in pairs.iter().enumerate() {
+            least[k] = least[k].min(answer_time(program, card));
+        }
+    }
+    least
+}
+
 // The longest card of each kind with a fault at its very end, so that all of it is read and nothing is planned: a
 // filling bit of 1 on a plain card, a last mark of 3 on a history card. From times and instructions those of a
 // process that is handed no byte are taken off. Under valgrind also the deepest stack of nested cycles on both kinds.
@@ -332,10 +256,7 @@ fn opening(ours: &str, deep: bool, r: &mut Random) {
         fs::write(file(k), card).unwrap();
         assert_eq!(run(ours, &file(k)), *refusal);
     }
-    let mut least = [f64::MAX; 3];
-    for _ in 0..1000 {
-        (0..3).for_each(|k| least[k] = least[k].min(answer_time(ours, &cards[k].2)));
-    }
+    let least = least_answers(1000, &cards.each_ref().map(|(_, _, card)| (ours, &card[..])));
     let more = if deep { "  instructions  stack bytes" } else { "" };
     println!("opening  bytes  print_plan ms{more}");
     let start = if deep { count(ours, &file(0)).1 } else { 0 };
@@ -410,42 +331,106 @@ fn listings(ours: &str, base: &str, deep: bool, r: &mut Random) {
     }
 }
 
-fn main() {
-    let args: Vec<String> = std::env::args().collect();
-    let (ours, listing, base) = (&args[1], &args[2], &args[3]);
-    let deep = args.get(4).is_some_and(|a| a == "valgrind");
-    fs::create_dir_all("target/bench").unwrap();
-    let mut random = Random(0x9E37_79B9_7F4A_7C15);
+// The looks of two programs at the same five cards, the one of before first. Times are the means of their answers, in
+// microseconds; `starts` are those of a card of one vertex, in turn with them.
+struct Looks {
+    starts: [f64; 2],
+    times: [f64; 2],
+    instructions: [u64; 2],
+    plannings: [u64; 2],
+}
+
+// One program answers all cards before the other does: with the two in turn at each card the second takes less time, as
+// the same program against itself shows. Both must show the same outcome and states.
+fn looks(programs: [&str; 2], deep: bool, row: &Row) -> Looks {
+    let one = Instance::new(1, 0);
+    let cards: Vec<Vec<u8>> = std::iter::once(&one).chain(&row.instances).map(Instance::card).collect();
+    let pairs: Vec<(&str, &[u8])> = programs.iter().flat_map(|&p| cards.iter().map(move |c| (p, &c[..]))).collect();
+    let least = least_answers(ANSWERS, &pairs);
+    let mut looks = Looks { starts: [0.0; 2], times: [0.0; 2], instructions: [0; 2], plannings: [0; 2] };
+    for (k, least) in least.chunks(cards.len()).enumerate() {
+        looks.starts[k] = 1000.0 * least[0];
+        looks.times[k] = 1000.0 * least[1..].iter().sum::<f64>() / 5.0;
+    }
+    for card in &cards[1..] {
+        fs::write(CARD, card).unwrap();
+        assert_eq!(fixed(&run(programs[0], CARD)), fixed(&run(programs[1], CARD)));
+        for k in (0..2).filter(|_| deep) {
+            let (calls, all) = count(programs[k], CARD);
+            looks.instructions[k] += all / 5;
+            looks.plannings[k] = looks.plannings[k].max(calls);
+        }
+    }
+    looks
+}
+
+// The ratios of the times, of the times above those of one vertex, and, if they were counted, of the instructions.
+fn ratios(looks: &Looks) -> [f64; 3] {
+    let above = |k: usize| looks.times[k] - looks.starts[k];
+    let instructions = looks.instructions.map(|c| c as f64);
+    [looks.times[1] / looks.times[0], above(1) / above(0), instructions[1] / instructions[0]]
+}
+
+fn looks_line(looks: &Looks, deep: bool) -> String {
+    let ([p, q], [u, v], r) = (looks.times, looks.starts, ratios(looks));
+    let line = format!("{p:>10.1} {q:>8.1} {:>6.2} {:>7.1} {:>9.1} {:>8.1} {:>6.2}", r[0], q - p, p - u, q - v, r[1]);
+    if !deep {
+        return line;
+    }
+    let ([i, j], [k, l]) = (looks.instructions, looks.plannings);
+    format!("{line} {i:>10} {j:>9} {:>6.2} {k:>7} {l:>6}", r[2])
+}
+
+fn looks_head(deep: bool) {
+    let mut groups = format!("{:<32}answer, us                         above one vertex, us", "");
+    let mut names = format!("{NAMES}     before    after  ratio    more    before    after  ratio");
+    if deep {
+        groups.push_str("       instructions               plannings");
+        names.push_str("     before     after  ratio  before  after");
+    }
+    println!("{groups}\n{names}");
+}
+
+// Against the print_plan of another commit, at the cards of 32 vertices.
+fn against(before: &str, after: &str, base: &str, deep: bool) {
+    looks_head(deep);
+    let mut largest = [[0.0; 3]; 2];
+    for row in all_rows(base, &mut Random::seeded()).iter().filter(|row| row.n == 32) {
+        let looks = looks([before, after], deep, row);
+        println!("{} {}", row.name(), looks_line(&looks, deep));
+        for (most, ratio) in largest[usize::from(row.is_shuffled)].iter_mut().zip(ratios(&looks)) {
+            *most = ratio.max(*most);
+        }
+    }
+    for (name, [whole, above, instructions]) in ["plain", "shuffled"].iter().zip(largest) {
+        print!("largest ratio, {name:<8} {whole:>6.2}, above one vertex {above:>6.2}");
+        println!("{}", if deep { format!(", instructions {instructions:>6.2}") } else { String::new() });
+    }
+}
+
+fn table(ours: &str, base: &str, deep: bool, r: &mut Random) {
     fs::write(CARD, Instance::new(1, 0).card()).unwrap();
     let (p, q) = times(base, ours);
     println!("one vertex, that is the start of the process: baseline {p:.2} ms, print_plan {q:.2} ms");
     let more = if deep { "  plannings  stack bytes  instructions" } else { "" };
-    println!("family   budget      n  baseline ms  print_plan ms  ratio{more}");
-    let families: [(&str, fn(&mut Random, usize) -> Instance); 7] = [
-        ("dense", dense),
-        ("equal", equal),
-        ("few", few),
-        ("nested", nested),
-        ("sparse", sparse),
-        ("marked", marked),
-        ("dear", dear),
-    ];
-    for (name, make) in families {
-        for budget in ["tight", "middling", "unlimited"] {
-            for n in [8, 16, 32] {
-                let instances = std::array::from_fn(|_| with_budget(make(&mut random, n), budget, base));
-                println!("{name:<8} {budget:<10} {n:>2} {}", row(ours, base, deep, &instances));
-                // the same cards again, so that nothing more is drawn and every other row keeps its cards
-                if budget == "tight" {
-                    let instances = instances.each_ref().map(below);
-                    assert!(instances.iter().all(|s| is_over(s, base)), "a card is not over its budget");
-                    println!("{name:<8} {:<10} {n:>2} {}", "over", row(ours, base, deep, &instances));
-                }
-            }
-        }
+    println!("{NAMES}  baseline ms  print_plan ms  ratio{more}");
+    for row in all_rows(base, r) {
+        println!("{} {}", row.name(), columns(ours, base, deep, &row.instances));
     }
-    // last, so that every row above keeps its cards
+}
+
+fn main() {
+    let args: Vec<String> = std::env::args().collect();
+    let (ours, listing, base) = (&args[1], &args[2], &args[3]);
+    let deep = args.last().is_some_and(|a| a == "valgrind");
+    fs::create_dir_all("target/bench").unwrap();
+    if args.get(4).is_some_and(|a| a == "against") {
+        return against(&args[5], ours, base, deep);
+    }
+    let mut random = Random::seeded();
+    table(ours, base, deep, &mut random);
+    // after the table, so that every row above keeps its cards
     opening(ours, deep, &mut random);
     // a seed of its own: an opening draws more under valgrind
-    listings(listing, base, deep, &mut Random(0x9E37_79B9_7F4A_7C15));
+    listings(listing, base, deep, &mut Random::seeded());
 }
