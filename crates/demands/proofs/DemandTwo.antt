@@ -1,7 +1,7 @@
 -- DEMAND 2, from the look's own contract: plan, over and none exactly when they should be; for plan and over alike, the
 -- parents in the buffer are those of an arborescence that keeps pins and bans and has the total shown, the first of the
--- cheapest ones (02, A10), and the cuts in the buffer, each of a value of at least 1 and zeros after them, prove by weak
--- duality that none is cheaper. Assumes nothing.
+-- cheapest ones (02, A10), and the cuts in the buffer, each of a value of at least 1 and zeros after them, prove by
+-- weak duality that none is cheaper. Assumes nothing.
 use mathlib.Core.Path.{_≡_}
 use mathlib.Core.Bool.{true, false}
 use mathlib.Core.List.{List}

@@ -1,17 +1,16 @@
 -- Cycles. A prefix has no parent for the vertices from v on, so that a path in it ends there, and is a path in every
 -- list that goes on from it; and no path of an arborescence comes back to where it began: an arc that closes a cycle
 -- begins no arborescence. Assumes nothing.
-use mathlib.Core.Path.{_≡_, sym, subst}
+use mathlib.Core.Path.{_≡_, subst}
 use mathlib.Core.Bool.{true, false}
 use mathlib.Core.List.{List, _∷_, _++_}
-use mathlib.Core.Logic.{_⊎_, inl, inr, ⊎-elim, _≢_}
+use mathlib.Core.Logic.{_⊎_, inl, inr, ⊎-elim}
 use Prim.Native.Nat.{ℕ, zero, suc, _≤_, _<_}
 use native.Mathlib.Omega.{arith}
-use native.Mathlib.Decide.{ℕ-discrete}
 use lib.Dec.{ltb, eqb}
 use lib.ListN.{length, List·getD-append, List·getD-eq-default}
 use lib.Seq.{getD-at}
-use borrow.Author.Tests.{eqb-true, eqb-false, ne-eqb, ltb-true, ltb-false}
+use borrow.Author.Tests.{eqb-false, ltb-true, ltb-false}
 use Rattle.base.proofs.BoolLaws.{test, not-both, is-false, or-cases, or-left, or-right}
 use Rattle.instance.specs.Limits.{max-vertices, no-parent}
 use Rattle.instance.specs.Instance.{Instance}

@@ -1,6 +1,7 @@
 -- The walk of an instance with its limit and its room (02, A7): it is complete exactly if both suffice, and then it has
 -- every fitting arborescence; it always has the first ones; it ends at the limit only where one more try is due, and
--- for want of room only where one more tree is; its trees ascend; and how many trees and tries there are. Assumes nothing.
+-- for want of room only where one more tree is; its trees ascend; and how many trees and tries there are. Assumes
+-- nothing.
 use mathlib.Core.Path.{_≡_, sym, _∙_, subst}
 use mathlib.Core.List.{List, []}
 use Prim.Native.Nat.{ℕ, _+_, _*_, _≤_, _<_}

@@ -1,22 +1,21 @@
--- What a program reads and adds up when a tail is tried: weights, a total, the matrix of the arcs that are kept. Assumes
--- nothing.
+-- What a program reads and adds up when a tail is tried: weights, a total, the matrix of the arcs that are kept.
+-- Assumes nothing.
 use mathlib.Core.Path.{_≡_, refl, sym, ap, _∙_}
 use mathlib.Core.Bool.{Bool, true, false, _&&_, cond}
 use mathlib.Core.List.{List}
 use mathlib.Core.Logic.{_≢_}
-use Prim.Native.Nat.{ℕ, _+_, _*_, _/_, _%_, _≤_, _<_}
+use Prim.Native.Nat.{ℕ, _+_, _/_, _%_, _≤_, _<_}
 use native.Mathlib.Omega.{arith}
 use lib.Dec.{eqb}
 use lib.ListN.{length, getD, set, take, replicate, length-replicate}
 use borrow.Author.Tests.{eq-eqb, ne-eqb}
 use Rattle.base.specs.Bounded.{sum-below}
-use Rattle.base.specs.Lists.{tabulate}
 use Rattle.base.proofs.BoolLaws.{and-both, and-false-right}
 use Rattle.base.proofs.SumLaws.{sum-more, sum-most}
 use Rattle.base.proofs.CondLaws.{cond-most}
 use Rattle.base.proofs.ListLaws.{default, replicate-at, tabulate-is, length-tabulate, getD-tabulate}
 use Rattle.base.proofs.OverwriteLaws.{Overwritten, overwrite-none, overwrite-store, overwrite-pass}
-use Rattle.instance.specs.Limits.{max-vertices, no-arc, cells, word-limit}
+use Rattle.instance.specs.Limits.{no-arc, cells, word-limit}
 use Rattle.instance.specs.Instance.{Instance, cell, weight-at, weight}
 use Rattle.instance.specs.Arborescence.{remaining, parent, is-arborescence, total}
 use Rattle.instance.specs.Cuts.{cuts-in}

@@ -1,22 +1,20 @@
 -- An arc fixed in the sets of tails, cut by cut from the last one on. Assumes nothing.
 use mathlib.Core.Path.{_≡_, refl, sym, ap, _∙_, subst}
 use mathlib.Core.Bool.{Bool, true, false, _&&_, _||_, not, cond}
-use mathlib.Core.List.{List, [], _∷_}
+use mathlib.Core.List.{List}
 use mathlib.Core.Logic.{⊎-elim, _≢_}
 use Prim.Native.Nat.{ℕ, zero, suc, _+_, _*_, _-_, _^_, _≤_, _<_}
 use native.Mathlib.Omega.{arith}
 use native.Mathlib.Decide.{ℕ-discrete}
-use lib.Bits.{bitAnd}
 use lib.Dec.{ltb, eqb}
 use lib.ListN.{length, getD, set, length-set}
 use lib.Seq.{getD-set-same, getD-set-other}
-use borrow.Author.Tests.{ltb-true, ltb-false, eqb-true, eqb-false, eq-eqb, ne-eqb, not-true, not-false}
+use borrow.Author.Tests.{ltb-true, ltb-false, eqb-true, eq-eqb, ne-eqb, not-true}
 use Rattle.base.specs.Lists.{any-of}
 use Rattle.base.proofs.BoolLaws.{test, not-both, is-true, is-false, and-left, and-both, or-false-left, or-false-right}
 use Rattle.instance.specs.Limits.{max-vertices}
 use Rattle.instance.specs.Cuts.{Cut, cuts-from, cuts-in, inside, enters}
-use Rattle.instance.proofs.CutLaws.{no-cuts}
-use Rattle.narrowing.specs.Narrowed.{share-cut, stays-beside, Fixed}
+use Rattle.narrowing.specs.Narrowed.{share-cut, stays-beside}
 use Rattle.first_tree.specs.Tails.{kept-by}
 use Rattle.first_tree.specs.Fixing.{Within, Fixed-tails}
 use Rattle.first_tree.proofs.SetLaws.{inside-and, inside-one}

@@ -3,13 +3,12 @@ use mathlib.Core.Path.{_≡_, refl, sym, ap, _∙_, subst}
 use mathlib.Core.Bool.{Bool, true, false, _&&_, _||_}
 use mathlib.Core.List.{List}
 use mathlib.Core.Logic.{⊎-elim}
-use Prim.Native.Nat.{ℕ, suc, _+_, _*_, _%_, _^_, _≤_, _<_}
+use Prim.Native.Nat.{ℕ, suc, _^_, _≤_, _<_}
 use native.Mathlib.Omega.{arith}
-use native.Mathlib.Nat.{eq-or-lt-of-le, le-antisymm}
 use lib.Bits.{bitAnd, bitOr, and-le-r, or-lt}
 use lib.Count.{trailingZeros}
 use lib.Dec.{ltb, eqb}
-use lib.ListN.{length, getD, set, take, replicate, length-set}
+use lib.ListN.{getD, set, take, replicate, length-set}
 use lib.Pow.{pow-lt, pow-mono, pow-pos}
 use lib.Seq.{take-set-lt}
 use borrow.Author.Tests.{ltb-true, ltb-false, eq-eqb}

@@ -1,33 +1,30 @@
 -- The search on a matrix: what each test tells, and one vertex settled after the other. Assumes nothing.
-use mathlib.Core.Path.{_≡_, refl, sym, ap, _∙_, subst}
-use mathlib.Core.Bool.{Bool, true, false, _&&_}
+use mathlib.Core.Path.{_≡_, refl, sym, _∙_, subst}
+use mathlib.Core.Bool.{Bool, true, false}
 use mathlib.Core.List.{List}
 use mathlib.Core.Logic.{⊎-elim, _≢_}
 use Prim.Native.Nat.{ℕ, zero, suc, _+_, _≤_, _<_}
 use native.Mathlib.Omega.{arith}
 use native.Mathlib.Decide.{ℕ-discrete}
 use native.Mathlib.Numerals.{add-one}
-use lib.Dec.{eqb}
-use lib.ListN.{length, getD, set, take, length-set}
+use lib.ListN.{set, take, length-set}
 use lib.Seq.{take-set-lt}
 use borrow.Author.Tests.{eqb-false, eq-eqb, ne-eqb}
 use Rattle.base.specs.Bounded.{all-below}
-use Rattle.base.proofs.BoolLaws.{test, is-false, not-both}
+use Rattle.base.proofs.BoolLaws.{test, not-both}
 use Rattle.base.proofs.BoundedLaws.{all-at}
 use Rattle.instance.specs.Limits.{max-vertices}
-use Rattle.instance.specs.Instance.{Instance, cell, weight}
-use Rattle.instance.specs.Arborescence.{remaining, parent, is-arborescence, total}
+use Rattle.instance.specs.Instance.{Instance}
+use Rattle.instance.specs.Arborescence.{remaining, parent}
 use Rattle.instance.specs.Candidates.{first-tree}
 use Rattle.instance.specs.Cuts.{Cut, cuts-in, inside}
 use Rattle.instance.specs.Matrix.{unmarked}
 use Rattle.instance.proofs.ArcLaws.{Ends, remaining-ends}
 use Rattle.theory.proofs.Duality.{weak-duality}
-use Rattle.paths.specs.Paths.{Rooted}
 use Rattle.paths.specs.Tree.{Matrix-tree}
 use Rattle.paths.proofs.PathLaws.{parent-other}
 use Rattle.paths.proofs.ExchangeLaws.{exchange-uses, exchange, exchange-total}
-use Rattle.narrowing.specs.Narrowed.{Of-total, Kept, Narrowed, None-below, Refuted}
-use Rattle.narrowing.specs.Grown.{Closed}
+use Rattle.narrowing.specs.Narrowed.{Of-total, Kept, None-below, Refuted}
 use Rattle.narrowing.proofs.FixedLaws.{fixed-less}
 use Rattle.narrowing.proofs.NarrowedLaws.{narrowed-start, narrowed-take, none-below-take, refute-absent, refute-cycle, refute-fixed, fixed-tail, narrowed-settle, narrowed-root, narrowed-first}
 use Rattle.narrowing.proofs.GrownLaws.{grown-kept, grown-whole, closed-none}

@@ -1,14 +1,14 @@
 -- Sets of vertices as a program works on them: two sets met, two joined, one vertex, the least member. Assumes nothing.
 use mathlib.Core.Path.{_≡_, refl, sym, ap, _∙_}
-use mathlib.Core.Bool.{Bool, true, false, _&&_, _||_}
+use mathlib.Core.Bool.{true, false, _&&_, _||_}
 use mathlib.Core.Logic.{_⊎_, inl, inr, ⊎-elim, _≢_}
-use Prim.Native.Nat.{ℕ, zero, suc, _+_, _*_, _/_, _%_, _^_, _≤_, _<_}
+use Prim.Native.Nat.{ℕ, zero, suc, _+_, _/_, _%_, _^_, _≤_, _<_}
 use native.Mathlib.Omega.{arith}
-use native.Mathlib.Nat.{zero-add, pow-zero, pow-suc, div-lt-iff-lt-mul, one-mul, mod-eq-of-lt}
-use lib.Bits.{bitAnd, bitOr, and-shr, and-mod, or-shr, or-mod, and-zero-l, and-zero-r, or-zero-l, or-zero-r, or-add-and, and-le-r}
+use native.Mathlib.Nat.{zero-add, pow-suc}
+use lib.Bits.{bitAnd, bitOr, and-shr, and-mod, or-shr, or-mod, or-add-and, and-le-r}
 use lib.Count.{under, trailingZeros}
 use lib.Dec.{ltb, eqb}
-use lib.Pow.{pow-lt, pow-mono, pow-pos, shr-shr}
+use lib.Pow.{pow-lt, pow-pos, shr-shr}
 use borrow.Author.Tests.{ltb-true, ltb-false, eqb-true, eqb-false, eq-eqb, ne-eqb}
 use Rattle.base.proofs.BoolLaws.{test}
 use Rattle.instance.specs.Cuts.{inside}

@@ -1,10 +1,9 @@
 -- The sets of tails that the search starts with: they have the arcs of reduced cost 0 and no others. Assumes nothing.
 use mathlib.Core.Path.{_≡_, sym, ap, _∙_}
-use mathlib.Core.Bool.{Bool, true, false, _&&_, cond}
+use mathlib.Core.Bool.{true, false, cond}
 use mathlib.Core.List.{List}
 use mathlib.Core.Logic.{⊎-elim}
-use Prim.Native.Nat.{ℕ, _^_, _≤_, _<_}
-use native.Mathlib.Omega.{arith}
+use Prim.Native.Nat.{ℕ, _^_, _<_}
 use native.Mathlib.Nat.{zero-lt-suc}
 use lib.Dec.{ltb, eqb}
 use lib.ListN.{getD, replicate, length-replicate}

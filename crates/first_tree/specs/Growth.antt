@@ -1,6 +1,6 @@
--- A tree grown from the root, as a program holds it: the vertices that are reached as a set, their parents in 32 places,
--- and the sets of tails, from which goes out what cannot stand beside the arcs taken. Assumes nothing: these are
--- definitions.
+-- A tree grown from the root, as a program holds it: the vertices that are reached as a set, their parents in 32
+-- places, and the sets of tails, from which goes out what cannot stand beside the arcs taken. Assumes nothing: these
+-- are definitions.
 use mathlib.Core.Path.{_≡_}
 use mathlib.Core.Bool.{true, false}
 use mathlib.Core.List.{List}

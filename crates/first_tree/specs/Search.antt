@@ -1,9 +1,9 @@
--- What the search for the first cheapest arborescence starts from, keeps and gives, on a weight matrix. Assumes nothing:
--- these are definitions.
+-- What the search for the first cheapest arborescence starts from, keeps and gives, on a weight matrix. Assumes
+-- nothing: these are definitions.
 use mathlib.Core.Path.{_≡_}
 use mathlib.Core.Bool.{true}
 use mathlib.Core.List.{List}
-use Prim.Native.Nat.{ℕ, _≤_, _<_}
+use Prim.Native.Nat.{ℕ, _≤_}
 use lib.ListN.{length, getD, take}
 use Rattle.instance.specs.Limits.{max-vertices, max-cuts, cells}
 use Rattle.instance.specs.Instance.{cell}

@@ -153,8 +153,8 @@ fn tree_kept(
     plan_kept(m, tails, n, root, total)
 }
 
-// A cheapest arborescence that begins like the tree at hand below the vertex and has this tail into it, or that there is
-// none.
+// A cheapest arborescence that begins like the tree at hand below the vertex and has this tail into it, or that there
+// is none.
 pub fn try_tail(
     m: &[u32; CELLS], // the weights of the remaining arcs
     cuts: &[u32; CUT_WORDS], // the cuts that prove the total

@@ -1,6 +1,6 @@
-// An arc fixed: into its head no other tail is kept, and elsewhere no arc that enters a cut which it enters, since no two
-// arcs of a cheapest arborescence do. The sets of tails then say what can stand beside it. All is right whichever of the
-// cuts are looked at: with fewer of them more is kept.
+// An arc fixed: into its head no other tail is kept, and elsewhere no arc that enters a cut which it enters, since no
+// two arcs of a cheapest arborescence do. The sets of tails then say what can stand beside it. All is right whichever
+// of the cuts are looked at: with fewer of them more is kept.
 ghost use mathlib.Core.Path.{_≡_};
 ghost use mathlib.Core.Bool.{true};
 ghost use Prim.Native.Nat.{_≤_, _<_};
@@ -13,8 +13,8 @@ use checks::sets::is_inside;
 use instance::limits::CUT_WORDS;
 use instance::limits::VERTICES;
 
-// The place of the first cut with more than one vertex. Planning charges the single vertices first, and nothing is let go
-// for the cut of one vertex: an arc that enters it has the same head.
+// The place of the first cut with more than one vertex. Planning charges the single vertices first, and nothing is let
+// go for the cut of one vertex: an arc that enters it has the same head.
 pub fn first_group(cuts: &[u32; CUT_WORDS], count: u32) -> u32
     requires { ⌜ count ≤ max-cuts ⌝ }
     ensures { λ r. ⌜ r ≤ count ⌝ }

@@ -2,8 +2,8 @@
 // A10). Planning has found some cheapest arborescence, its cuts and the reduced costs. Every cheapest one has arcs of
 // reduced cost 0 alone, and no two of its arcs enter one cut. So the tails that each vertex can have are kept as sets;
 // the vertices are settled upwards, each with its least tail that can be had, and what cannot stand beside the arcs
-// settled so far goes out of the sets. Few tails are left to be tried below those of the tree at hand, and nearly all of
-// them are decided without planning.
+// settled so far goes out of the sets. Few tails are left to be tried below those of the tree at hand, and nearly all
+// of them are decided without planning.
 mod attempt; // attempt.rt: whether a tail can be had
 mod fixed; // fixed.rt: an arc fixed, and what cannot stand beside it let go
 mod growth; // growth.rt: a tree grown from the root

@@ -1,11 +1,11 @@
 -- The loops over the heads of a set: a number of two bits a head, put together head by head, and marks put at one head
 -- more. Assumes nothing.
 use mathlib.Core.Path.{_≡_, refl, sym, ap, _∙_}
-use mathlib.Core.Bool.{Bool, true, false, _&&_, _||_, cond}
+use mathlib.Core.Bool.{Bool, true, false, _&&_, _||_}
 use mathlib.Core.List.{List}
 use Prim.Native.Nat.{ℕ, zero, suc, _+_, _*_, _%_, _^_, _≤_, _<_}
 use native.Mathlib.Omega.{arith}
-use native.Mathlib.Nat.{pow-suc, one-mul, zero-mul, add-zero, zero-lt-suc, mul-assoc}
+use native.Mathlib.Nat.{pow-suc, zero-mul, add-zero, zero-lt-suc, mul-assoc}
 use native.Mathlib.Decide.{ℕ-discrete}
 use native.Mathlib.Numerals.{add-one}
 use lib.Dec.{ltb, eqb}
@@ -17,7 +17,6 @@ use Rattle.base.proofs.BoolLaws.{and-false-right}
 use Rattle.base.proofs.FillingLaws.{ltb-more}
 use Rattle.base.proofs.DigitLaws.{digits-more, digits-below}
 use Rattle.instance.specs.Instance.{cell}
-use Rattle.instance.proofs.SetBits.{bit-small}
 use Rattle.commands.specs.Heads.{put-marks}
 use Rattle.commands.proofs.HeadsLaws.{put-same, put-none, put-one}
 

@@ -1,6 +1,6 @@
 -- Corner cases of the definitions, computed: document 01's cuts for P1 and its traps, sets that are no cut, two pins
 -- into one vertex, lists that are no arborescence, a matrix that is too short, a root other than 0 and weights of 0, a
--- budget far below the cheapest total. Assumes nothing.
+-- budget far below the cheapest total, several cheapest trees. Assumes nothing.
 use mathlib.Core.Path.{_≡_, refl}
 use mathlib.Core.Bool.{true, false, _&&_, not}
 use mathlib.Core.List.{List, [], _∷_, map}
@@ -13,11 +13,11 @@ use Rattle.base.specs.Lists.{tabulate-from, tabulate, select, any-of, all-of}
 use Rattle.instance.specs.Limits.{pinned, banned}
 use Rattle.instance.specs.Instance.{Instance, weight, mark, can-be-arc, is-arc}
 use Rattle.instance.specs.Arborescence.{is-pinned, other-pinned, remaining, if-remaining, each-remaining, reaches, parent-ok, is-arborescence, total, uses}
-use Rattle.instance.specs.Candidates.{prefixed, choices, candidates-from, candidates, arborescences, lesser, least-total, cheapest}
+use Rattle.instance.specs.Candidates.{prefixed, choices, candidates-from, candidates, arborescences, lesser, least-total, cheapest, is-cheapest, cheapest-trees, first-tree}
 use Rattle.instance.specs.Cuts.{Cut, cuts-from, cuts-in, inside, enters, charged, values, set-ok, sets-ok, all-positive, Proves, reduced-cost, No-entry}
 use Rattle.instance.specs.declared.Outcome.the-variants.{Plan, Over}
 use Rattle.instance.specs.States.{outcome-at, outcome, fits, fitting, limit-at, total-limit, state-over, state, states}
-use Rattle.instance.proofs.WorkedCases.{At, arc, filled, instance-from, instance-q, two, parents-with, computed}
+use Rattle.instance.proofs.WorkedCases.{At, arc, filled, instance-from, instance-q, two, computed}
 use Rattle.instance.proofs.ArcLaws.{each-at}
 
 abbrev cut : (set value : ℕ) → Cut
@@ -143,20 +143,46 @@ root-two =
     instance-from 3 2 3 (arc 2 0 0 ∷ arc 0 1 0 ∷ arc 2 1 3 ∷ arc 1 0 4 ∷ arc 0 2 7 ∷ arc 1 1 0 ∷ arc 3 1 0 ∷ [])
     (arc 0 2 pinned ∷ arc 1 1 pinned ∷ arc 3 1 pinned ∷ [])
 
-pub root-two-worked : computed root-two ≡ record { gives = Plan 0; parents = (2 ∷ 0 ∷ 255 ∷ []) ∷ []; shows = 0 ∷ 2 ∷ 0 ∷ 1 ∷ 0 ∷ 0 ∷ 3 ∷ 2 ∷ 0 ∷ [] }
+pub root-two-worked : computed root-two ≡ record { gives = Plan 0; parents = 2 ∷ 0 ∷ 255 ∷ []; cheapest-ones = (2 ∷ 0 ∷ 255 ∷ []) ∷ []; shows = 0 ∷ 2 ∷ 0 ∷ 1 ∷ 0 ∷ 0 ∷ 3 ∷ 2 ∷ 0 ∷ [] }
 unfolding
-    computed root-two instance-from filled parents-with all-below any-below sum-below tabulate-from tabulate select any-of all-of weight mark can-be-arc
+    computed root-two instance-from filled all-below any-below sum-below tabulate-from tabulate select any-of all-of weight mark can-be-arc
     is-arc is-pinned other-pinned remaining reaches parent-ok is-arborescence total uses prefixed choices candidates-from candidates arborescences
-    lesser least-total cheapest outcome-at outcome fits fitting limit-at total-limit state-over states
+    lesser least-total cheapest is-cheapest cheapest-trees first-tree outcome-at outcome fits fitting limit-at total-limit state-over states
 root-two-worked = refl
 
 -- P6 with a budget of 3: "the states are to be those for a budget equal to the cheapest total" (02, A2), over both
--- cheapest trees; either may be shown
+-- cheapest trees; the first is shown
 pub p6-over :
     computed (instance-q 3 (arc 0 1 banned ∷ []))
-    ≡ record { gives = Over 16; parents = (255 ∷ 2 ∷ 0 ∷ 1 ∷ []) ∷ (255 ∷ 3 ∷ 1 ∷ 0 ∷ []) ∷ []; shows = 0 ∷ 1 ∷ 2 ∷ 2 ∷ 0 ∷ 0 ∷ 2 ∷ 2 ∷ 0 ∷ 2 ∷ 0 ∷ 1 ∷ 0 ∷ 2 ∷ 0 ∷ 0 ∷ [] }
+    ≡ record { gives = Over 16; parents = 255 ∷ 2 ∷ 0 ∷ 1 ∷ []; cheapest-ones = (255 ∷ 2 ∷ 0 ∷ 1 ∷ []) ∷ (255 ∷ 3 ∷ 1 ∷ 0 ∷ []) ∷ []; shows = 0 ∷ 1 ∷ 2 ∷ 2 ∷ 0 ∷ 0 ∷ 2 ∷ 2 ∷ 0 ∷ 2 ∷ 0 ∷ 1 ∷ 0 ∷ 2 ∷ 0 ∷ 0 ∷ [] }
 unfolding
-    computed instance-q instance-from filled parents-with all-below any-below sum-below tabulate-from tabulate select any-of all-of weight mark can-be-arc
+    computed instance-q instance-from filled all-below any-below sum-below tabulate-from tabulate select any-of all-of weight mark can-be-arc
     is-arc is-pinned other-pinned remaining reaches parent-ok is-arborescence total uses prefixed choices candidates-from candidates arborescences
-    lesser least-total cheapest outcome-at outcome fits fitting limit-at total-limit state-over states
+    lesser least-total cheapest is-cheapest cheapest-trees first-tree outcome-at outcome fits fitting limit-at total-limit state-over states
 p6-over = refl
+
+-- THE FIRST OF THE CHEAPEST (02, A10), where the least tail on ties in Algorithm 1 gives another one: 2 0, and 1 2
+-- comes before it. With 1→0 a penny dearer 1 2 is still within the budget, and no cheapest tree: 2 0 is shown.
+unfoldable pub ties : (weight budget : ℕ) → Instance
+ties w b = instance-from 3 2 b (arc 0 1 1 ∷ arc 1 0 w ∷ arc 2 0 2 ∷ arc 2 1 1 ∷ []) []
+
+pub first-worked :
+    (computed (ties 2 3) ∷ computed (ties 3 4) ∷ [])
+    ≡ record {
+      gives = Plan 3;
+      parents = 1 ∷ 2 ∷ 255 ∷ [];
+      cheapest-ones = (1 ∷ 2 ∷ 255 ∷ []) ∷ (2 ∷ 0 ∷ 255 ∷ []) ∷ (2 ∷ 2 ∷ 255 ∷ []) ∷ [];
+      shows = 0 ∷ 2 ∷ 0 ∷ 2 ∷ 0 ∷ 0 ∷ 2 ∷ 2 ∷ 0 ∷ [];
+    }
+    ∷ record {
+      gives = Plan 3;
+      parents = 2 ∷ 0 ∷ 255 ∷ [];
+      cheapest-ones = (2 ∷ 0 ∷ 255 ∷ []) ∷ (2 ∷ 2 ∷ 255 ∷ []) ∷ [];
+      shows = 0 ∷ 2 ∷ 0 ∷ 2 ∷ 0 ∷ 0 ∷ 2 ∷ 2 ∷ 0 ∷ [];
+    }
+    ∷ []
+unfolding
+    computed ties instance-from filled all-below any-below sum-below tabulate-from tabulate select any-of all-of weight mark can-be-arc
+    is-arc is-pinned other-pinned remaining reaches parent-ok is-arborescence total uses prefixed choices candidates-from candidates arborescences
+    lesser least-total cheapest is-cheapest cheapest-trees first-tree outcome-at outcome fits fitting limit-at total-limit state-over states
+first-worked = refl

@@ -4,12 +4,12 @@ use mathlib.Core.Path.{_≡_, refl, sym, ap, _∙_, subst}
 use mathlib.Core.Bool.{Bool, true, false, not, cond}
 use mathlib.Core.List.{List}
 use mathlib.Core.Logic.{_≢_}
-use Prim.Native.Nat.{ℕ, _≤_, _<_}
+use Prim.Native.Nat.{ℕ, _<_}
 use lib.Dec.{eqb}
 use borrow.Author.Tests.{eqb-true, eqb-false, eq-eqb}
 use Rattle.instance.specs.Instance.{Instance}
 use Rattle.instance.specs.Arborescence.{parent}
-use Rattle.instance.specs.Cuts.{Cut, values, Proves}
+use Rattle.instance.specs.Cuts.{Cut, Proves}
 use Rattle.theory.proofs.Slackness.{entered-once}
 use Rattle.narrowing.specs.Narrowed.{Of-total, Kept, share-cut, stays-beside, Fixed}
 

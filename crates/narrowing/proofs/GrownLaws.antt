@@ -2,12 +2,12 @@
 use mathlib.Core.Path.{_≡_, refl, sym, _∙_, subst}
 use mathlib.Core.Bool.{Bool, true, false, _||_}
 use mathlib.Core.List.{List}
-use mathlib.Core.Logic.{_⊎_, inl, inr, ⊎-elim, _≢_}
-use Prim.Native.Nat.{ℕ, zero, suc, _+_, _≤_, _<_}
+use mathlib.Core.Logic.{_⊎_, inl, inr, ⊎-elim}
+use Prim.Native.Nat.{ℕ, zero, suc, _<_}
 use native.Mathlib.Omega.{arith}
 use lib.Dec.{eqb}
 use lib.ListN.{set, replicate, length-set, length-replicate}
-use borrow.Author.Tests.{eqb-true, eqb-false, eq-eqb}
+use borrow.Author.Tests.{eqb-true, eq-eqb}
 use Rattle.base.proofs.BoolLaws.{test, not-both, is-false, or-cases, or-left, or-right}
 use Rattle.base.proofs.ListLaws.{replicate-at}
 use Rattle.instance.specs.Limits.{no-parent}
@@ -17,7 +17,7 @@ use Rattle.instance.proofs.ArcLaws.{remaining-ends}
 use Rattle.instance.proofs.ReachLaws.{enough}
 use Rattle.instance.proofs.ArborescenceLaws.{joined, make-arborescence}
 use Rattle.paths.specs.Paths.{Descends}
-use Rattle.paths.proofs.PathLaws.{descends-here, descends-up, descends-on, parent-other, parent-same}
+use Rattle.paths.proofs.PathLaws.{descends-here, descends-up, parent-other, parent-same}
 use Rattle.narrowing.specs.Narrowed.{Kept}
 use Rattle.narrowing.specs.Grown.{Grown, Closed}
 
@@ -109,8 +109,8 @@ module _ (s : Instance) (keep : ℕ → ℕ → Bool) (arcs : (t h : ℕ) → ke
         reach = enough (s .n) (s .root) ps root-below (λ u m q. inl (remaining-ends s (parent ps u) u (arc u m q) .tail-below)) (d .0) v l (d .1);
       })
 
--- NOTHING MORE TO REACH, and a vertex is missed: no arborescence passes the test. Go up from that vertex: each parent is
--- missed too, and the root is not.
+-- NOTHING MORE TO REACH, and a vertex is missed: no arborescence passes the test. Go up from that vertex: each parent
+-- is missed too, and the root is not.
 module _ (s : Instance) (keep : ℕ → ℕ → Bool) (reached : ℕ → Bool) (out : ℕ) (c : Closed s keep reached out) (ps : List ℕ)
     (a : is-arborescence s ps ≡ true) (k : Kept s keep ps) where
   root-not : (v : ℕ) → reached v ≡ false → eqb v (s .root) ≡ true → ⊥

@@ -10,10 +10,10 @@ use lib.Dec.{eqb}
 use borrow.Author.Tests.{eqb-false}
 use Rattle.base.proofs.BoolLaws.{not-both}
 use Rattle.instance.specs.Limits.{max-vertices, no-parent}
-use Rattle.instance.specs.Instance.{Instance, weight}
+use Rattle.instance.specs.Instance.{Instance}
 use Rattle.instance.specs.Arborescence.{remaining, parent, is-arborescence, total}
 use Rattle.instance.specs.Candidates.{first-tree}
-use Rattle.instance.specs.Cuts.{Cut, values, Proves, reduced-cost}
+use Rattle.instance.specs.Cuts.{Cut, Proves, reduced-cost}
 use Rattle.instance.proofs.ArborescenceLaws.{parents-size, root-parent, joined}
 use Rattle.theory.specs.Readings.{First-reads}
 use Rattle.theory.proofs.OrderLaws.{first-differ}

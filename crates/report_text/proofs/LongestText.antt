@@ -1,7 +1,8 @@
--- No shorter buffer would do: a valid instance whose text is `max-text` bytes long. It is a star: 32 vertices with the root 31, the greatest budget, and the arcs
--- 31→v at the dearest price. They are its only arcs, so that they make its only arborescence, whose total is that
--- budget. Its states need not be known: each is one digit. All its 1,024 cells are as a card's are, so that it is the
--- very instance of its own card (`longest-printed` of crate report). Assumes nothing.
+-- No shorter buffer would do: a valid instance whose text is `max-text` bytes long. It is a star: 32 vertices with the
+-- root 31, the greatest budget, and the arcs 31→v at the dearest price. They are its only arcs, so that they make its
+-- only arborescence, whose total is that budget. Its states need not be known: each is one digit. All its 1,024 cells
+-- are as a card's are, so that it is the very instance of its own card (`longest-printed` of crate report). Assumes
+-- nothing.
 use mathlib.Core.Path.{_≡_, refl, sym, _∙_, subst}
 use mathlib.Core.Bool.{Bool, true, false, _&&_, not, cond}
 use mathlib.Core.List.{List}

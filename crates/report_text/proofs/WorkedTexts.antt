@@ -7,7 +7,7 @@ use Prim.Native.Nat.{ℕ}
 use Rattle.base.specs.Bounded.{all-below, any-below, sum-below}
 use Rattle.base.specs.Lists.{tabulate-from, tabulate, join-below, select, any-of, all-of}
 use Rattle.instance.specs.Limits.{pinned, banned}
-use Rattle.instance.specs.Instance.{Instance, weight, mark, can-be-arc, is-arc}
+use Rattle.instance.specs.Instance.{weight, mark, can-be-arc, is-arc}
 use Rattle.instance.specs.Arborescence.{is-pinned, other-pinned, remaining, reaches, parent-ok, is-arborescence, total, uses}
 use Rattle.instance.specs.Candidates.{prefixed, choices, candidates-from, candidates, arborescences, lesser, least-total, cheapest, is-cheapest, cheapest-trees, first-tree}
 use Rattle.instance.specs.States.{outcome-at, outcome, fits, fitting, limit-at, total-limit, state-over, states}

@@ -1,6 +1,6 @@
 // Planning an instance: its remaining arcs, a minimum weight arborescence with the cuts that prove its total, the first
-// such arborescence, and the arcs that some arborescence uses within the larger of the budget and the cheapest total. No
-// card and no board can be seen from here.
+// such arborescence, and the arcs that some arborescence uses within the larger of the budget and the cheapest total.
+// No card and no board can be seen from here.
 ghost use mathlib.Core.Path.{_≡_};
 ghost use mathlib.Core.Bool.{true};
 ghost use mathlib.Core.Option.{some};

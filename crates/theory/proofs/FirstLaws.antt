@@ -19,7 +19,7 @@ use Rattle.instance.specs.Candidates.{candidates, arborescences, cheapest, is-c
 use Rattle.instance.specs.Matrix.{matrix, unmarked}
 use Rattle.instance.specs.Same.{Same-instance}
 use Rattle.instance.proofs.ArborescenceLaws.{parents-size}
-use Rattle.theory.specs.Order.{Ascending, Same-or-before}
+use Rattle.theory.specs.Order.{Ascending}
 use Rattle.theory.specs.Readings.{Least-total, No-arborescence, Cheapest-reads, First-reads}
 use Rattle.theory.proofs.OrderLaws.{both-same, same-or-before, passes-reads, select-ascending, arborescences-ascending, first-passes}
 use Rattle.theory.proofs.CandidateLaws.{any-selected, all-selected}

@@ -1,9 +1,9 @@
 -- Complementary slackness: where the values of feasible cuts add to the total of an arborescence, each of its arcs has
 -- reduced cost 0, and no two of its arcs enter one cut. Assumes nothing.
 --
--- The idea: weak duality says that each cut is paid at least once, and that no arc pays more than its weight. Where both
--- sums are equal there is no room: an arc that costs more than it pays, or a cut that is paid twice, would make the total
--- larger.
+-- The idea: weak duality says that each cut is paid at least once, and that no arc pays more than its weight. Where
+-- both sums are equal there is no room: an arc that costs more than it pays, or a cut that is paid twice, would make
+-- the total larger.
 use mathlib.Core.Path.{_≡_, refl, sym}
 use mathlib.Core.Bool.{Bool, true, false, _&&_, not, cond}
 use mathlib.Core.List.{List, [], _∷_}

@@ -1,6 +1,6 @@
--- Document 01's words on outcomes, link states and the feeder list, as 02 amends them, read as statements about all lists of parents,
--- where `instance` computes them from a listing. The theorems that the two agree are in proofs/. Assumes nothing: these
--- are definitions.
+-- Document 01's words on outcomes, link states and the feeder list, as 02 amends them, read as statements about all
+-- lists of parents, where `instance` computes them from a listing. The theorems that the two agree are in proofs/.
+-- Assumes nothing: these are definitions.
 use mathlib.Core.Path.{_≡_}
 use mathlib.Core.Bool.{true, false}
 use mathlib.Core.List.{List}

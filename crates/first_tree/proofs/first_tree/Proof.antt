@@ -1,5 +1,5 @@
 -- The vertices below v are settled. Assumes nothing.
-use mathlib.Core.Path.{_≡_, sym, subst}
+use mathlib.Core.Path.{_≡_, subst}
 use mathlib.Core.Bool.{true}
 use mathlib.Core.Logic.{⊎-elim}
 use Prim.Native.Nat.{ℕ, _-_, _≤_, _<_}
@@ -8,7 +8,6 @@ use lib.ListN.{getD, take}
 use Rattle.instance.specs.Arborescence.{parent}
 use Rattle.paths.proofs.TreeLaws.{parent-read, tail-below}
 use Rattle.first_tree.specs.Tails.{kept-by}
-use Rattle.first_tree.specs.Fixing.{Fixed-tails}
 use Rattle.first_tree.specs.Search.{Search, Settled}
 use Rattle.first_tree.proofs.SearchLaws.{tree-at-hand, settled-start, settled-root, own-kept, settled-more, settled-all}
 use Rattle.first_tree.proofs.first_tree.Statement.{statement}

@@ -1,14 +1,13 @@
 -- The weights are compared first; then the tree says whether the tail hangs on the vertex. Assumes nothing.
-use mathlib.Core.Path.{_≡_, refl, sym, _∙_}
-use mathlib.Core.Bool.{true, false}
+use mathlib.Core.Path.{refl, sym, _∙_}
+use mathlib.Core.Bool.{false}
 use Prim.Native.Nat.{_<_}
 use native.Mathlib.Omega.{arith}
-use lib.ListN.{getD, take}
+use lib.ListN.{getD}
 use borrow.Author.Tests.{not-true, eqb-false}
 use Rattle.base.proofs.BoolLaws.{not-both}
 use Rattle.paths.proofs.TreeLaws.{tree-rooted, tail-below, own-weight}
 use Rattle.first_tree.proofs.AttemptLaws.{cell-weight}
-use borrow.Author.Needs.{needs}
 use Rattle.first_tree.proofs.attempt.can_exchange.Statement.{statement}
 use Rattle.first_tree.proofs.attempt.can_exchange.Tie as tie
 

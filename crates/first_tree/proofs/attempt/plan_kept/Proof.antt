@@ -1,9 +1,8 @@
 -- The matrix of the arcs that are kept is planned; each outcome by its law. Assumes nothing.
-use mathlib.Core.Path.{_≡_, refl, sym, subst}
-use mathlib.Core.Bool.{true, false}
+use mathlib.Core.Path.{refl, sym, subst}
+use mathlib.Core.Bool.{false}
 use mathlib.Core.List.{List}
 use Prim.Native.Nat.{ℕ}
-use native.Mathlib.Omega.{arith}
 use lib.ListN.{replicate}
 use borrow.Author.Tests.{eqb-true, eqb-false, not-true, not-false}
 use Rattle.base.proofs.BoolLaws.{not-both}
@@ -12,7 +11,6 @@ use Rattle.instance.specs.Matrix.{matrix-where, unmarked, Matrix-ok}
 use Rattle.edmonds.specs.Planned.{Planned-matrix}
 use Rattle.first_tree.specs.Tails.{kept-by}
 use Rattle.first_tree.proofs.AttemptLaws.{kept-ok, plan-none, plan-kept, plan-of-total, plan-dearer}
-use borrow.Author.Needs.{needs}
 use Rattle.first_tree.proofs.attempt.plan_kept.Statement.{statement}
 use Rattle.first_tree.proofs.attempt.plan_kept.Tie as tie
 

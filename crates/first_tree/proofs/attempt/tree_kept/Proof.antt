@@ -1,6 +1,6 @@
--- Growing with no cut shows what cannot be reached; growing by the cuts makes a tree that is held to the total; planning
--- decides the rest. Assumes nothing.
-use mathlib.Core.Path.{_≡_, refl, sym, _∙_}
+-- Growing with no cut shows what cannot be reached; growing by the cuts makes a tree that is held to the total;
+-- planning decides the rest. Assumes nothing.
+use mathlib.Core.Path.{refl, sym, _∙_}
 use mathlib.Core.Bool.{true, false}
 use native.Mathlib.Omega.{arith}
 use borrow.Author.Tests.{not-true}
@@ -10,7 +10,6 @@ use Rattle.base.proofs.BoolLaws.{not-both}
 use Rattle.instance.specs.Limits.{max-vertices, no-parent}
 use Rattle.instance.specs.Matrix.{unmarked}
 use Rattle.first_tree.proofs.SearchLaws.{none-cheaper, grown-short, grown-matrix, grown-passes}
-use borrow.Author.Needs.{needs}
 use Rattle.first_tree.proofs.attempt.tree_kept.Statement.{statement}
 use Rattle.first_tree.proofs.attempt.tree_kept.Tie as tie
 

@@ -1,9 +1,7 @@
 -- Each way out by its law. Assumes nothing.
-use mathlib.Core.Path.{_≡_}
 use native.Mathlib.Omega.{arith}
 use Rattle.paths.proofs.TreeLaws.{tree-rooted}
 use Rattle.first_tree.proofs.SearchLaws.{tree-at-hand, kept-ends, not-root, tried-cycle, tried-exchange, fixed-ok, tried-fixed}
-use borrow.Author.Needs.{needs}
 use Rattle.first_tree.proofs.attempt.try_tail.Statement.{statement}
 use Rattle.first_tree.proofs.attempt.try_tail.Tie as tie
 

@@ -1,7 +1,7 @@
 -- The tree has grown by whole rounds; where the last one added nothing, nothing more can be reached. What was reached
 -- before the last round is more with each. Assumes nothing.
-use mathlib.Core.Path.{_≡_, refl, sym, subst}
-use Prim.Native.Nat.{ℕ, _-_, _^_, _≤_, _<_}
+use mathlib.Core.Path.{_≡_, subst}
+use Prim.Native.Nat.{ℕ, _-_, _≤_, _<_}
 use native.Mathlib.Omega.{arith}
 use lib.ListN.{length-replicate}
 use lib.Pow.{pow-pos, pow-lt, pow-mono}

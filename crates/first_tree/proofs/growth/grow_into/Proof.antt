@@ -1,9 +1,8 @@
 -- Each way out by its law. Assumes nothing.
-use mathlib.Core.Path.{_≡_, sym, _∙_}
+use mathlib.Core.Path.{sym, _∙_}
 use native.Mathlib.Omega.{arith}
 use Rattle.instance.proofs.SetBits.{one-shifted}
 use Rattle.first_tree.proofs.GrowthLaws.{grows-already, grows-none, source-kept, source-below, grows-more}
-use borrow.Author.Needs.{needs}
 use Rattle.first_tree.proofs.growth.grow_into.Statement.{statement}
 use Rattle.first_tree.proofs.growth.grow_into.Tie as tie
 

@@ -2,7 +2,6 @@
 use native.Mathlib.Omega.{arith}
 use borrow.Author.Tests.{eq-eqb, ne-eqb}
 use Rattle.first_tree.specs.Tails.{tight}
-use borrow.Author.Needs.{needs}
 use Rattle.first_tree.proofs.tails.is_tight.Statement.{statement}
 use Rattle.first_tree.proofs.tails.is_tight.Tie as tie
 
