@@ -183,7 +183,7 @@ fn rows(families: &[Family], sizes: &[usize], base: &str, r: &mut Random) -> Vec
     rows
 }
 
-// The further families have a seed of their own, so that all that is drawn with the first one stays as it was.
+// For the further families the drawing starts again from the seed, so that the other rows keep their cards.
 fn all_rows(base: &str, r: &mut Random) -> Vec<Row> {
     let mut all = rows(&FAMILIES, &[8, 16, 32], base, r);
     all.extend(rows(&FURTHER, &[32], base, &mut Random::seeded()));

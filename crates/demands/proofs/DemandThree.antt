@@ -5,11 +5,14 @@ use mathlib.Core.Path.{_≡_, sym, ap, _∙_, subst}
 use mathlib.Core.Bool.{Bool, true, false, true≢false}
 use mathlib.Core.List.{List}
 use Prim.Native.Nat.{ℕ, _*_}
-use lib.ListN.{take}
+use lib.ListN.{take, replicate}
+use Rattle.instance.specs.Limits.{no-parent}
 use Rattle.instance.specs.Instance.{Instance}
+use Rattle.instance.specs.Arborescence.{is-arborescence}
 use Rattle.instance.specs.Candidates.{first-tree}
-use Rattle.theory.specs.Readings.{States-read}
+use Rattle.theory.specs.Readings.{States-read, No-arborescence, First-reads}
 use Rattle.theory.proofs.StateLaws.{states-read}
+use Rattle.theory.proofs.FirstLaws.{first-reads, first-none}
 use Rattle.commands.specs.LogLists.{Input, input-answers, input-after}
 use Rattle.commands.specs.Effective.{effective}
 use Rattle.board.specs.ModelOf.{instance-of}
@@ -44,6 +47,14 @@ pub record Demand-3 (ws : List ℕ) (is : List Input) (xs : List ℕ) (old new :
   -- the n parents in the buffer: the first of the cheapest arborescences of the effective instance
   pub parents-shown :
       short-for (model-in ws .instance .n) old ≡ false → take (model-in ws .instance .n) (new .parents) ≡ first-tree (effective (input-after is (log-in ws)))
+  -- and read in the documents' words: where there is an arborescence, it is one, none is cheaper, and each that is as
+  -- cheap is it or comes after it; where there is none, 255 everywhere
+  pub parents-read :
+      short-for (model-in ws .instance .n) old ≡ false → (ps : List ℕ) → is-arborescence (effective (input-after is (log-in ws))) ps ≡ true →
+      First-reads (effective (input-after is (log-in ws))) (take (model-in ws .instance .n) (new .parents))
+  pub no-parents :
+      short-for (model-in ws .instance .n) old ≡ false → No-arborescence (effective (input-after is (log-in ws))) →
+      take (model-in ws .instance .n) (new .parents) ≡ replicate (effective (input-after is (log-in ws)) .n) no-parent
 
 shown-states : (t : Bool) (s : Instance) (v : View) (old new : Buffers) → Looks-at true t s old new v → t ≡ false → States-read s (take (s .n * s .n) (new .states))
 unfolding Looks-at
@@ -69,9 +80,13 @@ demand-3 ws is o xs last v old new z p run l =
     subst (λ (i : Instance). Looks-at true t i old new v) same
     (subst (λ (n : ℕ). Looks-at true (short-for n old) (instance-of last) old new v) (r .same-n ∙ s .same-n) shown) in
     let n : effective k .n ≡ model-in ws .instance .n = sym (ap (λ (i : Instance). i .n) same) ∙ r .same-n ∙ s .same-n in
+    let first : t ≡ false → take (model-in ws .instance .n) (new .parents) ≡ first-tree (effective k) =
+    λ e. subst (λ (m : ℕ). take m (new .parents) ≡ first-tree (effective k)) n (shown-parents t (effective k) v old new looks e) in
     record {
       answers = r .same-answers;
       last-look = looks;
       states-shown = λ e. subst (λ (m : ℕ). States-read (effective k) (take (m * m) (new .states))) n (shown-states t (effective k) v old new looks e);
-      parents-shown = λ e. subst (λ (m : ℕ). take m (new .parents) ≡ first-tree (effective k)) n (shown-parents t (effective k) v old new looks e);
+      parents-shown = first;
+      parents-read = λ e ps a. subst (First-reads (effective k)) (sym (first e)) (first-reads (effective k) ps a);
+      no-parents = λ e z. first e ∙ first-none (effective k) z;
     }

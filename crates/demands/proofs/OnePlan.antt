@@ -1,7 +1,8 @@
 -- ONE PLAN (02, A10): "Two classes load one card and see different cheapest trees. The feeder list is now, among all
 -- cheapest feed trees, the first when compared position by position. It depends on root, marks and prices alone, not on
--- the order of presses or take-backs". Here of looks at the end of any two runs; of runs that differ in budget presses
--- or in presses that were taken back; and of boards that are called equal. Assumes nothing.
+-- the order of presses or take-backs". Here of looks at the end of any two runs that come to the same; of a run that
+-- goes on with budget presses alone, or with presses that are all taken back; and of boards that are called equal.
+-- Assumes nothing.
 use mathlib.Core.Path.{_≡_, refl, sym, ap, _∙_}
 use mathlib.Core.Bool.{Bool, true, false, _&&_, not, cond, true≢false}
 use mathlib.Core.List.{List, [], _∷_, _++_, map}

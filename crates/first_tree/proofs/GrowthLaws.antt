@@ -21,7 +21,7 @@ use Rattle.narrowing.specs.Grown.{Grown}
 use Rattle.narrowing.proofs.GrownLaws.{grown-root, grown-more}
 use Rattle.first_tree.specs.Tails.{kept-by}
 use Rattle.first_tree.specs.Fixing.{Fixed-tails}
-use Rattle.first_tree.specs.Growth.{In-range, Growing, Stuck, Grows, Grown-tree}
+use Rattle.first_tree.specs.Growth.{In-range, Growing, Nothing-new, Grows, Grown-tree}
 use Rattle.first_tree.proofs.SetLaws.{inside-and, inside-or, inside-one, or-least, least-inside}
 
 -- NOTHING IS REACHED: the vertex was reached before, or no arc leads to it
@@ -32,7 +32,7 @@ module _ (n from count h : ℕ) (now : List ℕ) (reached : ℕ) (ps : List ℕ)
         in-range = k;
         least = omega arith;
         growing = λ root tails g. g;
-        stuck = λ root tails g same z j l m out. let q : j ≡ h = omega arith in absurd (not-both (inside reached h) e (rw q at out));
+        nothing-new = λ root tails g same z j l m out. let q : j ≡ h = omega arith in absurd (not-both (inside reached h) e (rw q at out));
       }
 
   pub grows-none : bitAnd (getD now h 0) reached ≡ 0 → Grows n from count h (suc h) now now reached reached ps ps
@@ -41,7 +41,7 @@ module _ (n from count h : ℕ) (now : List ℕ) (reached : ℕ) (ps : List ℕ)
         in-range = k;
         least = omega arith;
         growing = λ root tails g. g;
-        stuck =
+        nothing-new =
             λ root tails g same z j l m out.
             let q : j ≡ h = omega arith in
             rw q (subst (λ (c : ℕ). bitAnd c reached ≡ 0) (g .others same h (rw q at out)) e);
@@ -101,7 +101,7 @@ module _ (n from count h : ℕ) (now : List ℕ) (reached : ℕ) (ps : List ℕ)
           in-range =
               record {
                 small = k .small;
-                some-cuts = k .some-cuts;
+                from-within = k .from-within;
                 few = k .few;
                 size = f .size;
                 below = or-lt n reached (2 ^ h) (k .below) (pow-lt {i = h} {j = n} below);
@@ -109,7 +109,7 @@ module _ (n from count h : ℕ) (now : List ℕ) (reached : ℕ) (ps : List ℕ)
               };
           least = or-least reached (2 ^ h);
           growing = grew;
-          stuck =
+          nothing-new =
               λ root tails g same z j l m o.
               absurd (not-both (inside reached h) (subst (λ (c : ℕ). inside c h ≡ true) z (joined h ∙ or-right (inside reached h) (eqb h h) (eq-eqb h h refl))) out);
         }
@@ -122,16 +122,16 @@ grows-then n from count low mid high a b c x y z p q r f g =
       in-range = g .in-range;
       least = let u = f .least in let v = g .least in omega arith;
       growing = λ root tails k. g .growing root tails (f .growing root tails k);
-      stuck =
+      nothing-new =
           λ root tails k same e j l m o.
           let u = f .least in
           let v = g .least in
           let ez : z ≡ y = omega arith in
           let ey : y ≡ x = omega arith in
-          ⊎-elim (λ (b : ltb j mid ≡ true). g .stuck root tails (f .growing root tails k) same ez j l (ltb-true j mid b) o)
+          ⊎-elim (λ (b : ltb j mid ≡ true). g .nothing-new root tails (f .growing root tails k) same ez j l (ltb-true j mid b) o)
           (λ (b : ltb j mid ≡ false).
           subst (λ (w : ℕ). bitAnd (getD tails j 0) w ≡ 0) (sym ez)
-          (f .stuck root tails k same ey j (ltb-false j mid b) m (subst (λ (w : ℕ). inside w j ≡ false) ez o))) (test (ltb j mid));
+          (f .nothing-new root tails k same ey j (ltb-false j mid b) m (subst (λ (w : ℕ). inside w j ≡ false) ez o))) (test (ltb j mid));
     }
 
 -- at the start of a round nothing has been looked at
@@ -141,7 +141,7 @@ grows-start n from count now reached ps k =
       in-range = k;
       least = omega arith;
       growing = λ root tails g. g;
-      stuck = λ root tails g same z j l m o. absurd (omega arith);
+      nothing-new = λ root tails g same z j l m o. absurd (omega arith);
     }
 
 -- THE ROOT ALONE
@@ -157,12 +157,12 @@ growing-root n root from count tails small =
 
 -- A ROUND ADDED NOTHING: arcs lead to no other vertex
 pub grown-tree : (n root from count : ℕ) (tails now : List ℕ) (reached : ℕ) (ps : List ℕ) → In-range n from count now reached ps
-    → Growing n root from count tails now reached ps → Stuck from count 0 n tails reached reached → Grown-tree n root from count tails reached ps
+    → Growing n root from count tails now reached ps → Nothing-new from count 0 n tails reached reached → Grown-tree n root from count tails reached ps
 grown-tree n root from count tails now reached ps k g s =
     record {
       places = k .places;
       grown = g .grown;
-      closed =
+      stays-within =
           λ same t h l e i.
           is-true (inside reached h)
           (λ o.

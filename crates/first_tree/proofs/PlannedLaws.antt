@@ -22,7 +22,7 @@ module _ (n root : ℕ) (m m′ cuts cuts′ : List ℕ) (p : Planned) (ok : Mat
       record {
         matrix-ok = ok;
         proves = subst (λ (v : ℕ). Proves (unmarked n root m) (cuts-in (p .count) cuts′) v) (sym (k .is-total e)) (k .minimum e .proved);
-        some-cuts = omega arith;
+        from-within = omega arith;
         few = let l = k .few in let s = ok .small in omega arith;
       }
 

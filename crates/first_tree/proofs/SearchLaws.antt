@@ -27,7 +27,7 @@ use Rattle.paths.proofs.ExchangeLaws.{exchange-uses, exchange, exchange-total}
 use Rattle.narrowing.specs.Narrowed.{Of-total, Kept, None-below, Refuted}
 use Rattle.narrowing.proofs.FixedLaws.{fixed-less}
 use Rattle.narrowing.proofs.NarrowedLaws.{narrowed-start, narrowed-take, none-below-take, refute-absent, refute-cycle, refute-fixed, fixed-tail, narrowed-settle, narrowed-root, narrowed-first}
-use Rattle.narrowing.proofs.GrownLaws.{grown-kept, grown-whole, closed-none}
+use Rattle.narrowing.proofs.GrownLaws.{grown-kept, grown-whole, exhausted-none}
 use Rattle.first_tree.specs.Tails.{kept-by, Tails-ok, Tight-tails}
 use Rattle.first_tree.specs.Fixing.{Fixed-tails}
 use Rattle.first_tree.specs.Growth.{Grown-tree}
@@ -68,8 +68,8 @@ module _ (m cuts : List ℕ) (n root w from count : ℕ) (k : Search m cuts n ro
     unfolding unmarked
     grown-short e short qs o x =
         let miss = not-all n (inside reached) short in
-        closed-none s (kept-by zs) (inside reached) (miss .0)
-        (record { root-reached = g .grown .root-reached; closed = g .closed e; out-below = miss .1; missed = miss .2 }) qs (o .arborescence) x
+        exhausted-none s (kept-by zs) (inside reached) (miss .0)
+        (record { root-reached = g .grown .root-reached; stays-within = g .stays-within e; out-below = miss .1; missed = miss .2 }) qs (o .arborescence) x
 
     module _ (all : all-below n (inside reached) ≡ true) where
       each : (v : ℕ) → v < n → inside reached v ≡ true

@@ -15,7 +15,7 @@ use Rattle.first_tree.specs.Tails.{kept-by}
 -- what the program holds is in range, and so are the cuts that are looked at
 pub record In-range (n from count : ℕ) (now : List ℕ) (reached : ℕ) (parents : List ℕ) : Type 0 where
   pub small : n ≤ max-vertices
-  pub some-cuts : from ≤ count
+  pub from-within : from ≤ count
   pub few : count ≤ max-cuts
   pub size : length now ≡ max-vertices
   pub below : reached < 2 ^ n
@@ -28,9 +28,10 @@ pub record Growing (n root from count : ℕ) (tails now : List ℕ) (reached : �
   pub others : from ≡ count → (h : ℕ) → inside reached h ≡ false → getD now h 0 ≡ getD tails h 0
   pub grown : Grown n root (kept-by tails) (inside reached) (take n parents)
 
--- unless more than `before` is reached by now, no arc leads on to a vertex from low to below high
-abbrev pub Stuck : (from count low high : ℕ) → (tails : List ℕ) → (before reached : ℕ) → Type 0
-Stuck from count low high tails before reached =
+-- where no cut is looked at, and no more than `before` is reached by now: no arc leads on to a vertex from low to below
+-- high
+abbrev pub Nothing-new : (from count low high : ℕ) → (tails : List ℕ) → (before reached : ℕ) → Type 0
+Nothing-new from count low high tails before reached =
     from ≡ count → reached ≡ before → (h : ℕ) → low ≤ h → h < high → inside reached h ≡ false → bitAnd (getD tails h 0) reached ≡ 0
 
 -- the vertices from low to below high looked at once: each tree that grew so far has grown on
@@ -38,10 +39,10 @@ pub record Grows (n from count low high : ℕ) (old now : List ℕ) (before reac
   pub in-range : In-range n from count now reached parents′
   pub least : before ≤ reached
   pub growing : (root : ℕ) (tails : List ℕ) → Growing n root from count tails old before parents → Growing n root from count tails now reached parents′
-  pub stuck : (root : ℕ) (tails : List ℕ) → Growing n root from count tails old before parents → Stuck from count low high tails before reached
+  pub nothing-new : (root : ℕ) (tails : List ℕ) → Growing n root from count tails old before parents → Nothing-new from count low high tails before reached
 
 -- THE TREE, and, where no cut is looked at, that arcs lead to no other vertex
 pub record Grown-tree (n root from count : ℕ) (tails : List ℕ) (reached : ℕ) (parents : List ℕ) : Type 0 where
   pub places : length parents ≡ max-vertices
   pub grown : Grown n root (kept-by tails) (inside reached) (take n parents)
-  pub closed : from ≡ count → (t h : ℕ) → h < n → kept-by tails t h ≡ true → inside reached t ≡ true → inside reached h ≡ true
+  pub stays-within : from ≡ count → (t h : ℕ) → h < n → kept-by tails t h ≡ true → inside reached t ≡ true → inside reached h ≡ true

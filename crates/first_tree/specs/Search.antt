@@ -17,7 +17,7 @@ use Rattle.first_tree.specs.Tails.{kept-by, Tails-ok}
 pub record Search (m cuts : List ℕ) (n root w from count : ℕ) : Type 0 where
   pub matrix-ok : Matrix-ok n root m
   pub proves : Proves (unmarked n root m) (cuts-in count cuts) w
-  pub some-cuts : from ≤ count
+  pub from-within : from ≤ count
   pub few : count ≤ max-cuts
 
 -- a cheapest arborescence in 32 places, and the reduced costs

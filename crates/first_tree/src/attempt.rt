@@ -13,11 +13,12 @@ ghost use Rattle.paths.specs.Tree.{Matrix-tree};
 ghost use Rattle.first_tree.specs.Tails.{kept-by, Tails-ok};
 ghost use Rattle.first_tree.specs.Attempt.{Leads-back, Exchangeable, No-cheaper, Attempted, Tried};
 ghost use Rattle.first_tree.specs.Search.{Search, Settled};
-use super::fixed::fix_arc;
+use super::fixing::fix_arc;
 use super::growth::all_reached;
 use super::growth::grow;
 use checks::sets::is_inside;
 use detours::descendants::is_descendant;
+use instance::CutIndex;
 use instance::Vertex;
 use instance::limits::CELLS;
 use instance::limits::CUT_WORDS;
@@ -98,7 +99,7 @@ fn kept_matrix(m: &[u32; CELLS], tails: &[u32; VERTICES], n: u32, root: u32) -> 
     w
 }
 
-// By planning.
+// A cheapest arborescence of the arcs that are kept, if it has that total; else there is none of it.
 fn plan_kept(m: &[u32; CELLS], tails: &[u32; VERTICES], n: u32, root: u32, total: u32) -> Attempt
     requires { ⌜ Matrix-ok n root (now m) × Tails-ok (unmarked n root (now m)) (now tails) × No-cheaper (unmarked n root (now m)) total ⌝ }
     ensures { λ r. ⌜ Attempted (unmarked n root (now (m .entry))) total (kept-by (now (tails .entry))) (r .found) (r .parents) ⌝ }
@@ -127,13 +128,13 @@ fn tree_kept(
     n: u32, // the number of vertices
     root: u32, // one of them
     total: u32, // the cheapest total
-    from: u32, // the cuts from this one on are looked at
+    from: CutIndex, // the cuts from this one on are looked at
     count: u32, // the number of cuts
 ) -> Attempt
-    requires { ⌜ Search (now m) (now cuts) n root total from count × Tails-ok (unmarked n root (now m)) (now tails) ⌝ }
+    requires { ⌜ Search (now m) (now cuts) n root total (from .0) count × Tails-ok (unmarked n root (now m)) (now tails) ⌝ }
     ensures { λ r. ⌜ Attempted (unmarked n root (now (m .entry))) total (kept-by (now (tails .entry))) (r .found) (r .parents) ⌝ }
 {
-    let all = grow(cuts, tails, n, root, count, count);
+    let all = grow(cuts, tails, n, root, CutIndex(count), count);
     if !all_reached(all.reached, n) {
         return Attempt {
             found: false,
@@ -163,12 +164,12 @@ pub fn try_tail(
     n: u32, // the number of vertices
     root: u32, // one of them
     total: u32, // the cheapest total
-    from: u32, // the cuts from this one on are looked at
+    from: CutIndex, // the cuts from this one on are looked at
     count: u32, // the number of cuts
     tail: u32, // the arc, which is kept
     vertex: u32, // into this vertex
 ) -> Attempt
-    requires { ⌜ Search (now m) (now cuts) n root total from count × Settled (now m) n root total vertex (now tails) parents × (vertex < n) × (kept-by (now tails) tail vertex ≡ true) ⌝ }
+    requires { ⌜ Search (now m) (now cuts) n root total (from .0) count × Settled (now m) n root total vertex (now tails) parents × (vertex < n) × (kept-by (now tails) tail vertex ≡ true) ⌝ }
     ensures { λ r. ⌜ Tried (now (m .entry)) n root total vertex (now (tails .entry)) parents tail (r .found) (r .parents) ⌝ }
 {
     if leads_back(&parents, n, root, tail, vertex) {

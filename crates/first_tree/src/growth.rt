@@ -1,6 +1,6 @@
 // A tree grown from the root along arcs that are kept, each fixed as it is taken. Where no cut is looked at it comes to
-// every vertex that such arcs lead to, so a vertex that it misses is in no tree; where cuts are, it enters none of them
-// twice, so a tree that it makes is a cheapest one.
+// every vertex that such arcs lead to, so a vertex that it misses is in no tree. Where cuts are looked at it enters none
+// of them twice, as a cheapest tree does; that it is one is not promised, and its total has to be compared.
 ghost use mathlib.Core.Path.{_≡_};
 ghost use Prim.Native.Nat.{suc, _≤_, _<_};
 ghost use Rattle.base.specs.Bounded.{all-below};
@@ -8,8 +8,9 @@ ghost use lib.ListN.{length};
 ghost use Rattle.instance.specs.Limits.{max-vertices, max-cuts};
 ghost use Rattle.instance.specs.Cuts.{inside};
 ghost use Rattle.first_tree.specs.Growth.{In-range, Grows, Grown-tree};
-use super::fixed::fix_arc;
+use super::fixing::fix_arc;
 use checks::sets::is_inside;
+use instance::CutIndex;
 use instance::limits::CUT_WORDS;
 use instance::limits::NO_PARENT;
 use instance::limits::VERTICES;
@@ -24,15 +25,15 @@ pub struct Growth {
 fn grow_into(
     cuts: &[u32; CUT_WORDS], // the cuts
     n: u32, // the number of vertices
-    from: u32, // the cuts from this one on are looked at
+    from: CutIndex, // the cuts from this one on are looked at
     count: u32, // the number of cuts
     reached: u32, // the vertices that are reached
     head: u32, // the vertex
     tails: &mut [u32; VERTICES], // the tails that each vertex can have
     parents: &mut [u8; VERTICES], // the parents of the vertices that are reached
 ) -> u32
-    requires { ⌜ In-range n from count (now tails) reached (now parents) × (head < n) ⌝ }
-    ensures { λ r. ⌜ Grows n from count head (suc head) (now (tails .entry)) (now (tails .exit)) reached r (now (parents .entry)) (now (parents .exit)) ⌝ }
+    requires { ⌜ In-range n (from .0) count (now tails) reached (now parents) × (head < n) ⌝ }
+    ensures { λ r. ⌜ Grows n (from .0) count head (suc head) (now (tails .entry)) (now (tails .exit)) reached r (now (parents .entry)) (now (parents .exit)) ⌝ }
 {
     if is_inside(reached, head) {
         return reached;
@@ -47,18 +48,19 @@ fn grow_into(
     reached | (1u32 << head)
 }
 
-// Looks at every vertex once, the highest first: a settled vertex has a low tail more often than not.
+// Looks at every vertex once, the highest first: in a first tree a vertex is often fed from a higher one, so that going
+// upwards would take a round for each such step.
 fn grow_round(
     cuts: &[u32; CUT_WORDS],
     n: u32,
-    from: u32,
+    from: CutIndex,
     count: u32,
     reached: u32,
     tails: &mut [u32; VERTICES],
     parents: &mut [u8; VERTICES],
 ) -> u32
-    requires { ⌜ In-range n from count (now tails) reached (now parents) ⌝ }
-    ensures { λ r. ⌜ Grows n from count 0 n (now (tails .entry)) (now (tails .exit)) reached r (now (parents .entry)) (now (parents .exit)) ⌝ }
+    requires { ⌜ In-range n (from .0) count (now tails) reached (now parents) ⌝ }
+    ensures { λ r. ⌜ Grows n (from .0) count 0 n (now (tails .entry)) (now (tails .exit)) reached r (now (parents .entry)) (now (parents .exit)) ⌝ }
 {
     let mut more = reached;
     let mut head = n;
@@ -75,11 +77,11 @@ pub fn grow(
     tails: &[u32; VERTICES], // the tails that each vertex can have
     n: u32, // the number of vertices
     root: u32, // one of them
-    from: u32, // the cuts from this one on are looked at
+    from: CutIndex, // the cuts from this one on are looked at
     count: u32, // the number of cuts
 ) -> Growth
-    requires { ⌜ (n ≤ max-vertices) × (root < n) × (from ≤ count) × (count ≤ max-cuts) × (length (now tails) ≡ max-vertices) ⌝ }
-    ensures { λ r. ⌜ Grown-tree n root from count (now (tails .entry)) (r .reached) (r .parents) ⌝ }
+    requires { ⌜ (n ≤ max-vertices) × (root < n) × (from .0 ≤ count) × (count ≤ max-cuts) × (length (now tails) ≡ max-vertices) ⌝ }
+    ensures { λ r. ⌜ Grown-tree n root (from .0) count (now (tails .entry)) (r .reached) (r .parents) ⌝ }
 {
     let mut left = *tails;
     let mut parents = [NO_PARENT; VERTICES];

@@ -5,7 +5,7 @@
 // settled so far goes out of the sets. Few tails are left to be tried below those of the tree at hand, and nearly all
 // of them are decided without planning.
 mod attempt; // attempt.rt: whether a tail can be had
-mod fixed; // fixed.rt: an arc fixed, and what cannot stand beside it let go
+mod fixing; // fixing.rt: an arc fixed, and what cannot stand beside it taken out
 mod growth; // growth.rt: a tree grown from the root
 mod tails; // tails.rt: the tails that arcs of reduced cost 0 come from
 
@@ -19,8 +19,9 @@ ghost use Rattle.instance.specs.Matrix.{unmarked};
 ghost use Rattle.first_tree.specs.Search.{Search, Planned-tree, Settled, Least-parent};
 use attempt::try_tail;
 use checks::sets::is_inside;
-use fixed::first_group;
-use fixed::fix_arc;
+use fixing::first_group;
+use fixing::fix_arc;
+use instance::CutIndex;
 use instance::limits::CELLS;
 use instance::limits::CUT_WORDS;
 use instance::limits::VERTICES;
@@ -35,17 +36,17 @@ fn least_parent(
     n: u32, // the number of vertices
     root: u32, // one of them
     total: u32, // the cheapest total
-    from: u32, // the cuts from this one on are looked at
+    from: CutIndex, // the cuts from this one on are looked at
     count: u32, // the number of cuts
     vertex: u32, // the one to be settled
 ) -> [u8; VERTICES]
-    requires { ⌜ Search (now m) (now cuts) n root total from count × Settled (now m) n root total vertex (now tails) parents × (vertex < n) × (vertex ≢ root) ⌝ }
+    requires { ⌜ Search (now m) (now cuts) n root total (from .0) count × Settled (now m) n root total vertex (now tails) parents × (vertex < n) × (vertex ≢ root) ⌝ }
     ensures { λ r. ⌜ Settled (now (m .entry)) n root total vertex (now (tails .entry)) r × Least-parent (now (m .entry)) n root total vertex r ⌝ }
 {
-    let least = parents[vertex as usize] as u32;
+    let own = parents[vertex as usize] as u32;
     let set = tails[vertex as usize];
     let mut t: u32 = 0;
-    while t < least {
+    while t < own {
         if is_inside(set, t) {
             let tried = try_tail(
                 m,

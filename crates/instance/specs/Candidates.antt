@@ -54,7 +54,9 @@ is-cheapest (some w) v = eqb v w
 unfoldable pub cheapest-trees : Instance → List (List ℕ)
 cheapest-trees s = let w = cheapest s in select (λ ps. is-cheapest w (total s ps)) (arborescences s)
 
--- THE PARENTS SHOWN. Document 01 left free which cheapest tree; 02, A10 amends it: "The feeder list is now, among all
--- cheapest feed trees, the first when compared position by position." Where there is none: "255 .. everywhere"
+-- THE PARENTS SHOWN. Document 01 had feeders of 255 "everywhere when over or none", and left free which cheapest tree a
+-- plan shows. 02, A2 amends the one: "when over budget .. the feeder list holds a cheapest tree"; 02, A10 the other:
+-- "The feeder list is now, among all cheapest feed trees, the first when compared position by position." Where there is
+-- no tree it stays 255 everywhere.
 unfoldable pub first-tree : Instance → List ℕ
 first-tree s = getD (cheapest-trees s) 0 (replicate (s .n) no-parent)

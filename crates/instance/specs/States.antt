@@ -11,14 +11,6 @@ use Rattle.instance.specs.Candidates.{candidates, cheapest}
 use Rattle.instance.specs.declared.Outcome.{Outcome}
 use Rattle.instance.specs.declared.Outcome.the-variants.{Plan, Over, NoTree}
 
--- which outcomes show a tree. Document 01 had feeders of 255 "everywhere when over or none", and after these two "no
--- feed lines follow"; 02, A2 amends it: "when over budget .. the feeder list holds a cheapest tree", "The printing
--- program writes the feed lines for 'over' too"
-abbrev pub shows-tree : Outcome → Bool
-shows-tree (Plan v) = true
-shows-tree (Over v) = true
-shows-tree NoTree = false
-
 -- the total that an outcome comes with; none has no total, and 0 stands for it
 abbrev pub total-in : Outcome → ℕ
 total-in (Plan v) = v

@@ -5,7 +5,6 @@ pub mod refusals; // refusals.rt: the refusals of documents 01 and 02
 
 ghost use mathlib.Core.Path.{_≡_};
 ghost use Rattle.instance.specs.Marks.{mark-number};
-ghost use Rattle.instance.specs.States.{shows-tree};
 use limits::BANNED;
 use limits::FREE;
 use limits::PINNED;
@@ -39,16 +38,5 @@ pub fn mark_number(mark: Mark) -> u8
         Mark::Free => FREE,
         Mark::Pinned => PINNED,
         Mark::Banned => BANNED,
-    }
-}
-
-// Whether a tree is shown with the outcome.
-pub fn shows_tree(outcome: Outcome) -> bool
-    ensures { λ r. ⌜ r ≡ shows-tree outcome ⌝ }
-{
-    match outcome {
-        Outcome::Plan(_) => true,
-        Outcome::Over(_) => true,
-        Outcome::NoTree => false,
     }
 }

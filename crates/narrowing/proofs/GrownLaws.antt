@@ -19,7 +19,7 @@ use Rattle.instance.proofs.ArborescenceLaws.{joined, make-arborescence}
 use Rattle.paths.specs.Paths.{Descends}
 use Rattle.paths.proofs.PathLaws.{descends-here, descends-up, parent-other, parent-same}
 use Rattle.narrowing.specs.Narrowed.{Kept}
-use Rattle.narrowing.specs.Grown.{Grown, Closed}
+use Rattle.narrowing.specs.Grown.{Grown, Exhausted}
 
 module _ (n root : ℕ) (keep : ℕ → ℕ → Bool) where
   -- THE ROOT ALONE
@@ -111,13 +111,13 @@ module _ (s : Instance) (keep : ℕ → ℕ → Bool) (arcs : (t h : ℕ) → ke
 
 -- NOTHING MORE TO REACH, and a vertex is missed: no arborescence passes the test. Go up from that vertex: each parent
 -- is missed too, and the root is not.
-module _ (s : Instance) (keep : ℕ → ℕ → Bool) (reached : ℕ → Bool) (out : ℕ) (c : Closed s keep reached out) (ps : List ℕ)
+module _ (s : Instance) (keep : ℕ → ℕ → Bool) (reached : ℕ → Bool) (out : ℕ) (c : Exhausted s keep reached out) (ps : List ℕ)
     (a : is-arborescence s ps ≡ true) (k : Kept s keep ps) where
   root-not : (v : ℕ) → reached v ≡ false → eqb v (s .root) ≡ true → ⊥
   root-not v m e = not-both (reached v) (rw (eqb-true v (s .root) e) (c .root-reached)) m
 
   missed-up : (v : ℕ) → v < s .n → reached v ≡ false → eqb v (s .root) ≡ false → reached (parent ps v) ≡ false
-  missed-up v l m e = is-false (reached (parent ps v)) (λ h. not-both (reached v) (c .closed (parent ps v) v l (k v l e) h) m)
+  missed-up v l m e = is-false (reached (parent ps v)) (λ h. not-both (reached v) (c .stays-within (parent ps v) v l (k v l e) h) m)
 
   missed-from : (j v : ℕ) → v < s .n → reached v ≡ false → reaches j (s .root) ps v ≡ true → ⊥
   unfolding reaches
@@ -128,7 +128,7 @@ module _ (s : Instance) (keep : ℕ → ℕ → Bool) (reached : ℕ → Bool) (
       missed-from j (parent ps v) (remaining-ends s (parent ps v) v (joined s ps a v l e .arc) .tail-below) (missed-up v l m e) (rw e at r))
       (test (eqb v (s .root)))
 
-  pub closed-none : ⊥
-  closed-none =
+  pub exhausted-none : ⊥
+  exhausted-none =
       let e = is-false (eqb out (s .root)) (root-not out (c .missed)) in
       missed-from (s .n) out (c .out-below) (c .missed) (joined s ps a out (c .out-below) e .reach)

@@ -43,7 +43,7 @@ module _ (s : Instance) (cs : List Cut) (w : ℕ) (p : Proves s cs w) where
         tree = o;
         tree-kept = stay ps o;
         keeps = λ qs q a. stay qs q;
-        fixed = λ qs a k u l. absurd (omega arith);
+        agrees = λ qs a k u l. absurd (omega arith);
         least = λ u l qs q a. absurd (omega arith);
       }
     where
@@ -55,17 +55,17 @@ module _ (s : Instance) (cs : List Cut) (w : ℕ) (p : Proves s cs w) where
     -- TAKE another arborescence of the cheapest total that passes the test
     pub narrowed-take : (qs : List ℕ) → Of-total s w qs → Kept s keep qs → Narrowed s w v keep qs
     narrowed-take qs o x =
-        let same : Agree v ps qs = k .fixed qs (o .arborescence) x in
+        let same : Agree v ps qs = k .agrees qs (o .arborescence) x in
         record {
           tree = o;
           tree-kept = x;
           keeps = λ rs q g. k .keeps rs q (λ u l. same u l ∙ g u l);
-          fixed = λ rs a y u l. sym (same u l) ∙ k .fixed rs a y u l;
+          agrees = λ rs a y u l. sym (same u l) ∙ k .agrees rs a y u l;
           least = λ u l rs q g. subst (λ (z : ℕ). z ≤ parent rs u) (same u l) (k .least u l rs q (λ z m. same z (omega arith) ∙ g z m));
         }
 
     pub none-below-take : (qs : List ℕ) → Of-total s w qs → Kept s keep qs → (t : ℕ) → None-below s w v ps t → None-below s w v qs t
-    none-below-take qs o x t b rs q g = b rs q (λ u l. k .fixed qs (o .arborescence) x u l ∙ g u l)
+    none-below-take qs o x t b rs q g = b rs q (λ u l. k .agrees qs (o .arborescence) x u l ∙ g u l)
 
     -- REFUTE a tail
     pub none-below-start : None-below s w v ps 0
@@ -107,9 +107,9 @@ module _ (s : Instance) (cs : List Cut) (w : ℕ) (p : Proves s cs w) where
             keeps =
                 λ qs o g.
                 fixed-keeps s cs w p keep keep′ (parent ps v) v below f qs o (k .keeps qs o (λ u l. g u (omega arith))) (sym (g v (omega arith)));
-            fixed =
+            agrees =
                 λ qs a x.
-                agree-more v ps qs (k .fixed qs a (fixed-less s cs keep keep′ (parent ps v) v f qs x)) (sym (fixed-tail keep′ (parent ps v) f qs x));
+                agree-more v ps qs (k .agrees qs a (fixed-less s cs keep keep′ (parent ps v) v f qs x)) (sym (fixed-tail keep′ (parent ps v) f qs x));
             least = λ u l qs o g. at u l qs o g (ℕ-discrete u v);
           }
         where
@@ -124,7 +124,7 @@ module _ (s : Instance) (cs : List Cut) (w : ℕ) (p : Proves s cs w) where
           tree = k .tree;
           tree-kept = k .tree-kept;
           keeps = λ qs o g. k .keeps qs o (λ u l. g u (omega arith));
-          fixed = λ qs a x. agree-more v ps qs (k .fixed qs a x) (same qs a);
+          agrees = λ qs a x. agree-more v ps qs (k .agrees qs a x) (same qs a);
           least = λ u l qs o g. at u l qs o g (ℕ-discrete u v);
         }
       where

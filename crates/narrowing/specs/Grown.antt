@@ -20,8 +20,8 @@ pub record Grown (n root : ℕ) (keep : (tail head : ℕ) → Bool) (reached : �
   pub path : (v : ℕ) → reached v ≡ true → Descends parents root v
 
 -- the vertices that are reached are all that such arcs lead to from the root, and one vertex is not among them
-pub record Closed (s : Instance) (keep : (tail head : ℕ) → Bool) (reached : ℕ → Bool) (out : ℕ) : Type 0 where
+pub record Exhausted (s : Instance) (keep : (tail head : ℕ) → Bool) (reached : ℕ → Bool) (out : ℕ) : Type 0 where
   pub root-reached : reached (s .root) ≡ true
-  pub closed : (t h : ℕ) → h < s .n → keep t h ≡ true → reached t ≡ true → reached h ≡ true
+  pub stays-within : (t h : ℕ) → h < s .n → keep t h ≡ true → reached t ≡ true → reached h ≡ true
   pub out-below : out < s .n
   pub missed : reached out ≡ false

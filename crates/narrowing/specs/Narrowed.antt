@@ -31,7 +31,7 @@ pub record Narrowed (s : Instance) (w v : ℕ) (keep : (tail head : ℕ) → Boo
   pub tree : Of-total s w ps
   pub tree-kept : Kept s keep ps
   pub keeps : (qs : List ℕ) → Of-total s w qs → Agree v ps qs → Kept s keep qs
-  pub fixed : (qs : List ℕ) → is-arborescence s qs ≡ true → Kept s keep qs → Agree v ps qs
+  pub agrees : (qs : List ℕ) → is-arborescence s qs ≡ true → Kept s keep qs → Agree v ps qs
   pub least : (u : ℕ) → u < v → (qs : List ℕ) → Of-total s w qs → Agree u ps qs → parent ps u ≤ parent qs u
 
 -- while v is being settled: no tail below t can be had

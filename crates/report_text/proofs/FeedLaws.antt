@@ -20,12 +20,11 @@ use Rattle.base.proofs.JoinLaws.{join-same, join-length}
 use Rattle.instance.specs.Limits.{max-vertices, no-parent}
 use Rattle.instance.specs.Arborescence.{parent}
 use Rattle.instance.specs.declared.Outcome.{Outcome}
-use Rattle.instance.specs.States.{shows-tree}
 use Rattle.text.specs.Decimal.{decimal-in, decimal}
 use Rattle.text.specs.Lines.{codes}
 use Rattle.text.proofs.DecimalLaws.{decimal-length}
 use Rattle.text.proofs.LineLaws.{three-length}
-use Rattle.report_text.specs.Feeds.{feed-line, listed-weight, feed-at, feed-lines}
+use Rattle.report_text.specs.Feeds.{feed-line, listed-weight, feed-at, feed-lines, shows-tree}
 
 pub feeds-same : (ws ps : List ℕ) (n r : ℕ) (o : Outcome) → feed-lines ws ps n r o ≡ feed-lines ws (take n ps) n r o
 unfolding feed-lines feed-at

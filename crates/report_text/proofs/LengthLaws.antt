@@ -15,7 +15,7 @@ use Rattle.instance.specs.Arborescence.{parent, is-arborescence}
 use Rattle.instance.specs.Candidates.{first-tree}
 use Rattle.instance.specs.declared.Outcome.{Outcome}
 use Rattle.instance.specs.declared.Outcome.the-variants.{Plan, Over, NoTree}
-use Rattle.instance.specs.States.{total-in, shows-tree, outcome, states}
+use Rattle.instance.specs.States.{total-in, outcome, states}
 use Rattle.instance.specs.Valid.{valid-instance}
 use Rattle.instance.proofs.ArcLaws.{arc-ends, remaining-arc}
 use Rattle.instance.proofs.ValidLaws.{valid-small, valid-root, valid-budget}
@@ -29,7 +29,7 @@ use Rattle.text.specs.Lines.{codes}
 use Rattle.text.proofs.DecimalLaws.{decimal-length}
 use Rattle.text.proofs.LineLaws.{line-length}
 use Rattle.report_text.specs.Heading.{header-line, outcome-line}
-use Rattle.report_text.specs.Feeds.{feed-lines}
+use Rattle.report_text.specs.Feeds.{feed-lines, shows-tree}
 use Rattle.report_text.specs.Rows.{row-lines}
 use Rattle.report_text.specs.Whole.{whole-text, report-text, refused-text, max-text}
 use Rattle.report_text.proofs.HeadingLaws.{header-length, outcome-length}

@@ -1,6 +1,6 @@
 -- The feed lines of a report: the arcs of the tree that is shown (document 01, "Sheet Q and its outcomes"). Assumes
 -- nothing: these are definitions.
-use mathlib.Core.Bool.{cond}
+use mathlib.Core.Bool.{Bool, true, false, cond}
 use mathlib.Core.List.{List, []}
 use Prim.Native.Nat.{ℕ}
 use lib.Dec.{eqb}
@@ -10,7 +10,7 @@ use Rattle.instance.specs.Limits.{no-arc}
 use Rattle.instance.specs.Instance.{cell}
 use Rattle.instance.specs.Arborescence.{parent}
 use Rattle.instance.specs.declared.Outcome.{Outcome}
-use Rattle.instance.specs.States.{shows-tree}
+use Rattle.instance.specs.declared.Outcome.the-variants.{Plan, Over, NoTree}
 use Rattle.text.specs.Lines.{codes, line-of-three}
 
 -- "fed, feeder, price"
@@ -25,6 +25,13 @@ listed-weight ws t h = getD ws (cell t h) no-arc
 unfoldable pub feed-at : (weights parents : List ℕ) → (root v : ℕ) → List ℕ
 feed-at ws ps r v = cond (eqb v r) [] (feed-line v (parent ps v) (listed-weight ws (parent ps v) v))
 
--- "by fed position", where the outcome shows a tree (for "over" too: 02, A2); else "no feed lines follow"
+-- which outcomes have feed lines. Document 01: after "over" and "none" "no feed lines follow"; 02, A2 amends it: "The
+-- printing program writes the feed lines for 'over' too"
+abbrev pub shows-tree : Outcome → Bool
+shows-tree (Plan v) = true
+shows-tree (Over v) = true
+shows-tree NoTree = false
+
+-- "by fed position"
 unfoldable pub feed-lines : (weights parents : List ℕ) → (n root : ℕ) → Outcome → List ℕ
 feed-lines ws ps n r o = cond (shows-tree o) (join-below n (feed-at ws ps r)) []

@@ -5,12 +5,22 @@ ghost use lib.ListN.{length};
 ghost use Rattle.base.specs.Lists.{join-below};
 ghost use Rattle.instance.specs.Limits.{cells};
 ghost use Rattle.text.specs.Buffer.{Room, Puts};
-ghost use Rattle.report_text.specs.Feeds.{feed-line, listed-weight, feed-at, feed-lines};
+ghost use Rattle.report_text.specs.Feeds.{feed-line, listed-weight, feed-at, shows-tree, feed-lines};
 use instance::Outcome;
 use instance::limits::CELLS;
 use instance::limits::NO_ARC;
-use instance::shows_tree;
 use text::lines::put_three;
+
+// Whether feed lines are printed with the outcome.
+fn shows_tree(outcome: Outcome) -> bool
+    ensures { λ r. ⌜ r ≡ shows-tree outcome ⌝ }
+{
+    match outcome {
+        Outcome::Plan(_) => true,
+        Outcome::Over(_) => true,
+        Outcome::NoTree => false,
+    }
+}
 
 fn put_feed(head: u32, tail: u32, weight: u32, out: &mut [u8], at: usize) -> usize
     requires { ⌜ Room (feed-line head tail weight) (now out) at ⌝ }

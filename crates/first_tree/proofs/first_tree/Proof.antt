@@ -20,8 +20,8 @@ abbrev μ-loop : tie.MeasureT-loop
 μ-loop m reduced cuts n root total count from tails₀ first₀ v₀ tails first v = n - v
 
 -- the cuts that are looked at
-search-at : (c : tie.After-first-group Inv-loop μ-loop) → let a = c .before .args in Search (a .m .now) (a .cuts .now) (a .n) (a .root) (a .total) (c .first-group .result) (a .count)
-search-at c = let k = c .before .pre .0 in record { matrix-ok = k .matrix-ok; proves = k .proves; some-cuts = c .first-group .ensures; few = k .few }
+search-at : (c : tie.After-first-group Inv-loop μ-loop) → let a = c .before .args in Search (a .m .now) (a .cuts .now) (a .n) (a .root) (a .total) (c .first-group .result .0) (a .count)
+search-at c = let k = c .before .pre .0 in record { matrix-ok = k .matrix-ok; proves = k .proves; from-within = c .first-group .ensures; few = k .few }
 
 -- the tail that was found, as it is read
 module _ (c : tie.After-least-parent Inv-loop μ-loop) where
@@ -78,7 +78,7 @@ cast-tail-2 c = omega (arith, below c, b c .pre .0 .matrix-ok .small)
 fix-arc-requires : tie.Need-fix-arc-requires Inv-loop μ-loop
 fix-arc-requires c κs =
     let k = search-at (c .before .before .before .before .before .before .before) in
-    (k .matrix-ok .small, k .some-cuts, k .few, below (c .before), c .before .before .before .before .loop-test .taken, c .before .before .before .before .before .loop .inv .1 .tails-ok .size, kept (c .before))
+    (k .matrix-ok .small, k .from-within, k .few, below (c .before), c .before .before .before .before .loop-test .taken, c .before .before .before .before .before .loop .inv .1 .tails-ok .size, kept (c .before))
 
 add-v : tie.Need-add-v Inv-loop μ-loop
 add-v c = let b = c .before .before .before .before .before in omega (arith, b .pre .0 .matrix-ok .small)

@@ -15,19 +15,19 @@ use Rattle.first_tree.proofs.least_parent.Statement.{statement}
 use Rattle.first_tree.proofs.least_parent.Tie as tie
 
 abbrev Inv-loop : tie.InvT-loop
-Inv-loop m cuts tails n root total from count vertex parents least set t₀ t = (t ≤ least) × None-below (unmarked n root m) total vertex (take n parents) t
+Inv-loop m cuts tails n root total from count vertex parents own set t₀ t = (t ≤ own) × None-below (unmarked n root m) total vertex (take n parents) t
 
 abbrev μ-loop : tie.MeasureT-loop
-μ-loop m cuts tails n root total from count vertex parents least set t₀ t = least - t
+μ-loop m cuts tails n root total from count vertex parents own set t₀ t = own - t
 
-array-read-least : tie.Need-array-read-least Inv-loop μ-loop
-array-read-least c = let b = c in omega (arith, b .pre .2, b .pre .0 .matrix-ok .small)
+array-read-own : tie.Need-array-read-own Inv-loop μ-loop
+array-read-own c = let b = c in omega (arith, b .pre .2, b .pre .0 .matrix-ok .small)
 
-cast-least : tie.Need-cast-least Inv-loop μ-loop
-cast-least c =
+cast-own : tie.Need-cast-own Inv-loop μ-loop
+cast-own c =
     let b = c in
     let a = b .args in
-    let h = tree-at-hand (a .m .now) (a .cuts .now) (a .n) (a .root) (a .total) (a .from) (a .count) (b .pre .0) (a .vertex) (a .tails .now) (a .t4) (b .pre .1) in
+    let h = tree-at-hand (a .m .now) (a .cuts .now) (a .n) (a .root) (a .total) (a .from .0) (a .count) (b .pre .0) (a .vertex) (a .tails .now) (a .t4) (b .pre .1) in
     omega (arith, tail-below (a .n) (a .root) (a .m .now) (a .t4) h (a .vertex) (b .pre .2) (b .pre .3), b .pre .0 .matrix-ok .small)
 
 mul-set : tie.Need-mul-set Inv-loop μ-loop
@@ -46,7 +46,7 @@ is-inside-requires : tie.Need-is-inside-requires Inv-loop μ-loop
 is-inside-requires c κs =
     let b = c .before .before .before in
     let a = b .args in
-    let h = tree-at-hand (a .m .now) (a .cuts .now) (a .n) (a .root) (a .total) (a .from) (a .count) (b .pre .0) (a .vertex) (a .tails .now) (a .t4) (b .pre .1) in
+    let h = tree-at-hand (a .m .now) (a .cuts .now) (a .n) (a .root) (a .total) (a .from .0) (a .count) (b .pre .0) (a .vertex) (a .tails .now) (a .t4) (b .pre .1) in
     omega (arith, tail-below (a .n) (a .root) (a .m .now) (a .t4) h (a .vertex) (b .pre .2) (b .pre .3), b .pre .0 .matrix-ok .small)
 
 try-tail-requires : tie.Need-try-tail-requires Inv-loop μ-loop
@@ -59,14 +59,14 @@ returns c =
     let b = c .before .before .before .before .before .before .before .before in
     let a = b .args in
     let r = c .before .before .try-tail in
-    settled-take (a .m .now) (a .cuts .now) (a .n) (a .root) (a .total) (a .from) (a .count) (b .pre .0) (a .vertex) (a .tails .now) (a .t4) (b .pre .1) (c .before .before .before .before .before .before .loop .t) (r .result .parents)
+    settled-take (a .m .now) (a .cuts .now) (a .n) (a .root) (a .total) (a .from .0) (a .count) (b .pre .0) (a .vertex) (a .tails .now) (a .t4) (b .pre .1) (c .before .before .before .before .before .before .loop .t) (r .result .parents)
     (subst (λ (f : Bool). Tried (a .m .now) (a .n) (a .root) (a .total) (a .vertex) (a .tails .now) (a .t4) (c .before .before .before .before .before .before .loop .t) f (r .result .parents)) (c .before .if2 .taken) (r .ensures)) (c .before .before .before .before .before .before .loop .inv .1)
 
 add-t : tie.Need-add-t Inv-loop μ-loop
 add-t c =
     let b = c .before .before .before .before .before in
     let a = b .args in
-    let h = tree-at-hand (a .m .now) (a .cuts .now) (a .n) (a .root) (a .total) (a .from) (a .count) (b .pre .0) (a .vertex) (a .tails .now) (a .t4) (b .pre .1) in
+    let h = tree-at-hand (a .m .now) (a .cuts .now) (a .n) (a .root) (a .total) (a .from .0) (a .count) (b .pre .0) (a .vertex) (a .tails .now) (a .t4) (b .pre .1) in
     omega (arith, tail-below (a .n) (a .root) (a .m .now) (a .t4) h (a .vertex) (b .pre .2) (b .pre .3), b .pre .0 .matrix-ok .small)
 
 loop-less : tie.Need-loop-less Inv-loop μ-loop
@@ -84,7 +84,7 @@ loop-again c =
           more
           (subst (λ (f : Bool). Tried (a .m .now) (a .n) (a .root) (a .total) (a .vertex) (a .tails .now) (a .t4) (l .t) f (w .1 .result .parents)) (w .2 .left) (w .1 .ensures)
           .none refl))
-          (λ w. more (none-absent (a .m .now) (a .cuts .now) (a .n) (a .root) (a .total) (a .from) (a .count) (b .pre .0) (a .vertex) (a .tails .now) (a .t4) (b .pre .2) (b .pre .3) (b .pre .1) (l .t) (sym (c .before .is-inside .ensures) ∙ w .left))) (c .if1 .came),
+          (λ w. more (none-absent (a .m .now) (a .cuts .now) (a .n) (a .root) (a .total) (a .from .0) (a .count) (b .pre .0) (a .vertex) (a .tails .now) (a .t4) (b .pre .2) (b .pre .3) (b .pre .1) (l .t) (sym (c .before .is-inside .ensures) ∙ w .left))) (c .if1 .came),
     )
 
 returns-2 : tie.Need-returns-2 Inv-loop μ-loop
@@ -102,8 +102,8 @@ least-parent-spec =
     (tie.spec
     Inv-loop
     μ-loop
-    array-read-least
-    cast-least
+    array-read-own
+    cast-own
     mul-set
     element-copy-out-set
     loop-holds

@@ -29,12 +29,12 @@ returns c =
       places = length-replicate {A = ℕ} max-vertices no-parent;
       tree = λ e. absurd (not-both false e refl);
       kept = λ e. absurd (not-both false e refl);
-      none = λ _. grown-short (a .m .now) (a .cuts .now) (a .n) (a .root) (a .total) (a .from) (a .count) (b .pre .0) (a .tails .now) (b .pre .1) (a .count) _ _ (g .ensures) refl
+      none = λ _. grown-short (a .m .now) (a .cuts .now) (a .n) (a .root) (a .total) (a .from .0) (a .count) (b .pre .0) (a .tails .now) (b .pre .1) (a .count) _ _ (g .ensures) refl
           (sym (c .before .all-reached .ensures) ∙ not-true _ (c .if1 .taken));
     }
 
 grow-requires-2 : tie.Need-grow-requires-2
-grow-requires-2 c κs = let k = c .before .before .before .pre .0 in (k .matrix-ok .small, k .matrix-ok .root-below, k .some-cuts, k .few, c .before .before .before .pre .1 .size)
+grow-requires-2 c κs = let k = c .before .before .before .pre .0 in (k .matrix-ok .small, k .matrix-ok .root-below, k .from-within, k .few, c .before .before .before .pre .1 .size)
 
 all-reached-requires-2 : tie.Need-all-reached-requires-2
 all-reached-requires-2 c κs = c .before .before .before .before .pre .0 .matrix-ok .small
@@ -43,7 +43,7 @@ tree-total-requires : tie.Need-tree-total-requires
 tree-total-requires c κs =
     let b = c .before .before .before .before .before .before .before .before in
     let a = b .args in
-    grown-matrix (a .m .now) (a .cuts .now) (a .n) (a .root) (a .total) (a .from) (a .count) (b .pre .0) (a .tails .now) (b .pre .1) (a .from) _ _ (c .before .before .before .before .grow2 .ensures)
+    grown-matrix (a .m .now) (a .cuts .now) (a .n) (a .root) (a .total) (a .from .0) (a .count) (b .pre .0) (a .tails .now) (b .pre .1) (a .from .0) _ _ (c .before .before .before .before .grow2 .ensures)
     (sym (c .before .before .before .all-reached2 .ensures) ∙ c .before .before .if2 .taken)
 
 returns-2 : tie.Need-returns-2
@@ -53,11 +53,11 @@ returns-2 c =
     let a = b .args in
     let g = c .before .before .before .before .before .before .grow2 .ensures in
     let all = sym (c .before .before .before .before .before .all-reached2 .ensures) ∙ c .before .before .before .before .if2 .taken in
-    let t = grown-matrix (a .m .now) (a .cuts .now) (a .n) (a .root) (a .total) (a .from) (a .count) (b .pre .0) (a .tails .now) (b .pre .1) (a .from) _ _ g all in
+    let t = grown-matrix (a .m .now) (a .cuts .now) (a .n) (a .root) (a .total) (a .from .0) (a .count) (b .pre .0) (a .tails .now) (b .pre .1) (a .from .0) _ _ g all in
     record {
       places = g .places;
       tree = λ _. record { arborescence = t .arborescence; attained = sym (c .before .tree-total .ensures) ∙ c .if3 .taken };
-      kept = λ _. grown-passes (a .m .now) (a .cuts .now) (a .n) (a .root) (a .total) (a .from) (a .count) (b .pre .0) (a .tails .now) (b .pre .1) (a .from) _ _ g all;
+      kept = λ _. grown-passes (a .m .now) (a .cuts .now) (a .n) (a .root) (a .total) (a .from .0) (a .count) (b .pre .0) (a .tails .now) (b .pre .1) (a .from .0) _ _ g all;
       none = λ e. absurd (not-both true refl e);
     }
 
@@ -65,7 +65,7 @@ plan-kept-requires : tie.Need-plan-kept-requires
 plan-kept-requires c κs =
     let b = c .before .before .before .before .before .before in
     let a = b .args in
-    (b .pre .0 .matrix-ok, b .pre .1, none-cheaper (a .m .now) (a .cuts .now) (a .n) (a .root) (a .total) (a .from) (a .count) (b .pre .0))
+    (b .pre .0 .matrix-ok, b .pre .1, none-cheaper (a .m .now) (a .cuts .now) (a .n) (a .root) (a .total) (a .from .0) (a .count) (b .pre .0))
 
 returns-3 : tie.Need-returns-3
 returns-3 c = c .plan-kept .ensures

@@ -9,30 +9,30 @@ leads-back-requires : tie.Need-leads-back-requires
 leads-back-requires c κs =
     let b = c .before in
     let a = b .args in
-    let h = tree-at-hand (a .m .now) (a .cuts .now) (a .n) (a .root) (a .total) (a .from) (a .count) (b .pre .0) (a .vertex) (a .tails .now) (a .t4) (b .pre .1) in
-    let e = kept-ends (a .m .now) (a .cuts .now) (a .n) (a .root) (a .total) (a .from) (a .count) (b .pre .0) (a .vertex) (a .tails .now) (a .t4) (b .pre .1) (a .tail) (b .pre .2) (b .pre .3) in
+    let h = tree-at-hand (a .m .now) (a .cuts .now) (a .n) (a .root) (a .total) (a .from .0) (a .count) (b .pre .0) (a .vertex) (a .tails .now) (a .t4) (b .pre .1) in
+    let e = kept-ends (a .m .now) (a .cuts .now) (a .n) (a .root) (a .total) (a .from .0) (a .count) (b .pre .0) (a .vertex) (a .tails .now) (a .t4) (b .pre .1) (a .tail) (b .pre .2) (b .pre .3) in
     (b .pre .0 .matrix-ok .small, b .pre .1 .places, tree-rooted (a .n) (a .root) (a .m .now) (a .t4) h, e .tail-below, b .pre .2)
 
 returns : tie.Need-returns
 returns c =
     let b = c .before .before .before in
     let a = b .args in
-    tried-cycle (a .m .now) (a .cuts .now) (a .n) (a .root) (a .total) (a .from) (a .count) (b .pre .0) (a .vertex) (a .tails .now) (a .t4) (b .pre .1) (a .tail) (b .pre .2) (b .pre .3)
+    tried-cycle (a .m .now) (a .cuts .now) (a .n) (a .root) (a .total) (a .from .0) (a .count) (b .pre .0) (a .vertex) (a .tails .now) (a .t4) (b .pre .1) (a .tail) (b .pre .2) (b .pre .3)
     (c .before .leads-back .ensures (c .if1 .taken))
 
 can-exchange-requires : tie.Need-can-exchange-requires
 can-exchange-requires c κs =
     let b = c .before .before .before .before in
     let a = b .args in
-    let h = tree-at-hand (a .m .now) (a .cuts .now) (a .n) (a .root) (a .total) (a .from) (a .count) (b .pre .0) (a .vertex) (a .tails .now) (a .t4) (b .pre .1) in
-    let e = kept-ends (a .m .now) (a .cuts .now) (a .n) (a .root) (a .total) (a .from) (a .count) (b .pre .0) (a .vertex) (a .tails .now) (a .t4) (b .pre .1) (a .tail) (b .pre .2) (b .pre .3) in
-    (h, e .tail-below, b .pre .2, not-root (a .m .now) (a .cuts .now) (a .n) (a .root) (a .total) (a .from) (a .count) (b .pre .0) (a .vertex) (a .tails .now) (a .t4) (b .pre .1) (a .tail) (b .pre .2) (b .pre .3))
+    let h = tree-at-hand (a .m .now) (a .cuts .now) (a .n) (a .root) (a .total) (a .from .0) (a .count) (b .pre .0) (a .vertex) (a .tails .now) (a .t4) (b .pre .1) in
+    let e = kept-ends (a .m .now) (a .cuts .now) (a .n) (a .root) (a .total) (a .from .0) (a .count) (b .pre .0) (a .vertex) (a .tails .now) (a .t4) (b .pre .1) (a .tail) (b .pre .2) (b .pre .3) in
+    (h, e .tail-below, b .pre .2, not-root (a .m .now) (a .cuts .now) (a .n) (a .root) (a .total) (a .from .0) (a .count) (b .pre .0) (a .vertex) (a .tails .now) (a .t4) (b .pre .1) (a .tail) (b .pre .2) (b .pre .3))
 
 cast-other : tie.Need-cast-other
 cast-other c =
     let b = c .before .before .before .before .before .before in
     let a = b .args in
-    let e = kept-ends (a .m .now) (a .cuts .now) (a .n) (a .root) (a .total) (a .from) (a .count) (b .pre .0) (a .vertex) (a .tails .now) (a .t4) (b .pre .1) (a .tail) (b .pre .2) (b .pre .3) in
+    let e = kept-ends (a .m .now) (a .cuts .now) (a .n) (a .root) (a .total) (a .from .0) (a .count) (b .pre .0) (a .vertex) (a .tails .now) (a .t4) (b .pre .1) (a .tail) (b .pre .2) (b .pre .3) in
     omega (arith, e .tail-below, b .pre .0 .matrix-ok .small)
 
 array-write-other : tie.Need-array-write-other
@@ -42,7 +42,7 @@ returns-2 : tie.Need-returns-2
 returns-2 c =
     let b = c .before .before .before .before .before .before in
     let a = b .args in
-    tried-exchange (a .m .now) (a .cuts .now) (a .n) (a .root) (a .total) (a .from) (a .count) (b .pre .0) (a .vertex) (a .tails .now) (a .t4) (b .pre .1) (a .tail) (b .pre .2) (b .pre .3)
+    tried-exchange (a .m .now) (a .cuts .now) (a .n) (a .root) (a .total) (a .from .0) (a .count) (b .pre .0) (a .vertex) (a .tails .now) (a .t4) (b .pre .1) (a .tail) (b .pre .2) (b .pre .3)
     (c .before .can-exchange .ensures (c .if2 .taken))
 
 fix-arc-requires : tie.Need-fix-arc-requires
@@ -50,20 +50,20 @@ fix-arc-requires c κs =
     let b = c .before .before .before .before .before .before .before .before in
     let a = b .args in
     let k = b .pre .0 in
-    let e = kept-ends (a .m .now) (a .cuts .now) (a .n) (a .root) (a .total) (a .from) (a .count) k (a .vertex) (a .tails .now) (a .t4) (b .pre .1) (a .tail) (b .pre .2) (b .pre .3) in
-    (k .matrix-ok .small, k .some-cuts, k .few, e .tail-below, b .pre .2, b .pre .1 .tails-ok .size, b .pre .3)
+    let e = kept-ends (a .m .now) (a .cuts .now) (a .n) (a .root) (a .total) (a .from .0) (a .count) k (a .vertex) (a .tails .now) (a .t4) (b .pre .1) (a .tail) (b .pre .2) (b .pre .3) in
+    (k .matrix-ok .small, k .from-within, k .few, e .tail-below, b .pre .2, b .pre .1 .tails-ok .size, b .pre .3)
 
 tree-kept-requires : tie.Need-tree-kept-requires
 tree-kept-requires c κs =
     let b = c .before .before .before .before .before .before .before .before .before .before in
     let a = b .args in
-    (b .pre .0, fixed-ok (a .m .now) (a .cuts .now) (a .n) (a .root) (a .total) (a .from) (a .count) (b .pre .0) (a .vertex) (a .tails .now) (a .t4) (b .pre .1) (a .tail) (b .pre .2) (b .pre .3) _ (c .before .fix-arc .ensures))
+    (b .pre .0, fixed-ok (a .m .now) (a .cuts .now) (a .n) (a .root) (a .total) (a .from .0) (a .count) (b .pre .0) (a .vertex) (a .tails .now) (a .t4) (b .pre .1) (a .tail) (b .pre .2) (b .pre .3) _ (c .before .fix-arc .ensures))
 
 returns-3 : tie.Need-returns-3
 returns-3 c =
     let b = c .before .before .before .before .before .before .before .before .before .before .before in
     let a = b .args in
-    tried-fixed (a .m .now) (a .cuts .now) (a .n) (a .root) (a .total) (a .from) (a .count) (b .pre .0) (a .vertex) (a .tails .now) (a .t4) (b .pre .1) (a .tail) (b .pre .2) (b .pre .3) _ (c .before .before .fix-arc .ensures) _ _
+    tried-fixed (a .m .now) (a .cuts .now) (a .n) (a .root) (a .total) (a .from .0) (a .count) (b .pre .0) (a .vertex) (a .tails .now) (a .t4) (b .pre .1) (a .tail) (b .pre .2) (b .pre .3) _ (c .before .before .fix-arc .ensures) _ _
     (c .tree-kept .ensures)
 
 pub try-tail-spec : {M : Type 1} → statement M

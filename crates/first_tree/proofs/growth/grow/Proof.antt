@@ -7,14 +7,14 @@ use lib.ListN.{length-replicate}
 use lib.Pow.{pow-pos, pow-lt, pow-mono}
 use Rattle.instance.specs.Limits.{max-vertices, no-parent, word-limit}
 use Rattle.instance.proofs.SetBits.{one-shifted}
-use Rattle.first_tree.specs.Growth.{In-range, Growing, Stuck}
+use Rattle.first_tree.specs.Growth.{In-range, Growing, Nothing-new}
 use Rattle.first_tree.proofs.GrowthLaws.{growing-root, grown-tree}
 use Rattle.first_tree.proofs.growth.grow.Statement.{statement}
 use Rattle.first_tree.proofs.growth.grow.Tie as tie
 
 abbrev Inv-loop : tie.InvT-loop
 Inv-loop cuts tails n root from count left₀ parents₀ reached₀ last₀ left parents reached last =
-    In-range n from count left reached parents × Growing n root from count tails left reached parents × (last ≤ reached) × (last ≡ reached → Stuck from count 0 n tails reached reached)
+    In-range n (from .0) count left reached parents × Growing n root (from .0) count tails left reached parents × (last ≤ reached) × (last ≡ reached → Nothing-new (from .0) count 0 n tails reached reached)
 
 abbrev μ-loop : tie.MeasureT-loop
 μ-loop cuts tails n root from count left₀ parents₀ reached₀ last₀ left parents reached last = word-limit - last
@@ -28,8 +28,8 @@ loop-holds c =
     let p = c .before .pre in
     let l : a .root < 32 = omega (arith, p .0, p .1) in
     rw (one-shifted (a .root) l) (
-      record { small = p .0; some-cuts = p .2; few = p .3; size = p .4; below = pow-lt {i = a .root} {j = a .n} (p .1); places = length-replicate {A = ℕ} max-vertices no-parent },
-      growing-root (a .n) (a .root) (a .from) (a .count) (a .tails .now) (p .0),
+      record { small = p .0; from-within = p .2; few = p .3; size = p .4; below = pow-lt {i = a .root} {j = a .n} (p .1); places = length-replicate {A = ℕ} max-vertices no-parent },
+      growing-root (a .n) (a .root) (a .from .0) (a .count) (a .tails .now) (p .0),
       omega arith,
       λ e. absurd (omega (arith, pow-pos (a .root))),
     )
@@ -53,7 +53,7 @@ loop-again c =
       g .in-range,
       g .growing (a .root) (a .tails .now) (i .1),
       g .least,
-      λ e. subst (λ (x : ℕ). Stuck (a .from) (a .count) 0 (a .n) (a .tails .now) x (c .grow-round .result)) e (g .stuck (a .root) (a .tails .now) (i .1)),
+      λ e. subst (λ (x : ℕ). Nothing-new (a .from .0) (a .count) 0 (a .n) (a .tails .now) x (c .grow-round .result)) e (g .nothing-new (a .root) (a .tails .now) (i .1)),
     )
 
 returns : tie.Need-returns Inv-loop μ-loop
@@ -61,7 +61,7 @@ returns c =
     let a = c .before .before .before .args in
     let l = c .before .loop in
     let i = l .inv in
-    grown-tree (a .n) (a .root) (a .from) (a .count) (a .tails .now) (l .left) (l .reached) (l .parents) (i .0) (i .1) (i .3 (c .loop-test .left))
+    grown-tree (a .n) (a .root) (a .from .0) (a .count) (a .tails .now) (l .left) (l .reached) (l .parents) (i .0) (i .1) (i .3 (c .loop-test .left))
 
 pub grow-spec : {M : Type 1} → statement M
 grow-spec =

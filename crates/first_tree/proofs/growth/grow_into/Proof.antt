@@ -10,7 +10,7 @@ is-inside-requires : tie.Need-is-inside-requires
 is-inside-requires c κs = let k = c .pre .0 .small in omega arith
 
 returns : tie.Need-returns
-returns c = let a = c .before .before .args in grows-already (a .n) (a .from) (a .count) (a .head) _ (a .reached) _ (c .before .before .pre .0) (sym (c .before .is-inside .ensures) ∙ c .if1 .taken)
+returns c = let a = c .before .before .args in grows-already (a .n) (a .from .0) (a .count) (a .head) _ (a .reached) _ (c .before .before .pre .0) (sym (c .before .is-inside .ensures) ∙ c .if1 .taken)
 
 mul-sources : tie.Need-mul-sources
 mul-sources c = let k = c .before .before .pre .0 in omega (arith, k .small)
@@ -19,7 +19,7 @@ element-copy-out-sources : tie.Need-element-copy-out-sources
 element-copy-out-sources c = let k = c .before .before .pre .0 in omega (arith, k .small, k .size)
 
 returns-2 : tie.Need-returns-2
-returns-2 c = let a = c .before .before .before .before .args in grows-none (a .n) (a .from) (a .count) (a .head) _ (a .reached) _ (c .before .before .before .before .pre .0) (c .if2 .taken)
+returns-2 c = let a = c .before .before .before .before .args in grows-none (a .n) (a .from .0) (a .count) (a .head) _ (a .reached) _ (c .before .before .before .before .pre .0) (c .if2 .taken)
 
 fix-arc-requires : tie.Need-fix-arc-requires
 fix-arc-requires c κs =
@@ -28,12 +28,12 @@ fix-arc-requires c κs =
     let k = p .0 in
     let out = sym (c .before .before .before .before .is-inside .ensures) ∙ c .before .before .before .if1 .left in (
       k .small,
-      k .some-cuts,
+      k .from-within,
       k .few,
-      source-below (a .n) (a .from) (a .count) (a .head) _ (a .reached) _ k (p .1) out (c .before .if2 .left),
+      source-below (a .n) (a .from .0) (a .count) (a .head) _ (a .reached) _ k (p .1) out (c .before .if2 .left),
       p .1,
       k .size,
-      source-kept (a .n) (a .from) (a .count) (a .head) _ (a .reached) _ k (p .1) out (c .before .if2 .left),
+      source-kept (a .n) (a .from .0) (a .count) (a .head) _ (a .reached) _ k (p .1) out (c .before .if2 .left),
     )
 
 cast-parents : tie.Need-cast-parents
@@ -41,7 +41,7 @@ cast-parents c =
     let a = c .before .before .before .before .before .before .args in
     let p = c .before .before .before .before .before .before .pre in
     let out = sym (c .before .before .before .before .before .is-inside .ensures) ∙ c .before .before .before .before .if1 .left in
-    omega (arith, p .0 .small, source-below (a .n) (a .from) (a .count) (a .head) _ (a .reached) _ (p .0) (p .1) out (c .before .before .if2 .left))
+    omega (arith, p .0 .small, source-below (a .n) (a .from .0) (a .count) (a .head) _ (a .reached) _ (p .0) (p .1) out (c .before .before .if2 .left))
 
 element-write-parents : tie.Need-element-write-parents
 element-write-parents c = let k = c .before .before .before .before .before .before .pre .0 in omega (arith, k .small, k .places)
@@ -55,7 +55,7 @@ returns-3 c =
     let p = c .before .before .before .before .before .before .pre in
     let out = sym (c .before .before .before .before .before .is-inside .ensures) ∙ c .before .before .before .before .if1 .left in
     rw (one-shifted (a .head) (omega (arith, p .0 .small)))
-    (grows-more (a .n) (a .from) (a .count) (a .head) _ (a .reached) _ (p .0) (p .1) out (c .before .before .if2 .left) (a .cuts .now) _ (c .fix-arc .ensures))
+    (grows-more (a .n) (a .from .0) (a .count) (a .head) _ (a .reached) _ (p .0) (p .1) out (c .before .before .if2 .left) (a .cuts .now) _ (c .fix-arc .ensures))
 
 pub grow-into-spec : {M : Type 1} → statement M
 grow-into-spec =

@@ -8,7 +8,7 @@ use Rattle.first_tree.proofs.growth.grow_round.Statement.{statement}
 use Rattle.first_tree.proofs.growth.grow_round.Tie as tie
 
 abbrev Inv-loop : tie.InvT-loop
-Inv-loop cuts n from count reached tails₀ parents₀ more₀ head₀ tails parents more head = (head ≤ n) × Grows n from count head n tails₀ tails reached more parents₀ parents
+Inv-loop cuts n from count reached tails₀ parents₀ more₀ head₀ tails parents more head = (head ≤ n) × Grows n (from .0) count head n tails₀ tails reached more parents₀ parents
 
 abbrev μ-loop : tie.MeasureT-loop
 μ-loop cuts n from count reached tails₀ parents₀ more₀ head₀ tails parents more head = head
@@ -30,7 +30,7 @@ loop-again c =
     let l = c .before .before .before .before .loop in
     let a = c .before .before .before .before .before .args in
     let e : suc (l .head - 1) ≡ l .head = omega arith in
-    (omega arith, grows-then (a .n) (a .from) (a .count) (l .head - 1) (l .head) (a .n) _ _ _ _ _ _ _ _ _ (l .inv .1) (rw e at (c .grow-into .ensures)))
+    (omega arith, grows-then (a .n) (a .from .0) (a .count) (l .head - 1) (l .head) (a .n) _ _ _ _ _ _ _ _ _ (l .inv .1) (rw e at (c .grow-into .ensures)))
 
 returns : tie.Need-returns Inv-loop μ-loop
 returns c =

@@ -4,14 +4,14 @@ use Prim.Native.Nat.{_≤_}
 use native.Mathlib.Omega.{arith}
 use Rattle.instance.proofs.SetBits.{one-shifted}
 use Rattle.first_tree.proofs.FixingLaws.{Fixing, fixing-none, fixing-skip, fixing-within, fixed-tails}
-use Rattle.first_tree.proofs.fixed.fix_arc.Statement.{statement}
-use Rattle.first_tree.proofs.fixed.fix_arc.Tie as tie
+use Rattle.first_tree.proofs.fixing.fix_arc.Statement.{statement}
+use Rattle.first_tree.proofs.fixing.fix_arc.Tie as tie
 
 abbrev Inv-loop : tie.InvT-loop
-Inv-loop cuts n from count tail head tails₀ k₀ tails k = (from ≤ k) × (k ≤ count) × Fixing cuts n count tail head tails₀ tails k
+Inv-loop cuts n count tail head tails₀ low k₀ tails k = (low ≤ k) × (k ≤ count) × Fixing cuts n count tail head tails₀ tails k
 
 abbrev μ-loop : tie.MeasureT-loop
-μ-loop cuts n from count tail head tails₀ k₀ tails k = k
+μ-loop cuts n count tail head tails₀ low k₀ tails k = k
 
 loop-holds : tie.Need-loop-holds Inv-loop μ-loop
 loop-holds c = (c .pre .1, omega arith, fixing-none _ _ _ _ _ _ (c .pre .5))
@@ -79,9 +79,9 @@ returns c =
     let l = c .before .loop in
     let a = c .before .before .args in
     let p = c .before .before .pre in
-    let e : l .k ≡ a .from = omega (arith, l .inv .0) in
+    let e : l .k ≡ a .from .0 = omega (arith, l .inv .0) in
     rw (one-shifted (a .tail) (omega (arith, p .0, p .3)))
-    (fixed-tails (a .cuts .now) (a .n) (a .count) (a .tail) (a .head) (a .tails .now) (l .tails) (a .from) (p .0) (p .1) (p .4) (p .6) (rw e at (l .inv .2)))
+    (fixed-tails (a .cuts .now) (a .n) (a .count) (a .tail) (a .head) (a .tails .now) (l .tails) (a .from .0) (p .0) (p .1) (p .4) (p .6) (rw e at (l .inv .2)))
 
 pub fix-arc-spec : {M : Type 1} → statement M
 fix-arc-spec =

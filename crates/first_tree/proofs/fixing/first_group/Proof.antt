@@ -1,8 +1,8 @@
 -- Any place up to the count will do. Assumes nothing.
 use Prim.Native.Nat.{_-_, _≤_}
 use native.Mathlib.Omega.{arith}
-use Rattle.first_tree.proofs.fixed.first_group.Statement.{statement}
-use Rattle.first_tree.proofs.fixed.first_group.Tie as tie
+use Rattle.first_tree.proofs.fixing.first_group.Statement.{statement}
+use Rattle.first_tree.proofs.fixing.first_group.Tie as tie
 
 abbrev Inv-loop : tie.InvT-loop
 Inv-loop cuts count k₀ k = k ≤ count

@@ -10,23 +10,24 @@ ghost use Rattle.first_tree.specs.Tails.{kept-by};
 ghost use Rattle.first_tree.specs.Fixing.{Within, Fixed-tails};
 use checks::sets::is_entering;
 use checks::sets::is_inside;
+use instance::CutIndex;
 use instance::limits::CUT_WORDS;
 use instance::limits::VERTICES;
 
 // The place of the first cut with more than one vertex. Planning charges the single vertices first, and nothing is let
 // go for the cut of one vertex: an arc that enters it has the same head.
-pub fn first_group(cuts: &[u32; CUT_WORDS], count: u32) -> u32
+pub fn first_group(cuts: &[u32; CUT_WORDS], count: u32) -> CutIndex
     requires { ⌜ count ≤ max-cuts ⌝ }
-    ensures { λ r. ⌜ r ≤ count ⌝ }
+    ensures { λ r. ⌜ r .0 ≤ count ⌝ }
 {
     let mut k: u32 = 0;
     while k < count {
         if 1 < u32::count_ones(cuts[(2 * k) as usize]) {
-            return k;
+            return CutIndex(k);
         }
         k += 1;
     }
-    count
+    CutIndex(count)
 }
 
 // Into the vertices of a set no tail is kept that is outside it.
@@ -48,17 +49,18 @@ fn keep_within(n: u32, set: u32, tails: &mut [u32; VERTICES])
 pub fn fix_arc(
     cuts: &[u32; CUT_WORDS], // the cuts
     n: u32, // the number of vertices
-    from: u32, // the cuts from this one on are looked at
+    from: CutIndex, // the cuts from this one on are looked at
     count: u32, // the number of cuts
     tail: u32, // the arc
     head: u32, // into this vertex
     tails: &mut [u32; VERTICES], // the tails that each vertex can have
 )
-    requires { ⌜ (n ≤ max-vertices) × (from ≤ count) × (count ≤ max-cuts) × (tail < n) × (head < n) × (length (now tails) ≡ max-vertices) × (kept-by (now tails) tail head ≡ true) ⌝ }
-    ensures { λ _. ⌜ Fixed-tails (now (cuts .entry)) n from count tail head (now (tails .entry)) (now (tails .exit)) ⌝ }
+    requires { ⌜ (n ≤ max-vertices) × (from .0 ≤ count) × (count ≤ max-cuts) × (tail < n) × (head < n) × (length (now tails) ≡ max-vertices) × (kept-by (now tails) tail head ≡ true) ⌝ }
+    ensures { λ _. ⌜ Fixed-tails (now (cuts .entry)) n (from .0) count tail head (now (tails .entry)) (now (tails .exit)) ⌝ }
 {
+    let low = from.0;
     let mut k = count;
-    while from < k {
+    while low < k {
         k -= 1;
         let set = cuts[(2 * k) as usize];
         if is_entering(set, tail, head) {

@@ -10,8 +10,8 @@ use lib.ListN.{getD}
 use Rattle.base.proofs.OverwriteLaws.{Overwritten, overwrite-none, overwrite-store, overwrite-pass}
 use Rattle.instance.specs.Limits.{max-vertices}
 use Rattle.instance.specs.Cuts.{inside}
-use Rattle.first_tree.proofs.fixed.keep_within.Statement.{statement}
-use Rattle.first_tree.proofs.fixed.keep_within.Tie as tie
+use Rattle.first_tree.proofs.fixing.keep_within.Statement.{statement}
+use Rattle.first_tree.proofs.fixing.keep_within.Tie as tie
 
 abbrev met : (set : ℕ) → List ℕ → ℕ → ℕ
 met set old h = cond (inside set h) (bitAnd (getD old h 0) set) (getD old h 0)
