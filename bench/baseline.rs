@@ -2,7 +2,8 @@
 // and 02 alone. Reads a card on standard input and prints what the planner prints but for the feed lines: this is what
 // is timed, and it does what it did when any cheapest tree could be shown. With the argument `first` it prints the feed
 // lines too, those of the first cheapest tree. With the argument `all` it lists all plans instead, by a recursive walk
-// in place, and prints what print_listing prints.
+// in place, and prints what print_listing prints. With the arguments `prices`, count, root and budget it reads a price
+// list instead and writes its card, as print_card does, or the line of its refusal on standard error.
 use std::io::{Read, Write};
 
 const NONE: u32 = 1_048_575;
@@ -368,9 +369,89 @@ fn listing(card: &[u8]) -> String {
     out
 }
 
+// A number, capped, and the separator behind it.
+fn number(list: &[u8], at: &mut usize, separator: u8) -> Option<u32> {
+    let start = *at;
+    let mut value = 0u32;
+    while let Some(digit) = list.get(*at).filter(|b| b.is_ascii_digit()) {
+        value = (10 * value + u32::from(digit - b'0')).min(100_000_000);
+        *at += 1;
+    }
+    let needless = *at > start + 1 && list[start] == b'0';
+    if *at == start || needless || list.get(*at) != Some(&separator) {
+        return None;
+    }
+    *at += 1;
+    Some(value)
+}
+
+// The prices of a list, or its refusal and the faulty line.
+fn read_prices(list: &[u8], n: usize, root: usize) -> Result<Rows, (u32, usize)> {
+    let mut rows = [[NONE; 32]; 32];
+    let (mut at, mut line) = (0, 0);
+    while at < list.len() {
+        line += 1;
+        let mut field = |separator| number(list, &mut at, separator).ok_or((16, line));
+        let (tail, head, price) = (field(b' ')? as usize, field(b' ')? as usize, field(b'\n')?);
+        let answer = match () {
+            _ if tail >= n || head >= n => 17,
+            _ if tail == head || head == root => 18,
+            _ if price >= NONE => 19,
+            _ if rows[head][tail] != NONE => 20,
+            _ => 0,
+        };
+        if answer != 0 {
+            return Err((answer, line));
+        }
+        rows[head][tail] = price;
+    }
+    Ok(rows)
+}
+
+// The bits of a card, the first of a number first.
+fn put(bits: &mut Vec<bool>, width: u32, value: u32) {
+    bits.extend((0..width).rev().map(|k| value >> k & 1 == 1));
+}
+
+fn card(list: &[u8], n: usize, root: usize, budget: u32) -> Result<Vec<u8>, (u32, usize)> {
+    if n == 0 || n > 32 {
+        return Err((2, 0));
+    }
+    if root >= n {
+        return Err((4, 0));
+    }
+    if budget > MAX_BUDGET {
+        return Err((5, 0));
+    }
+    let rows = read_prices(list, n, root)?;
+    let mut bits = Vec::new();
+    put(&mut bits, 6, n as u32);
+    put(&mut bits, 5, root as u32);
+    put(&mut bits, 25, budget);
+    for tail in 0..n {
+        for head in (0..n).filter(|&h| h != tail && h != root) {
+            put(&mut bits, 20, rows[head][tail]);
+            put(&mut bits, 2, 0);
+        }
+    }
+    Ok(bits.chunks(8).map(|c| c.iter().enumerate().fold(0, |b, (k, &x)| b | u8::from(x) << (7 - k))).collect())
+}
+
+fn print_card(list: &[u8], numbers: &[u32]) {
+    match card(list, numbers[0] as usize, numbers[1] as usize, numbers[2]) {
+        Ok(bytes) => std::io::stdout().write_all(&bytes).expect("standard output"),
+        Err((answer, 0)) => eprintln!("refused {answer}"),
+        Err((answer, line)) => eprintln!("refused {answer} line {line}"),
+    }
+}
+
 fn main() {
     let mut card = Vec::new();
-    std::io::stdin().read_to_end(&mut card).expect("a card on standard input");
+    std::io::stdin().read_to_end(&mut card).expect("a card or a list on standard input");
+    if std::env::args().nth(1).as_deref() == Some("prices") {
+        let numbers: Vec<u32> = std::env::args().skip(2).map(|w| w.parse().expect("a number")).collect();
+        return print_card(&card, &numbers);
+    }
     let printed = match std::env::args().nth(1).as_deref() {
         Some("all") => listing(&card),
         Some("first") => text(&card, true),

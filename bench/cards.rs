@@ -38,6 +38,14 @@ impl Instance {
         Instance { n, root, budget: MAX_BUDGET, weight: vec![NONE; n * n], mark: vec![0; n * n] }
     }
 
+    // The first lines of its price list, in written order.
+    pub fn prices(&self, lines: usize) -> String {
+        let places = (0..self.n).flat_map(|tail| (0..self.n).map(move |head| (tail, head)));
+        let priced = places.map(|(tail, head)| (tail, head, self.weight[tail * self.n + head]));
+        let arcs = priced.filter(|&(tail, head, price)| tail != head && head != self.root && price != NONE);
+        arcs.take(lines).map(|(tail, head, price)| format!("{tail} {head} {price}\n")).collect()
+    }
+
     fn fill(mut self, mut weight: impl FnMut(usize, usize) -> u32) -> Instance {
         for t in 0..self.n {
             for h in 0..self.n {

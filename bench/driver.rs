@@ -1,9 +1,10 @@
 // Runs the planner's print_plan and the baseline on the same cards (cards.rs) in turn, checks that they print the same
-// text, and prints times and ratios; the same for print_listing. With `against BEFORE`, a print_plan of another commit,
-// it compares print_plan with that and does nothing else. Arguments: PRINT_PLAN PRINT_LISTING BASELINE [against BEFORE]
-// [valgrind]. A time is that of a whole process, its start included (but for those of an answer and of a listing): the
-// least of several runs, since other processes only add to it. Under valgrind it also prints what no clock shows:
-// plannings, the deepest stack, and the instructions of the planning process after its start.
+// text, and prints times and ratios; the same for print_listing, and for print_card on price lists. With `against
+// BEFORE`, a print_plan of another commit, it compares print_plan with that and does nothing else; with `prices` it
+// does the price lists and nothing else. Arguments: PRINT_PLAN PRINT_LISTING PRINT_CARD PRINT_PRICES BASELINE [prices |
+// against BEFORE] [valgrind]. A time is that of a whole process, its start included (but for those of an answer, of a
+// listing and of a price list): the least of several runs, since other processes only add to it. Under valgrind it also
+// prints what no clock shows: plannings, the deepest stack, and the instructions of a process after its start.
 mod cards;
 
 use cards::{FAMILIES, FURTHER, Family, Instance, MAX_BUDGET, MAX_WEIGHT, NONE, Random, dense, equal, nested, sparse};
@@ -35,8 +36,10 @@ fn run(program: &str, card: &str) -> String {
 }
 
 fn time(program: &str, card: &str) -> f64 {
+    let mut run = command(program);
+    run.stdin(File::open(card).unwrap()).stdout(Stdio::null()).stderr(Stdio::null());
     let start = Instant::now();
-    let status = command(program).stdin(File::open(card).unwrap()).stdout(Stdio::null()).status().expect(program);
+    let status = run.status().expect(program);
     assert!(status.success());
     start.elapsed().as_secs_f64() * 1000.0
 }
@@ -54,7 +57,7 @@ fn cheapest(text: &str) -> Option<u32> {
 fn valgrind(tool: &[&str], program: &str, card: &str) {
     Command::new("valgrind")
         .args(tool)
-        .arg(program)
+        .args(program.split(' '))
         .stdin(File::open(card).unwrap())
         .stdout(Stdio::null())
         .stderr(Stdio::null())
@@ -286,9 +289,9 @@ fn opening(ours: &str, deep: bool, r: &mut Random) {
 
 // The least of several runs of each program on two cards, with the first card's times taken off the second's: all four
 // in turn, so that a slow spell of the machine spoils none alone.
-fn times_after(base: &str, ours: &str, start: &str, card: &str) -> (f64, f64) {
+fn times_after(runs: usize, base: &str, ours: &str, start: &str, card: &str) -> (f64, f64) {
     let mut least = [f64::MAX; 4];
-    for _ in 0..15 {
+    for _ in 0..runs {
         for (k, &(program, card)) in [(base, start), (ours, start), (base, card), (ours, card)].iter().enumerate() {
             least[k] = least[k].min(time(program, card));
         }
@@ -305,7 +308,7 @@ fn listing_row(ours: &str, base: &str, deep: bool, instance: &Instance) -> Strin
     let text = run(ours, CARD);
     assert_eq!(text, run(base, CARD));
     let words: Vec<&str> = text.lines().nth(1).unwrap().split(' ').collect();
-    let (p, q) = times_after(base, ours, &start, CARD);
+    let (p, q) = times_after(15, base, ours, &start, CARD);
     let ratio = if p < 0.2 { "-".to_string() } else { format!("{:.2}", q / p) };
     let line = format!("{:<8} {:>5} {:>8} {p:>12.2} {q:>17.2} {ratio:>6}", words[0], words[2], words[4]);
     if deep { format!("{line} {:>12}", peak_stack(ours, CARD)) } else { line }
@@ -328,6 +331,59 @@ fn listings(ours: &str, base: &str, deep: bool, r: &mut Random) {
     }
     for n in [8, 16, 32] {
         println!("{:<8} {:<10} {n:>2} {}", "dense", "unlimited", listing_row(ours, &walks, deep, &dense(r, n)));
+    }
+}
+
+// What a program writes and what it says on standard error.
+fn outputs(program: &str, list: &str) -> (Vec<u8>, String) {
+    let out = command(program).stdin(File::open(list).unwrap()).output().expect(program);
+    (out.stdout, String::from_utf8(out.stderr).unwrap())
+}
+
+// One line of the price lists' table. From times and instructions those of the empty list are taken off, of a refused
+// list those of an empty line, which is refused at once; where hardly any time is left, a ratio would say nothing.
+// `said` is what print_card says on standard error; the baseline says the same but of a line that is too long, which it
+// reads to its end.
+fn price_row(ours: &str, base: &str, deep: bool, list: &str, said: &str) -> String {
+    let start = format!("{CARD}0");
+    fs::write(&start, if said.is_empty() { "" } else { "\n" }).unwrap();
+    fs::write(CARD, list).unwrap();
+    let (card, words) = outputs(ours, CARD);
+    assert_eq!(words, said);
+    let (other, same) = outputs(base, CARD);
+    assert!(other == card && (same == said || said.starts_with("refused long")));
+    let (p, q) = times_after(200, base, ours, &start, CARD);
+    let lines = list.bytes().filter(|&b| b == b'\n').count();
+    let ratio = if p < 0.02 { "-".to_string() } else { format!("{:.2}", q / p) };
+    let line = format!("{lines:>7} {:>9} {p:>12.3} {q:>14.3} {ratio:>6}", list.len());
+    if !deep {
+        return line;
+    }
+    let [p, q] = [base, ours].map(|program| count(program, CARD).1 - count(program, &start).1);
+    format!("{line} {p:>13} {q:>11} {:>6.2} {:>12}", q as f64 / p as f64, peak_stack(ours, CARD))
+}
+
+// Price lists of 32 positions into cards: lists of several lengths, a text of 100,000 lines, of which the first 961 are
+// a list and all others name a link again, and a price of 1,000,000 digits. Under valgrind also the deepest stack of
+// print_prices, at the longest card.
+fn price_lists(ours: &str, back: &str, base: &str, deep: bool, r: &mut Random) {
+    let (ours, base) = (format!("{ours} 32 0 {MAX_BUDGET}"), format!("{base} prices 32 0 {MAX_BUDGET}"));
+    let mut s = dense(r, 32);
+    s.root = 0;
+    s.weight.iter_mut().for_each(|w| *w = (*w).min(MAX_WEIGHT));
+    let more = if deep { "  instructions: baseline, ours, ratio  stack bytes" } else { "" };
+    println!("price list            lines     bytes  baseline ms  print_card ms  ratio{more}");
+    for lines in [100, 200, 400, 961] {
+        println!("{:<18} {}", "accepted", price_row(&ours, &base, deep, &s.prices(lines), ""));
+    }
+    let whole = s.prices(961);
+    let many: String = whole.lines().cycle().take(100_000).map(|l| format!("{l}\n")).collect();
+    println!("{:<18} {}", "100,000 lines", price_row(&ours, &base, deep, &many, "refused 20 line 962\n"));
+    let long = format!("0 1 {}\n", "7".repeat(1_000_000));
+    println!("{:<18} {}", "1,000,000 digits", price_row(&ours, &base, deep, &long, "refused long line 1\n"));
+    if deep {
+        fs::write(CARD, s.history_card()).unwrap();
+        println!("print_prices, the longest card: stack {} bytes", peak_stack(back, CARD));
     }
 }
 
@@ -421,11 +477,13 @@ fn table(ours: &str, base: &str, deep: bool, r: &mut Random) {
 
 fn main() {
     let args: Vec<String> = std::env::args().collect();
-    let (ours, listing, base) = (&args[1], &args[2], &args[3]);
+    let [ours, listing, card, prices, base] = &args[1..6] else { panic!("five programs") };
     let deep = args.last().is_some_and(|a| a == "valgrind");
     fs::create_dir_all("target/bench").unwrap();
-    if args.get(4).is_some_and(|a| a == "against") {
-        return against(&args[5], ours, base, deep);
+    match args.get(6).map(String::as_str) {
+        Some("against") => return against(&args[7], ours, base, deep),
+        Some("prices") => return price_lists(card, prices, base, deep, &mut Random::seeded()),
+        _ => {}
     }
     let mut random = Random::seeded();
     table(ours, base, deep, &mut random);
@@ -433,4 +491,5 @@ fn main() {
     opening(ours, deep, &mut random);
     // a seed of its own: an opening draws more under valgrind
     listings(listing, base, deep, &mut Random::seeded());
+    price_lists(card, prices, base, deep, &mut Random::seeded());
 }

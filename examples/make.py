@@ -1,5 +1,5 @@
 #!/usr/bin/env python3
-"""Writes the example cards of this folder, always the same bytes. README.md says what each card is."""
+"""Writes the example cards and price lists of this folder, always the same bytes. README.md says what each is."""
 import os
 import random
 
@@ -87,8 +87,13 @@ def heads():
     return weights
 
 
-def write(name, data):
-    with open(os.path.join(os.path.dirname(os.path.abspath(__file__)), name + ".card"), "wb") as file:
+def prices(weights, arcs):
+    """The price list: a line for each arc, in the order of `arcs`."""
+    return "".join(f"{tail} {head} {weights[tail, head]}\n" for tail, head in arcs).encode()
+
+
+def write(name, data, kind=".card"):
+    with open(os.path.join(os.path.dirname(os.path.abspath(__file__)), name + kind), "wb") as file:
         file.write(data)
 
 
@@ -109,3 +114,7 @@ presses = [link(2, 1, FREE), old_budget(20), group(0, {1: FREE, 3: FREE})]
 write("presses", history_card(4, 0, 16, Q, {(2, 1): PINNED, (0, 1): BANNED, (0, 3): BANNED}, presses))
 presses = [group(0, dict.fromkeys(range(1, 32), mark)) for mark in (FREE, BANNED)] * 100
 write("longest", history_card(32, 0, MAX_BUDGET, dearest, {}, presses))
+
+write("q", prices(Q, sorted(Q)), ".prices")
+write("q-any-order", prices(Q, sorted(Q, key=lambda arc: (arc[1], -arc[0]))), ".prices")
+write("hall", prices(hall(), sorted(hall())), ".prices")

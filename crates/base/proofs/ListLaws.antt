@@ -48,6 +48,10 @@ pub tabulate-is : (k : ℕ) (l : List ℕ) (g : ℕ → ℕ) (d : ℕ) → lengt
 tabulate-is k l g d n h =
     ext-getD d l (tabulate k g) (n ∙ sym (length-tabulate k g)) (λ i lt. let b : i < k = omega arith in h i b ∙ sym (getD-tabulate k g i d b))
 
+-- lists made by index that agree are equal
+pub tabulate-same : (k : ℕ) (f g : ℕ → ℕ) → ((i : ℕ) → i < k → f i ≡ g i) → tabulate k f ≡ tabulate k g
+tabulate-same k f g h = tabulate-is k (tabulate k f) g 0 (length-tabulate k f) (λ i l. getD-tabulate k f i 0 l ∙ h i l)
+
 pub tabulate-none : (l : List ℕ) (g : ℕ → ℕ) → take 0 l ≡ tabulate 0 g
 unfolding tabulate tabulate-from
 tabulate-none l g = refl

@@ -35,6 +35,11 @@ use Rattle.command_list.proofs.ListNumberLaws.{list-listed}
 use Rattle.command_list.proofs.ListCalled.{List-called, list-called}
 use Rattle.history_format.specs.HistoryCard.{open-refusal, history-model, to-plain-refusal, history-card-of}
 use Rattle.history_format.proofs.HistoryNumbers.{history-numbers, to-plain-numbers, to-plain-listed}
+use Rattle.price_format.specs.Reading.{read-list, room-refusal, read-numbers}
+use Rattle.price_format.specs.Writing.{write-refusal, write-numbers}
+use Rattle.price_list.specs.declared.read.PricesRead.{PricesRead}
+use Rattle.price_list.specs.declared.write.ListWritten.{ListWritten}
+use Rattle.price_list.proofs.Learnt.{Prices-read, prices-read, Prices-written, prices-written}
 use Rattle.report_text.specs.Whole.{max-text}
 use Rattle.report.specs.declared.Reported.{Reported}
 use Rattle.report.specs.Reports.{Reports}
@@ -49,6 +54,7 @@ use Rattle.planner.proofs.WritingLaws.{board-refusal, write-cases, history-writ
 use Rattle.planner.proofs.MovingLaws.{to-history-cases, to-plain-cases}
 use Rattle.planner.proofs.OpeningLaws.{opened-answer, opened-starts}
 use Rattle.demands.proofs.CallNumbers.{card-numbers, open-numbers, buffer-numbers, check-numbers, enumerate-numbers, among, Reports-before, card-among, open-among, zero-among, opened-as-before, looks-at-among, looks-at-as-before, looks-at-valid, stores-among, stores-as-before, stores-passed, board-passed, board-among, check-among, check-valid, enumerate-among, enumerate-before, enumerate-valid, reports-among, reports-before, reports-opened, replays-among, replays-as-before, replays-opened}
+use Rattle.demands.proofs.PriceNumbers.{read-among, read-before, read-passed, write-among, write-before, write-passed}
 use Rattle.demands.proofs.Runs.{list-called-singly}
 
 -- AN ANSWER that some public call gave
@@ -63,6 +69,8 @@ pub data Given : ℕ → Type 0 where
   by-to-plain : {ws out out′ : List ℕ} {r : Written} → Moved-to-plain ws out out′ r → Given (r .answer)
   by-checking : {b : Board} {ps ps′ : List ℕ} {v k : ℕ} {ws ws′ : List ℕ} {r : ℕ} → Checked b ps ps′ v k ws ws′ r → Given r
   by-enumerating : {b : Board} {limit : ℕ} {out out′ : List ℕ} {r : Listing} → Enumerated b limit out out′ r → Given (list-answer r)
+  by-reading-prices : {t : List ℕ} {n root : ℕ} {ps ps′ : List ℕ} {r : PricesRead} → Prices-read t n root ps ps′ r → Given (r .answer)
+  by-writing-prices : {ps : List ℕ} {n root : ℕ} {out out′ : List ℕ} {r : ListWritten} → Prices-written ps n root out out′ r → Given (r .answer)
   by-reporting : {ws : List ℕ} {r : Reported} {out out′ : List ℕ} → Reported-by ws out out′ r → Given (r .answer)
   by-replaying : {ws ks fs gs : List ℕ} {v : View} {xs xs′ : List ℕ} {old new : Buffers} → Replayed ws ks fs gs xs xs′ old new v → Given (answer-of v)
 
@@ -78,6 +86,8 @@ numbers (by-to-history p) = buffer-short ∷ card-numbers
 numbers (by-to-plain p) = buffer-short ∷ to-plain-numbers
 numbers (by-checking p) = check-numbers
 numbers (by-enumerating p) = enumerate-numbers
+numbers (by-reading-prices p) = read-numbers
+numbers (by-writing-prices p) = write-numbers
 numbers (by-reporting {ws = ws} p) = buffer-short ∷ open-numbers ws
 numbers (by-replaying {ws = ws} p) = buffer-short ∷ open-numbers ws
 
@@ -100,10 +110,13 @@ As-before (by-to-history {out = out} {out′ = out′} p) = out′ ≡ out
 As-before (by-to-plain {out = out} {out′ = out′} p) = out′ ≡ out
 As-before (by-checking {ps = ps} {ps′ = ps′} {ws = ws} {ws′ = ws′} p) = (ps′ ≡ ps) × (ws′ ≡ ws)
 As-before (by-enumerating {out = out} {out′ = out′} p) = out′ ≡ out
+As-before (by-reading-prices {ps = ps} {ps′ = ps′} p) = ps′ ≡ ps
+As-before (by-writing-prices {out = out} {out′ = out′} p) = out′ ≡ out
 As-before (by-reporting {r = r} {out = out} {out′ = out′} p) = Reports-before out out′ r
 As-before (by-replaying {xs = xs} {xs′ = xs′} {old = old} {new = new} p) = (xs′ ≡ xs) × (new ≡ old)
 
--- what an accepted call leaves or was asked of: a valid board, or a card that is not refused
+-- what an accepted call leaves or was asked of: a valid board, a card that is not refused, a list without a fault and
+-- room for its prices, or prices that can be written and room for them
 abbrev pub Leaves-valid : {a : ℕ} → Given a → Type 0
 Leaves-valid (by-opening {o = o} p) = valid (model-of (o .board)) ≡ true
 Leaves-valid (by-command {r = r} p) = valid (model-of (r .board)) ≡ true
@@ -115,6 +128,8 @@ Leaves-valid (by-to-history {ws = ws} p) = card-refusal ws ≡ 0
 Leaves-valid (by-to-plain {ws = ws} p) = to-plain-refusal ws ≡ 0
 Leaves-valid (by-checking {b = b} p) = valid (model-of b) ≡ true
 Leaves-valid (by-enumerating {b = b} p) = valid (model-of b) ≡ true
+Leaves-valid (by-reading-prices {t = t} {n = n} {root = root} {ps = ps} p) = (room-refusal n root (length ps) ≡ 0) × (read-list n root t .answer ≡ 0)
+Leaves-valid (by-writing-prices {ps = ps} {n = n} {root = root} {out = out} p) = write-refusal n root ps (length out) ≡ 0
 Leaves-valid (by-reporting {ws = ws} p) = open-refusal ws ≡ 0
 Leaves-valid (by-replaying {ws = ws} p) = open-refusal ws ≡ 0
 
@@ -210,6 +225,20 @@ demand-1 (by-enumerating {b = b} {limit = limit} {out = out} {out′ = out′} {
       own-number = enumerate-among b limit out out′ r x;
       as-before = enumerate-before b limit out out′ r x;
       leaves-valid = enumerate-valid b limit out out′ r x;
+    }
+demand-1 (by-reading-prices {t = t} {n = n} {root = root} {ps = ps} {ps′ = ps′} {r = r} p) =
+    let x = prices-read p in
+    record {
+      own-number = read-among t n root ps ps′ r x;
+      as-before = read-before t n root ps ps′ r x;
+      leaves-valid = read-passed t n root ps ps′ r x;
+    }
+demand-1 (by-writing-prices {ps = ps} {n = n} {root = root} {out = out} {out′ = out′} {r = r} p) =
+    let x = prices-written p in
+    record {
+      own-number = write-among ps n root out out′ r x;
+      as-before = write-before ps n root out out′ r x;
+      leaves-valid = write-passed ps n root out out′ r x;
     }
 demand-1 (by-reporting {ws = ws} {r = r} {out = out} {out′ = out′} p) =
     let x = reported-by p in

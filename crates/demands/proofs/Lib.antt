@@ -1,6 +1,7 @@
 -- The demands, and what else is said of the public calls together. Assumes nothing.
 pub mod Runs
 pub mod CallNumbers
+pub mod PriceNumbers
 pub mod DemandOne
 pub mod DemandTwo
 pub mod DemandThree
@@ -13,3 +14,4 @@ pub mod CommandLists
 pub mod PlansElsewhere
 pub mod AllPlans
 pub mod OnePlan
+pub mod PriceTrips

@@ -9,7 +9,7 @@ abbrev pub card-short : ℕ
 card-short = 1
 
 -- "positions field 0 or 33 to 63"; 02, A8: "An old console refuses every new card by 2", "A move handed the other kind
--- is 2"
+-- is 2"; A3: "2 and 4 for a bad count or root"
 abbrev pub bad-count : ℕ
 bad-count = 2
 
@@ -18,7 +18,7 @@ bad-count = 2
 abbrev pub bad-length : ℕ
 bad-length = 3
 
--- "root not below positions"
+-- "root not below positions"; 02, A3: "2 and 4 for a bad count or root"
 abbrev pub bad-root : ℕ
 bad-root = 4
 
@@ -70,6 +70,30 @@ buffer-short = 14
 -- naming a non-link, or nothing, is damage (15)"
 abbrev pub invalid-board : ℕ
 invalid-board = 15
+
+-- price lists as text (02, A3), beside 2, 4 and 14: a refused list "leaves the buffer untouched"; "by the first faulty
+-- line, in this order within it"
+
+-- "its shape"
+abbrev pub bad-line : ℕ
+bad-line = 16
+
+-- "a position not below the count"
+abbrev pub line-no-vertex : ℕ
+line-no-vertex = 17
+
+-- "feeder = fed or fed = root"
+abbrev pub line-no-arc : ℕ
+line-no-arc = 18
+
+-- "a price above the limit"; the writer: "a cell not passed over that is neither a price nor no link"; A9: "19 .. use
+-- the new limits"
+abbrev pub weight-too-high : ℕ
+weight-too-high = 19
+
+-- "a link named before"
+abbrev pub named-before : ℕ
+named-before = 20
 
 -- a plan made elsewhere that is refused with one of these (02, A6): "in order 15, 14, 21 .. 25"
 

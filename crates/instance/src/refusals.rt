@@ -47,6 +47,21 @@ pub const BUFFER_SHORT: u32 = 14;
 // a record naming no link or restoring a value out of range; a group record naming a non-link, or nothing.
 pub const INVALID_BOARD: u32 = 15;
 
+// 16: a line of a price list has not its shape.
+pub const BAD_LINE: u32 = 16;
+
+// 17: a line names a position not below the count.
+pub const LINE_NO_VERTEX: u32 = 17;
+
+// 18: a line's feeder is its fed position, or its fed position is the root.
+pub const LINE_NO_ARC: u32 = 18;
+
+// 19: a line's price is above MAX_WEIGHT; of prices to be written, one that is neither a price nor NO_ARC.
+pub const WEIGHT_TOO_HIGH: u32 = 19;
+
+// 20: a line names a link that an earlier line named.
+pub const NAMED_BEFORE: u32 = 20;
+
 // 21: a plan made elsewhere is not a feed tree.
 pub const NOT_ARBORESCENCE: u32 = 21;
 

@@ -1,4 +1,6 @@
 // Numbers in decimal.
+ghost use mathlib.Core.Path.{_≡_};
+ghost use lib.ListN.{length};
 ghost use Rattle.text.specs.Buffer.{Room, Puts};
 ghost use Rattle.text.specs.Decimal.{decimal};
 
@@ -14,4 +16,17 @@ pub fn put_decimal(v: u32, out: &mut [u8], at: usize) -> usize
     let last = put_decimal(v / 10, out, at);
     out[last] = b'0' + (v % 10) as u8;
     last + 1
+}
+
+// How many digits a number has, for a caller that measures before it writes.
+pub fn decimal_length(v: u32) -> usize
+    ensures { λ r. ⌜ r ≡ length (decimal v) ⌝ }
+{
+    let mut digits = 1;
+    let mut rest = v;
+    while 10 <= rest {
+        rest /= 10;
+        digits += 1;
+    }
+    digits
 }

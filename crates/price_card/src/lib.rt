@@ -1,0 +1,17 @@
+// Between price lists and cards: the card of a list with the count of positions, the root and the budget, and the list
+// of a card. Neither call requires anything of its caller.
+pub mod to_card; // to_card.rt: the card of a price list
+pub mod from_card; // from_card.rt: the price list of a card
+
+pub use card::MAX_CARD;
+pub use from_card::CardPrices;
+pub use from_card::CardWeights;
+pub use from_card::list_weights;
+pub use from_card::prices_from_card;
+pub use from_card::weights_on_card;
+pub use to_card::CardMade;
+pub use to_card::card_from_prices;
+
+// A price list has at most 961 lines, of at most 14 bytes: two positions of two digits, a price of seven, two spaces
+// and a line feed.
+pub const MAX_LIST: usize = 13_454;

@@ -1,0 +1,3 @@
+-- Laws of judging an input.
+pub mod JudgeLaws
+pub mod PartLaws

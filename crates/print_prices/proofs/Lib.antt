@@ -1,0 +1,2 @@
+-- What the program knows of the lines that it prints.
+pub mod LineLaws
