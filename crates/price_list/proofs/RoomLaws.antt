@@ -1,28 +1,25 @@
 -- What is known once the count, the root and the room are judged. Assumes nothing.
 use mathlib.Core.Path.{_≡_, refl}
 use mathlib.Core.Bool.{Bool, true, false, _||_, cond}
-use Prim.Native.Nat.{ℕ, _*_, _≤_, _<_}
+use Prim.Native.Nat.{ℕ, _*_, _≤_}
 use native.Mathlib.Omega.{arith}
-use lib.Dec.{ltb, leb, eqb}
-use borrow.Author.Tests.{ltb-false, le-ltb, leb-false, eqb-false, eqb-true, eq-eqb}
+use lib.Dec.{ltb, eqb}
+use borrow.Author.Tests.{ltb-false, le-ltb, eqb-false, eqb-true, eq-eqb}
 use Rattle.base.proofs.BoolLaws.{passed, or-false-left, or-false-right}
 use Rattle.instance.specs.Limits.{max-vertices}
 use Rattle.instance.specs.Refusals.{buffer-short}
 use Rattle.price_format.specs.Reading.{count-refusal, room-refusal}
 
 module _ (n r : ℕ) (e : count-refusal n r ≡ 0) where
-  count : (eqb n 0 || ltb max-vertices n ≡ false) × (_≡_ {A = ℕ} (cond (leb n r) 4 0) 0)
+  in-range : eqb n 0 || ltb max-vertices n ≡ false
   unfolding count-refusal
-  count = passed (eqb n 0 || ltb max-vertices n) 1 _ e
+  in-range = passed (eqb n 0 || ltb max-vertices n) 1 _ e .0
 
   pub count-small : n ≤ max-vertices
-  count-small = ltb-false max-vertices n (or-false-right (eqb n 0) (ltb max-vertices n) (count .0))
+  count-small = ltb-false max-vertices n (or-false-right (eqb n 0) (ltb max-vertices n) in-range)
 
   pub count-some : 1 ≤ n
-  count-some = let z = eqb-false n 0 (or-false-left (eqb n 0) (ltb max-vertices n) (count .0)) in omega (arith, z)
-
-  pub count-root : r < n
-  count-root = leb-false n r (passed (leb n r) 3 0 (count .1) .0)
+  count-some = let z = eqb-false n 0 (or-false-left (eqb n 0) (ltb max-vertices n) in-range) in omega (arith, z)
 
 module _ (n r k : ℕ) (e : room-refusal n r k ≡ 0) where
   pub room-count : count-refusal n r ≡ 0

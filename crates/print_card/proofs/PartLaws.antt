@@ -160,8 +160,8 @@ module _ (n r : ℕ) (small : n ≤ max-vertices) (front rest : List ℕ) (e : E
         counted = f .counted;
       }
 
-  part-refused : (read-list n r front .answer ≡ 0 → ⊥) → read-list n r (front ++ rest) ≡ read-list n r front
-  part-refused z = by (read-list n r front) (list-reads n r small front) z
+  lines-decide : (read-list n r front .answer ≡ 0 → ⊥) → read-list n r (front ++ rest) ≡ read-list n r front
+  lines-decide z = by (read-list n r front) (list-reads n r small front) z
     where
       by : (x : ListRead) → List-reads n r front x → (x .answer ≡ 0 → ⊥) → read-list n r (front ++ rest) ≡ x
       by x (accepted s q) z = absurd (z refl)
@@ -197,4 +197,4 @@ part-decides n r t more small h z =
     let some : 0 < length p = not-empty n r p y in
     let e : Ends p = record { some = some; last = getD-take k t (length p - 1) 0 (omega arith) ∙ rw l (end-feed (length t) t (omega arith)) } in
     let whole : t ++ more ≡ p ++ (drop k t ++ more) = ap (λ (x : List ℕ). x ++ more) (sym (take-append-drop k t)) ∙ append-assoc p (drop k t) more in
-    ap (read-list n r) whole ∙ part-refused n r small p (drop k t ++ more) e y ∙ ap (read-list n r) (sym q)
+    ap (read-list n r) whole ∙ lines-decide n r small p (drop k t ++ more) e y ∙ ap (read-list n r) (sym q)
