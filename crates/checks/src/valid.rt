@@ -15,7 +15,8 @@ use instance::limits::MAX_VERTICES;
 use instance::limits::MAX_WEIGHT;
 use instance::limits::NO_ARC;
 
-fn cell_ok(weight: u32, mark: u8) -> bool
+// A weight and a mark that a cell may hold.
+pub fn cell_ok(weight: u32, mark: u8) -> bool
     ensures { λ r. ⌜ r ≡ cell-ok weight mark ⌝ }
 {
     if weight <= MAX_WEIGHT {

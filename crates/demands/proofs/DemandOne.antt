@@ -40,6 +40,11 @@ use Rattle.price_format.specs.Writing.{write-refusal, write-numbers}
 use Rattle.price_list.specs.declared.read.PricesRead.{PricesRead}
 use Rattle.price_list.specs.declared.write.ListWritten.{ListWritten}
 use Rattle.price_list.proofs.Learnt.{Prices-read, prices-read, Prices-written, prices-written}
+use Rattle.spanning.specs.Graph.{graph-of}
+use Rattle.spanning.specs.Refusal.{call-refusal, call-numbers}
+use Rattle.runs.specs.declared.planning.RunsView.{RunsView}
+use Rattle.runs.specs.Planning.{view-number}
+use Rattle.runs.proofs.Learnt.{Runs-planned, runs-planned}
 use Rattle.report_text.specs.Whole.{max-text}
 use Rattle.report.specs.declared.Reported.{Reported}
 use Rattle.report.specs.Reports.{Reports}
@@ -55,6 +60,7 @@ use Rattle.planner.proofs.MovingLaws.{to-history-cases, to-plain-cases}
 use Rattle.planner.proofs.OpeningLaws.{opened-answer, opened-starts}
 use Rattle.demands.proofs.CallNumbers.{card-numbers, open-numbers, buffer-numbers, check-numbers, enumerate-numbers, among, Reports-before, card-among, open-among, zero-among, opened-as-before, looks-at-among, looks-at-as-before, looks-at-valid, stores-among, stores-as-before, stores-passed, board-passed, board-among, check-among, check-valid, enumerate-among, enumerate-before, enumerate-valid, reports-among, reports-before, reports-opened, replays-among, replays-as-before, replays-opened}
 use Rattle.demands.proofs.PriceNumbers.{read-among, read-before, read-passed, write-among, write-before, write-passed}
+use Rattle.demands.proofs.PassiveNumbers.{runs-among, runs-before, runs-passed}
 use Rattle.demands.proofs.Runs.{list-called-singly}
 
 -- AN ANSWER that some public call gave
@@ -71,6 +77,7 @@ pub data Given : ℕ → Type 0 where
   by-enumerating : {b : Board} {limit : ℕ} {out out′ : List ℕ} {r : Listing} → Enumerated b limit out out′ r → Given (list-answer r)
   by-reading-prices : {t : List ℕ} {n root : ℕ} {ps ps′ : List ℕ} {r : PricesRead} → Prices-read t n root ps ps′ r → Given (r .answer)
   by-writing-prices : {ps : List ℕ} {n root : ℕ} {out out′ : List ℕ} {r : ListWritten} → Prices-written ps n root out out′ r → Given (r .answer)
+  by-planning-runs : {ps ms : List ℕ} {n budget : ℕ} {ss ss′ cs cs′ : List ℕ} {r : RunsView} → Runs-planned ps ms n budget ss ss′ cs cs′ r → Given (view-number r)
   by-reporting : {ws : List ℕ} {r : Reported} {out out′ : List ℕ} → Reported-by ws out out′ r → Given (r .answer)
   by-replaying : {ws ks fs gs : List ℕ} {v : View} {xs xs′ : List ℕ} {old new : Buffers} → Replayed ws ks fs gs xs xs′ old new v → Given (answer-of v)
 
@@ -88,6 +95,7 @@ numbers (by-checking p) = check-numbers
 numbers (by-enumerating p) = enumerate-numbers
 numbers (by-reading-prices p) = read-numbers
 numbers (by-writing-prices p) = write-numbers
+numbers (by-planning-runs p) = call-numbers
 numbers (by-reporting {ws = ws} p) = buffer-short ∷ open-numbers ws
 numbers (by-replaying {ws = ws} p) = buffer-short ∷ open-numbers ws
 
@@ -112,11 +120,13 @@ As-before (by-checking {ps = ps} {ps′ = ps′} {ws = ws} {ws′ = ws′} p) = 
 As-before (by-enumerating {out = out} {out′ = out′} p) = out′ ≡ out
 As-before (by-reading-prices {ps = ps} {ps′ = ps′} p) = ps′ ≡ ps
 As-before (by-writing-prices {out = out} {out′ = out′} p) = out′ ≡ out
+As-before (by-planning-runs {ss = ss} {ss′ = ss′} {cs = cs} {cs′ = cs′} p) = (ss′ ≡ ss) × (cs′ ≡ cs)
 As-before (by-reporting {r = r} {out = out} {out′ = out′} p) = Reports-before out out′ r
 As-before (by-replaying {xs = xs} {xs′ = xs′} {old = old} {new = new} p) = (xs′ ≡ xs) × (new ≡ old)
 
 -- what an accepted call leaves or was asked of: a valid board, a card that is not refused, a list without a fault and
--- room for its prices, or prices that can be written and room for them
+-- room for its prices, prices that can be written and room for them, or a graph without a fault and room for its states
+-- and replacement costs
 abbrev pub Leaves-valid : {a : ℕ} → Given a → Type 0
 Leaves-valid (by-opening {o = o} p) = valid (model-of (o .board)) ≡ true
 Leaves-valid (by-command {r = r} p) = valid (model-of (r .board)) ≡ true
@@ -130,6 +140,7 @@ Leaves-valid (by-checking {b = b} p) = valid (model-of b) ≡ true
 Leaves-valid (by-enumerating {b = b} p) = valid (model-of b) ≡ true
 Leaves-valid (by-reading-prices {t = t} {n = n} {root = root} {ps = ps} p) = (room-refusal n root (length ps) ≡ 0) × (read-list n root t .answer ≡ 0)
 Leaves-valid (by-writing-prices {ps = ps} {n = n} {root = root} {out = out} p) = write-refusal n root ps (length out) ≡ 0
+Leaves-valid (by-planning-runs {ps = ps} {ms = ms} {n = n} {ss = ss} {cs = cs} p) = call-refusal (graph-of n ps ms) (length ss) (length cs) ≡ 0
 Leaves-valid (by-reporting {ws = ws} p) = open-refusal ws ≡ 0
 Leaves-valid (by-replaying {ws = ws} p) = open-refusal ws ≡ 0
 
@@ -239,6 +250,14 @@ demand-1 (by-writing-prices {ps = ps} {n = n} {root = root} {out = out} {out′ 
       own-number = write-among ps n root out out′ r x;
       as-before = write-before ps n root out out′ r x;
       leaves-valid = write-passed ps n root out out′ r x;
+    }
+demand-1 (by-planning-runs {ps = ps} {ms = ms} {n = n} {budget = budget} {ss = ss} {ss′ = ss′} {cs = cs} {cs′ = cs′} {r = r} p) =
+    let g = graph-of n ps ms in
+    let x = runs-planned p in
+    record {
+      own-number = runs-among g budget ss ss′ cs cs′ r x;
+      as-before = runs-before g budget ss ss′ cs cs′ r x;
+      leaves-valid = runs-passed g budget ss ss′ cs cs′ r x;
     }
 demand-1 (by-reporting {ws = ws} {r = r} {out = out} {out′ = out′} p) =
     let x = reported-by p in

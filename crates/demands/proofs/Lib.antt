@@ -2,6 +2,7 @@
 pub mod Runs
 pub mod CallNumbers
 pub mod PriceNumbers
+pub mod PassiveNumbers
 pub mod DemandOne
 pub mod DemandTwo
 pub mod DemandThree
@@ -15,3 +16,6 @@ pub mod PlansElsewhere
 pub mod AllPlans
 pub mod OnePlan
 pub mod PriceTrips
+pub mod PassiveResults
+pub mod PassiveStates
+pub mod PassiveRuns

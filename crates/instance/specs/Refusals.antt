@@ -133,3 +133,17 @@ bad-record = 27
 -- "28 for a move to old with records"
 abbrev pub has-records : ℕ
 has-records = 28
+
+-- passive runs (02, A11): "a refusal touches no buffer"
+
+-- "29 for a count outside 1 to 32"
+abbrev pub count-out-of-range : ℕ
+count-out-of-range = 29
+
+-- "30 for a price or mark out of range or a marked run that has no price"
+abbrev pub out-of-range : ℕ
+out-of-range = 30
+
+-- "31 for an unequal pair, met at its first cell"
+abbrev pub unequal-pair : ℕ
+unequal-pair = 31

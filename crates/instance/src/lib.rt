@@ -2,6 +2,7 @@
 // words mean is defined in specs/.
 pub mod limits; // limits.rt: the numbers of documents 01 and 02
 pub mod refusals; // refusals.rt: the refusals of documents 01 and 02
+pub mod states; // states.rt: the states of arcs and edges
 
 ghost use mathlib.Core.Path.{_≡_};
 ghost use Rattle.instance.specs.Marks.{mark-number};

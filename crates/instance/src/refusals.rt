@@ -86,3 +86,12 @@ pub const BAD_RECORD: u32 = 27;
 
 // 28: a move to a plain card, of a history card with records.
 pub const HAS_RECORDS: u32 = 28;
+
+// 29: for passive runs, a count outside 1 to 32.
+pub const COUNT_OUT_OF_RANGE: u32 = 29;
+
+// 30: a price or mark out of range, or a marked run that has no price.
+pub const OUT_OF_RANGE: u32 = 30;
+
+// 31: a price or mark that is not equal both ways.
+pub const UNEQUAL_PAIR: u32 = 31;

@@ -14,15 +14,10 @@ use checks::arc::can_be_arc;
 use instance::limits::CELLS;
 use instance::limits::NO_ARC;
 use instance::limits::VERTICES;
-
-// The states of a cell: "0 not a link", "1 closed", "2 open", "3 sure".
-const ABSENT: u8 = 0;
-
-const EXCLUDED: u8 = 1;
-
-const OPTIONAL: u8 = 2;
-
-const MANDATORY: u8 = 3;
+use instance::states::ABSENT;
+use instance::states::EXCLUDED;
+use instance::states::MANDATORY;
+use instance::states::OPTIONAL;
 
 fn used_into(used: &[u8; CELLS], n: u32, head: u32) -> u32
     requires { ⌜ (n ≤ max-vertices) × (head < max-vertices) ⌝ }

@@ -22,7 +22,7 @@ use Rattle.theory.proofs.CandidateLaws.{any-selected, all-selected}
 
 -- THE LEAST TOTAL OF A LIST
 -- none of the empty list; else a total that one of them has, and that no other is below
-unfoldable Least-of : Instance → List (List ℕ) → Option ℕ → Type 0
+unfoldable pub Least-of : Instance → List (List ℕ) → Option ℕ → Type 0
 Least-of s pss none = pss ≡ []
 Least-of s pss (some v) = (any-of (λ ps. eqb (total s ps) v) pss ≡ true) × (all-of (λ ps. leb v (total s ps)) pss ≡ true)
 
@@ -55,7 +55,7 @@ least-step s ps pss (some w) e = (attained (leb (total s ps) w) refl, below)
         (all-mono (λ qs. leb w (total s qs)) (λ qs. leb (min v w) (total s qs)) pss
         (λ qs q. let l : w ≤ total s qs = leb-true w (total s qs) q in le-leb (min v w) (total s qs) (omega arith)) (e .1))
 
-least-of : (s : Instance) (pss : List (List ℕ)) → Least-of s pss (least-total s pss)
+pub least-of : (s : Instance) (pss : List (List ℕ)) → Least-of s pss (least-total s pss)
 unfolding Least-of least-total
 least-of s [] = refl
 least-of s (ps ∷ pss) = least-step s ps pss (least-total s pss) (least-of s pss)
