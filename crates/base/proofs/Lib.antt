@@ -4,6 +4,7 @@ pub mod BoundedLaws
 pub mod ListLaws
 pub mod JoinLaws
 pub mod AllOfLaws
+pub mod ElementLaws
 pub mod CountingLaws
 pub mod FillingLaws
 pub mod FrontLaws

@@ -16,6 +16,7 @@ pub mod PlansElsewhere
 pub mod AllPlans
 pub mod OnePlan
 pub mod PriceTrips
+pub mod OwnPrices
 pub mod PassiveResults
 pub mod PassiveStates
 pub mod PassiveRuns

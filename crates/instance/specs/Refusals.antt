@@ -41,7 +41,8 @@ bad-filling = 8
 
 -- "board as before" after these
 
--- "press names a position not below n"; 02, A5: "9 for a feeder or a set bit not below the count"
+-- "press names a position not below n"; 02, A5: "9 for a feeder or a set bit not below the count"; A12: "9 for the
+-- feeder"
 abbrev pub no-vertex : ℕ
 no-vertex = 9
 
@@ -134,13 +135,15 @@ bad-record = 27
 abbrev pub has-records : ℕ
 has-records = 28
 
--- passive runs (02, A11): "a refusal touches no buffer"
+-- passive runs (02, A11): "a refusal touches no buffer"; and the row used of two price lists (A12): "a refusal hands
+-- back the empty part at the start of the shipped list"
 
--- "29 for a count outside 1 to 32"
+-- "29 for a count outside 1 to 32"; A12: "in order 29, 9 for the feeder, 14, 30"
 abbrev pub count-out-of-range : ℕ
 count-out-of-range = 29
 
--- "30 for a price or mark out of range or a marked run that has no price"
+-- "30 for a price or mark out of range or a marked run that has no price"; A12: "30 if the chosen row has a number that
+-- is neither a price nor no link"
 abbrev pub out-of-range : ℕ
 out-of-range = 30
 

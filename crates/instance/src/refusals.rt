@@ -25,7 +25,8 @@ pub const BAD_MARK: u32 = 7;
 // 8: a filling bit is 1.
 pub const BAD_FILLING: u32 = 8;
 
-// 9: press names a position not below n; of a group: a feeder or a set bit not below the count.
+// 9: press names a position not below n; of a group: a feeder or a set bit not below the count; of a row of prices: its
+// feeder.
 pub const NO_VERTEX: u32 = 9;
 
 // 10: press names no link; of a group: no member is a link.
@@ -40,7 +41,7 @@ pub const HISTORY_FULL: u32 = 12;
 // 13: take-back with none recorded.
 pub const HISTORY_EMPTY: u32 = 13;
 
-// 14: a lent buffer too short.
+// 14: a lent buffer or list too short.
 pub const BUFFER_SHORT: u32 = 14;
 
 // 15: board handed in has a field outside the ranges above, a mark other than 0 on no link, more than 200 recorded, or
@@ -87,10 +88,11 @@ pub const BAD_RECORD: u32 = 27;
 // 28: a move to a plain card, of a history card with records.
 pub const HAS_RECORDS: u32 = 28;
 
-// 29: for passive runs, a count outside 1 to 32.
+// 29: for passive runs and for a row of prices, a count outside 1 to 32.
 pub const COUNT_OUT_OF_RANGE: u32 = 29;
 
-// 30: a price or mark out of range, or a marked run that has no price.
+// 30: a price or mark out of range, or a marked run that has no price; of a row of prices: a number that is neither a
+// price nor NO_ARC.
 pub const OUT_OF_RANGE: u32 = 30;
 
 // 31: a price or mark that is not equal both ways.

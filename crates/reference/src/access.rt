@@ -71,8 +71,16 @@ pub fn equal_bytes(a: &[u8], b: &[u8], count: u32) -> bool {
     true
 }
 
-// The first so many bytes, or all.
+// The first so many bytes, or words, or all.
 pub fn front(s: &[u8], length: u32) -> &[u8] {
+    let l = length as usize;
+    if l < s.len() {
+        return &s[0..l];
+    }
+    s
+}
+
+pub fn front_words(s: &[u32], length: u32) -> &[u32] {
     let l = length as usize;
     if l < s.len() {
         return &s[0..l];

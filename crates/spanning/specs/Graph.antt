@@ -1,5 +1,5 @@
--- A hall whose cable has "one price both ways" (02, A11), as an undirected graph: a run is an edge. Document 01 has "Not
--- in it: .. undirected runs"; A11 amends it: "Add a planner for these". Assumes nothing: these are definitions.
+-- A hall whose cable has "one price both ways" (02, A11), as an undirected graph: a run is an edge. Document 01 has
+-- "Not in it: .. undirected runs"; A11 amends it: "Add a planner for these". Assumes nothing: these are definitions.
 use mathlib.Core.Bool.{Bool, _&&_, not}
 use mathlib.Core.List.{List}
 use Prim.Native.Nat.{ℕ, _+_, _*_}

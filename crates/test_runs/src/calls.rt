@@ -113,7 +113,7 @@ pub fn by_product(c: Call) -> Shown {
     let mut states = before.states;
     let mut replacements = before.replacements;
     let view = runs::plan_runs(
-        buffers::front_words(&weights, c.weights_length),
+        access::front_words(&weights, c.weights_length),
         access::front(&marks, c.marks_length),
         c.n,
         c.budget,
@@ -144,7 +144,7 @@ fn filled(s: Shown, n: u32, costs: Costs) -> Shown {
 pub fn expected(c: Call, is_listed: bool) -> Shown {
     let weights = c.weights;
     let marks = c.marks;
-    let w = buffers::front_words(&weights, c.weights_length);
+    let w = access::front_words(&weights, c.weights_length);
     let m = access::front(&marks, c.marks_length);
     let answer = answers::answer(w, m, c.n, c.states_length, c.replacements_length);
     if answer != 0 {

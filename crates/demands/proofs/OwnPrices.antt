@@ -1,0 +1,10 @@
+-- THE SCHOOL'S OWN PRICES FIRST (02, A12), of the call: whatever it was handed, its answer, the row that it hands back
+-- and where that stands are those that document 02 has in words, case by case. Assumes nothing.
+use mathlib.Core.List.{List}
+use Prim.Native.Nat.{ℕ}
+use Rattle.price_row.specs.Reading.{Row-reads}
+use Rattle.price_row.proofs.ReadingLaws.{reads}
+use Rattle.price_row.proofs.Learnt.{Row-taken, row-taken}
+
+pub own-prices-first : {a b : List ℕ} {p q : ℕ × ℕ} {n tail k : ℕ} {row : List ℕ} {at : ℕ × ℕ} → Row-taken a b p q n tail k row at → Row-reads a b p q n tail k row at
+own-prices-first {a} {b} {p} {q} {n} {tail} u = let x = row-taken u in rw (x .number, x .numbers, x .stands) (reads a b p q n tail)
