@@ -19,7 +19,7 @@ use Rattle.instance.specs.Limits.{max-vertices, max-weight, no-arc}
 use Rattle.instance.specs.Refusals.{no-vertex, buffer-short, count-out-of-range, out-of-range}
 use Rattle.price_row.specs.Row.{row-at, has-price, is-own, chosen-row, room-refusal, price-ok, row-ok, row-refusal, row-used, address-at, chosen-address, row-address, Uses-row}
 use Rattle.price_row.specs.Reading.{number-at, Any-price, Bad-number, Part-of, Fits, Row-reads, count-refused, tail-refused, room-refused, own-refused, shipped-refused, own-used, shipped-used}
-use Rattle.price_row.proofs.RowLaws.{row-inside, positive, room-passed, room-zero, uses-nothing, uses-out-of-range, uses-chosen}
+use Rattle.price_row.proofs.RowLaws.{row-inside, positive, room-passed, room-zero, uses-nothing, uses-chosen}
 
 -- A ROW BY ITS NUMBERS
 module _ (n t : ℕ) (ps : List ℕ) (l : t * n + n ≤ length ps) where
@@ -173,10 +173,11 @@ module _ (a b : List ℕ) (p q : ℕ × ℕ) (n t : ℕ) where
       let w : x || y ≡ true = ⊎-elim (λ z. or-left x y (lt-ltb (length a) (n * n) z)) (λ z. or-right x y (lt-ltb (length b) (n * n) z)) h in
       uses-nothing n t a b p q buffer-short (rw (counted s m, lt-leb n t l, w)) (λ z. absurd (omega (arith, z)))
   only (own-refused f h k) =
-      uses-out-of-range n t a b p q (room-zero n t (length a) (length b) f) (rw (priced-made n t a (own-inside f) h) (bad-made n t a (own-inside f) k))
+      uses-nothing n t a b p q out-of-range (rw (room-zero n t (length a) (length b) f, priced-made n t a (own-inside f) h, bad-made n t a (own-inside f) k))
+      (λ y. absurd (omega (arith, y)))
   only (shipped-refused f h k) =
-      uses-out-of-range n t a b p q (room-zero n t (length a) (length b) f)
-      (rw (is-false (has-price (row-at n t a)) (λ e. h (priced-read n t a (own-inside f) e))) (bad-made n t b (shipped-inside f) k))
+      let e = is-false (has-price (row-at n t a)) (λ z. h (priced-read n t a (own-inside f) z)) in
+      uses-nothing n t a b p q out-of-range (rw (room-zero n t (length a) (length b) f, e, bad-made n t b (shipped-inside f) k)) (λ y. absurd (omega (arith, y)))
   only (own-used {row = row} {address = at} f h k x) =
       let e = priced-made n t a (own-inside f) h in
       let ok = is-true (row-ok (row-at n t a)) (λ z. k (bad-read n t a (own-inside f) z)) in

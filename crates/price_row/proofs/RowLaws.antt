@@ -1,6 +1,6 @@
 -- Where a row lies in its list, what the call has where it is not refused for its numbers or its room, and its three
 -- ways out. Assumes nothing.
-use mathlib.Core.Path.{_≡_, refl, sym, ap, _∙_, subst}
+use mathlib.Core.Path.{_≡_, refl, sym, _∙_, subst}
 use mathlib.Core.Bool.{Bool, true, false, _&&_, _||_, not, cond}
 use mathlib.Core.List.{List, []}
 use mathlib.Core.Logic.{_≢_}
@@ -61,10 +61,6 @@ room-zero n t a b f =
     let d : n ≢ 0 = λ e. let s = f .some in omega arith in
     rw (ne-eqb n 0 d, le-ltb max-vertices n (f .small), lt-leb n t (f .below), le-ltb a (n * n) (f .first), le-ltb b (n * n) (f .second))
 
--- the empty part of a list begins where the list does
-pub address-first : (q : ℕ × ℕ) → address-at 0 q ≡ q
-address-first q = let e : 0 * 4 + q .1 ≡ q .1 = omega arith in ap (λ (k : ℕ). (q .0, k)) e
-
 -- THE ROW THAT IS CHOSEN
 module _ (n t : ℕ) (a b : List ℕ) (p q : ℕ × ℕ) where
   pub chosen-own : has-price (row-at n t a) ≡ true → (row-at n t a ≡ chosen-row n t a b) × (address-at (t * n) p ≡ chosen-address n t a p q)
@@ -86,13 +82,17 @@ module _ (n t : ℕ) (a b : List ℕ) (p q : ℕ × ℕ) where
       let z : eqb (row-refusal n t a b) 0 ≡ false = ne-eqb (row-refusal n t a b) 0 (λ y. d (e ∙ y)) in
       record { number = e; numbers = rw z; stands = rw z }
 
-  pub uses-refused : (r : ℕ) → r ≡ room → r ≢ 0 → Uses-row a b p q n t r [] q
-  unfolding row-refusal
-  uses-refused r e d = uses-nothing r (rw (ne-eqb room 0 (λ y. d (e ∙ y)), e)) d
+  -- as the program has it: the part of no number, from the first one on
+  uses-none : (r : ℕ) → r ≡ row-refusal n t a b → r ≢ 0 → Uses-row a b p q n t r [] (address-at 0 q)
+  uses-none r e d = let z : 0 * 4 + q .1 ≡ q .1 = omega arith in subst (λ (k : ℕ). Uses-row a b p q n t r [] (q .0, k)) (sym z) (uses-nothing r e d)
 
-  pub uses-out-of-range : room ≡ 0 → row-ok (chosen-row n t a b) ≡ false → Uses-row a b p q n t out-of-range [] q
+  pub uses-refused : (r : ℕ) → r ≡ room → r ≢ 0 → Uses-row a b p q n t r [] (address-at 0 q)
   unfolding row-refusal
-  uses-out-of-range z k = uses-nothing out-of-range (rw (z, k)) (λ y. absurd (omega (arith, y)))
+  uses-refused r e d = uses-none r (rw (ne-eqb room 0 (λ y. d (e ∙ y)), e)) d
+
+  pub uses-out-of-range : room ≡ 0 → row-ok (chosen-row n t a b) ≡ false → Uses-row a b p q n t out-of-range [] (address-at 0 q)
+  unfolding row-refusal
+  uses-out-of-range z k = uses-none out-of-range (rw (z, k)) (λ y. absurd (omega (arith, y)))
 
   pub uses-chosen : room ≡ 0 → row-ok (chosen-row n t a b) ≡ true → Uses-row a b p q n t 0 (chosen-row n t a b) (chosen-address n t a p q)
   unfolding row-refusal row-used row-address

@@ -1,13 +1,9 @@
 -- Three ways out, each a law of RowLaws.
-use mathlib.Core.Path.{_≡_, sym, ap, _∙_, subst}
-use mathlib.Core.List.{[]}
-use Prim.Native.Nat.{ℕ}
+use mathlib.Core.Path.{_≡_, sym, ap, _∙_}
 use lib.ListN.{length}
 use borrow.Author.Needs.{needs}
-use Rattle.instance.specs.Refusals.{out-of-range}
-use Rattle.price_row.specs.Reading.{Fits}
-use Rattle.price_row.specs.Row.{room-refusal, row-ok, Uses-row}
-use Rattle.price_row.proofs.RowLaws.{room-passed, address-first, uses-refused, uses-out-of-range, uses-chosen}
+use Rattle.price_row.specs.Row.{row-ok}
+use Rattle.price_row.proofs.RowLaws.{room-passed, uses-refused, uses-out-of-range, uses-chosen}
 use Rattle.price_row.proofs.row.row_used.Statement.{statement}
 use Rattle.price_row.proofs.row.row_used.Tie as tie
 
@@ -26,8 +22,8 @@ part-result-end c = search needs
 returns : tie.Need-returns
 returns c =
     let s = c .before .before .before .before .before .args in
-    rw (address-first (s .shipped .ptr))
-    (uses-refused (s .count) (s .feeder .0) (s .school .now) (s .shipped .now) (s .school .ptr) (s .shipped .ptr) (c .before .before .room-answer .result) (c .before .before .room-answer .ensures) (c .before .if1 .taken))
+    let w = c .before .before .room-answer in
+    uses-refused (s .count) (s .feeder .0) (s .school .now) (s .shipped .now) (s .school .ptr) (s .shipped .ptr) (w .result) (w .ensures) (c .before .if1 .taken)
 
 chosen-row-requires : tie.Need-chosen-row-requires
 chosen-row-requires c κs =
@@ -60,8 +56,8 @@ returns-3 c =
     let s = c .before .before .before .before .before .before .before .before .args in
     let e = c .before .before .before .chosen-row .ensures in
     let z = sym (c .before .before .before .before .before .room-answer .ensures) ∙ c .before .before .before .before .if1 .left in
-    rw (address-first (s .shipped .ptr))
-    (uses-out-of-range (s .count) (s .feeder .0) (s .school .now) (s .shipped .now) (s .school .ptr) (s .shipped .ptr) z (ap row-ok (sym (e .0)) ∙ sym (c .before .before .row-ok .ensures) ∙ c .before .if2 .left))
+    uses-out-of-range (s .count) (s .feeder .0) (s .school .now) (s .shipped .now) (s .school .ptr) (s .shipped .ptr) z
+    (ap row-ok (sym (e .0)) ∙ sym (c .before .before .row-ok .ensures) ∙ c .before .if2 .left)
 
 pub row-used-spec : {M : Type 1} → statement M
 row-used-spec =
