@@ -4,7 +4,7 @@ use mathlib.Core.Bool.{Bool, true}
 use mathlib.Core.List.{List, [], _∷_, _++_}
 use Prim.Native.Nat.{ℕ, zero, suc}
 use lib.ListN.{getD, take, drop}
-use Rattle.base.specs.Lists.{all-of}
+use Rattle.base.specs.Lists.{all-of, tabulate, tabulate-from}
 use Rattle.base.proofs.BoolLaws.{and-left, and-right, and-both}
 
 module _ {A : Type 0} (q : A → Bool) where
@@ -50,3 +50,13 @@ module _ {A : Type 0} where
   pub all-of-more : (q : A → Bool) (x : A) (xs : List A) → q x ≡ true → all-of q xs ≡ true → all-of q (x ∷ xs) ≡ true
   unfolding all-of
   all-of-more q x xs h e = rw (h, e)
+
+-- of a list made by index
+all-of-tabulate-from : (q : ℕ → Bool) (k a : ℕ) (g : ℕ → ℕ) → ((i : ℕ) → q (g i) ≡ true) → all-of q (tabulate-from k a g) ≡ true
+unfolding tabulate-from all-of
+all-of-tabulate-from q zero a g h = refl
+all-of-tabulate-from q (suc k) a g h = and-both (q (g a)) (all-of q (tabulate-from k (suc a) g)) (h a) (all-of-tabulate-from q k (suc a) g h)
+
+pub all-of-tabulate : (q : ℕ → Bool) (k : ℕ) (g : ℕ → ℕ) → ((i : ℕ) → q (g i) ≡ true) → all-of q (tabulate k g) ≡ true
+unfolding tabulate
+all-of-tabulate q k g h = all-of-tabulate-from q k 0 g h

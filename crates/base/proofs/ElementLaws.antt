@@ -13,42 +13,42 @@ use Rattle.base.proofs.BoolLaws.{or-left, or-right}
 
 -- FROM ONE ON
 module _ {A : Type 0} (q : A → Bool) (d : A) (xs : List A) (i : ℕ) where
-  pub any-here : i < length xs → q (getD xs i d) ≡ true → any-of q (drop i xs) ≡ true
+  pub any-of-here : i < length xs → q (getD xs i d) ≡ true → any-of q (drop i xs) ≡ true
   unfolding any-of
-  any-here h e = rw (drop-cons xs i d h, e)
+  any-of-here h e = rw (drop-cons xs i d h, e)
 
-  pub any-next : i < length xs → q (getD xs i d) ≡ false → any-of q (drop i xs) ≡ any-of q (drop (i + 1) xs)
+  pub any-of-next : i < length xs → q (getD xs i d) ≡ false → any-of q (drop i xs) ≡ any-of q (drop (i + 1) xs)
   unfolding any-of
-  any-next h e = rw (add-one i, drop-cons xs i d h, e)
+  any-of-next h e = rw (add-one i, drop-cons xs i d h, e)
 
-  pub any-end : length xs ≤ i → any-of q (drop i xs) ≡ false
+  pub any-of-end : length xs ≤ i → any-of q (drop i xs) ≡ false
   unfolding any-of
-  any-end h = rw (drop-of-length-le xs h)
+  any-of-end h = rw (drop-of-length-le xs h)
 
-  pub all-here : i < length xs → q (getD xs i d) ≡ false → all-of q (drop i xs) ≡ false
+  pub all-of-here : i < length xs → q (getD xs i d) ≡ false → all-of q (drop i xs) ≡ false
   unfolding all-of
-  all-here h e = rw (drop-cons xs i d h, e)
+  all-of-here h e = rw (drop-cons xs i d h, e)
 
-  pub all-next : i < length xs → q (getD xs i d) ≡ true → all-of q (drop i xs) ≡ all-of q (drop (i + 1) xs)
+  pub all-of-next : i < length xs → q (getD xs i d) ≡ true → all-of q (drop i xs) ≡ all-of q (drop (i + 1) xs)
   unfolding all-of
-  all-next h e = rw (add-one i, drop-cons xs i d h, e)
+  all-of-next h e = rw (add-one i, drop-cons xs i d h, e)
 
-  pub all-end : length xs ≤ i → all-of q (drop i xs) ≡ true
+  pub all-of-end : length xs ≤ i → all-of q (drop i xs) ≡ true
   unfolding all-of
-  all-end h = rw (drop-of-length-le xs h)
+  all-of-end h = rw (drop-of-length-le xs h)
 
 -- BY INDEX
 module _ {A : Type 0} (q : A → Bool) (d : A) where
-  pub any-at : (xs : List A) (i : ℕ) → i < length xs → q (getD xs i d) ≡ true → any-of q xs ≡ true
+  pub any-of-at : (xs : List A) (i : ℕ) → i < length xs → q (getD xs i d) ≡ true → any-of q xs ≡ true
   unfolding any-of
-  any-at [] i h e = absurd (omega arith)
-  any-at (x ∷ xs) zero h e = or-left (q x) (any-of q xs) e
-  any-at (x ∷ xs) (suc i) h e = or-right (q x) (any-of q xs) (any-at xs i (omega arith) e)
+  any-of-at [] i h e = absurd (omega arith)
+  any-of-at (x ∷ xs) zero h e = or-left (q x) (any-of q xs) e
+  any-of-at (x ∷ xs) (suc i) h e = or-right (q x) (any-of q xs) (any-of-at xs i (omega arith) e)
 
-  pub any-found : (xs : List A) → any-of q xs ≡ true → (i : ℕ) × (i < length xs) × (q (getD xs i d) ≡ true)
+  pub any-of-found : (xs : List A) → any-of q xs ≡ true → (i : ℕ) × (i < length xs) × (q (getD xs i d) ≡ true)
   unfolding any-of
-  any-found [] e = absurd (true≢false (sym e))
-  any-found (x ∷ xs) e = go (q x) refl e (any-found xs)
+  any-of-found [] e = absurd (true≢false (sym e))
+  any-of-found (x ∷ xs) e = go (q x) refl e (any-of-found xs)
     where
       go : (b : Bool) → q x ≡ b → b || any-of q xs ≡ true → (any-of q xs ≡ true → (i : ℕ) × (i < length xs) × (q (getD xs i d) ≡ true))
           → (i : ℕ) × (i < suc (length xs)) × (q (getD (x ∷ xs) i d) ≡ true)

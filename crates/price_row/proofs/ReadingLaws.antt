@@ -12,7 +12,7 @@ use lib.Seq.{getD-take, getD-drop, ext-getD}
 use borrow.Author.Tests.{ltb-true, ltb-false, leb-true, leb-false, eqb-true, eqb-false, not-true, not-false, lt-ltb, le-ltb, le-leb, lt-leb, eq-eqb, ne-eqb}
 use Rattle.base.specs.Lists.{any-of}
 use Rattle.base.proofs.BoolLaws.{or-cases, or-left, or-right, or-false-left, or-false-right, or-both-false, not-both, is-false, is-true}
-use Rattle.base.proofs.ElementLaws.{any-at, any-found}
+use Rattle.base.proofs.ElementLaws.{any-of-at, any-of-found}
 use Rattle.base.proofs.ListLaws.{all-of-any}
 use Rattle.base.proofs.PartLaws.{length-part}
 use Rattle.instance.specs.Limits.{max-vertices, max-weight, no-arc}
@@ -46,7 +46,7 @@ module _ (n t : ℕ) (ps : List ℕ) (l : t * n + n ≤ length ps) where
   priced-read : has-price row ≡ true → Any-price n t ps
   unfolding has-price
   priced-read h =
-      let f = any-found (λ w. not (eqb w no-arc)) no-arc row h in
+      let f = any-of-found (λ w. not (eqb w no-arc)) no-arc row h in
       let w = row-whole in
       let b = f .1 in
       let i : f .0 < n = omega arith in
@@ -58,7 +58,7 @@ module _ (n t : ℕ) (ps : List ℕ) (l : t * n + n ≤ length ps) where
       let w = row-whole in
       let b = x .inside in
       let i : x .place < length row = omega arith in
-      any-at (λ y. not (eqb y no-arc)) no-arc row (x .place) i (ap not (ne-eqb (getD row (x .place) no-arc) no-arc (λ e. x .priced (sym (row-number (x .place) b) ∙ e))))
+      any-of-at (λ y. not (eqb y no-arc)) no-arc row (x .place) i (ap not (ne-eqb (getD row (x .place) no-arc) no-arc (λ e. x .priced (sym (row-number (x .place) b) ∙ e))))
 
   unpriced : has-price row ≡ false → Any-price n t ps → ⊥
   unpriced h x = not-both (has-price row) (priced-made x) h
@@ -74,7 +74,7 @@ module _ (n t : ℕ) (ps : List ℕ) (l : t * n + n ≤ length ps) where
   bad-read : row-ok row ≡ false → Bad-number n t ps
   unfolding price-ok
   bad-read k =
-      let f = any-found (λ w. not (price-ok w)) no-arc row (not-false has-bad (sym ok-is ∙ k)) in
+      let f = any-of-found (λ w. not (price-ok w)) no-arc row (not-false has-bad (sym ok-is ∙ k)) in
       let w = row-whole in
       let b = f .1 in
       let i : f .0 < n = omega arith in
@@ -97,7 +97,7 @@ module _ (n t : ℕ) (ps : List ℕ) (l : t * n + n ≤ length ps) where
       let v = number-at n t ps (x .place) in
       let e : price-ok v ≡ false = or-both-false (leb v max-weight) (eqb v no-arc) (lt-leb v max-weight (x .no-price)) (ne-eqb v no-arc (x .not-none)) in
       let s = row-number (x .place) b in
-      ok-is ∙ ap not (any-at (λ y. not (price-ok y)) no-arc row (x .place) i (rw s (ap not e)))
+      ok-is ∙ ap not (any-of-at (λ y. not (price-ok y)) no-arc row (x .place) i (rw s (ap not e)))
 
   sound : row-ok row ≡ true → Bad-number n t ps → ⊥
   sound k x = not-both (row-ok row) k (bad-made x)

@@ -9,9 +9,10 @@ use native.Mathlib.Nat.{mul-le-mul-right, suc-mul}
 use native.Mathlib.Omega.{arith}
 use lib.Dec.{ltb, leb, eqb}
 use lib.ListN.{length, take, drop}
-use borrow.Author.Tests.{ltb-false, leb-false, eqb-false, le-ltb, lt-leb, ne-eqb}
+use borrow.Author.Tests.{ltb-false, leb-false, eqb-true, eqb-false, le-ltb, lt-leb, ne-eqb}
 use Rattle.base.specs.Lists.{any-of}
 use Rattle.base.proofs.BoolLaws.{or-false-left, or-false-right, passed}
+use Rattle.base.proofs.PartLaws.{length-part}
 use Rattle.instance.specs.Limits.{max-vertices, max-weight, no-arc, free, banned}
 use Rattle.instance.specs.Refusals.{no-vertex, buffer-short, count-out-of-range, out-of-range}
 use Rattle.instance.specs.Valid.{cell-ok}
@@ -62,6 +63,35 @@ room-zero n t a b f =
     rw (ne-eqb n 0 d, le-ltb max-vertices n (f .small), lt-leb n t (f .below), le-ltb a (n * n) (f .first), le-ltb b (n * n) (f .second))
 
 -- THE ROW THAT IS CHOSEN
+module _ (n t : ℕ) (a b : List ℕ) where
+  pub not-refused : row-refusal n t a b ≡ 0 → Fits n t (length a) (length b)
+  unfolding row-refusal
+  not-refused e = room-passed n t (length a) (length b) (by (eqb room 0) refl e)
+    where
+      room : ℕ
+      room = room-refusal n t (length a) (length b)
+
+      by : (c : Bool) → eqb room 0 ≡ c → cond c (cond (row-ok (chosen-row n t a b)) 0 out-of-range) room ≡ 0 → room ≡ 0
+      by true z y = eqb-true room 0 z
+      by false z y = y
+
+  pub used-chosen : row-refusal n t a b ≡ 0 → row-used n t a b ≡ chosen-row n t a b
+  unfolding row-used
+  used-chosen e = rw e
+
+  -- it has n numbers
+  pub chosen-whole : Fits n t (length a) (length b) → length (chosen-row n t a b) ≡ n
+  unfolding chosen-row row-at
+  chosen-whole f =
+      let i = row-inside n t (f .below) in
+      let x = f .first in
+      let y = f .second in
+      by (is-own n t a) (length-part (t * n) n a (omega arith)) (length-part (t * n) n b (omega arith))
+    where
+      by : (c : Bool) → length (row-at n t a) ≡ n → length (row-at n t b) ≡ n → length (cond c (row-at n t a) (row-at n t b)) ≡ n
+      by true x y = x
+      by false x y = y
+
 module _ (n t : ℕ) (a b : List ℕ) (p q : ℕ × ℕ) where
   pub chosen-own : has-price (row-at n t a) ≡ true → (row-at n t a ≡ chosen-row n t a b) × (address-at (t * n) p ≡ chosen-address n t a p q)
   unfolding chosen-row chosen-address is-own

@@ -8,7 +8,7 @@ use lib.ListN.{length, getD, drop}
 use borrow.Author.Needs.{needs}
 use borrow.Author.Tests.{eq-eqb, ne-eqb}
 use Rattle.base.specs.Lists.{any-of}
-use Rattle.base.proofs.ElementLaws.{any-here, any-next, any-end}
+use Rattle.base.proofs.ElementLaws.{any-of-here, any-of-next, any-of-end}
 use Rattle.instance.specs.Limits.{no-arc}
 use Rattle.price_row.specs.Row.{has-price}
 use Rattle.price_row.proofs.row.has_price.Statement.{statement}
@@ -37,7 +37,7 @@ returns : tie.Need-returns Inv-loop μ-loop
 returns c =
     let row = c .before .before .before .before .args .row .now in
     let l = c .before .before .before .loop in
-    sym (l .inv .1 ∙ any-here priced 0 row (l .i) (omega arith) (ap not (ne-eqb (getD row (l .i) 0) no-arc (c .if1 .taken))))
+    sym (l .inv .1 ∙ any-of-here priced 0 row (l .i) (omega arith) (ap not (ne-eqb (getD row (l .i) 0) no-arc (c .if1 .taken))))
 
 add-i : tie.Need-add-i Inv-loop μ-loop
 add-i c = omega arith
@@ -49,13 +49,13 @@ loop-again : tie.Need-loop-again Inv-loop μ-loop
 loop-again c =
     let row = c .before .before .before .before .args .row .now in
     let l = c .before .before .before .loop in
-    (omega arith, l .inv .1 ∙ any-next priced 0 row (l .i) (omega arith) (ap not (eq-eqb (getD row (l .i) 0) no-arc (c .if1 .left))))
+    (omega arith, l .inv .1 ∙ any-of-next priced 0 row (l .i) (omega arith) (ap not (eq-eqb (getD row (l .i) 0) no-arc (c .if1 .left))))
 
 returns-2 : tie.Need-returns-2 Inv-loop μ-loop
 returns-2 c =
     let row = c .before .before .args .row .now in
     let l = c .before .loop in
-    sym (l .inv .1 ∙ any-end priced 0 row (l .i) (omega arith))
+    sym (l .inv .1 ∙ any-of-end priced 0 row (l .i) (omega arith))
 
 pub has-price-spec : {M : Type 1} → statement M
 has-price-spec =

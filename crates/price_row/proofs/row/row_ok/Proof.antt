@@ -6,7 +6,7 @@ use lib.ListN.{length, getD, drop}
 use borrow.Author.Needs.{needs}
 use borrow.Author.Tests.{not-true, not-false}
 use Rattle.base.specs.Lists.{all-of}
-use Rattle.base.proofs.ElementLaws.{all-here, all-next, all-end}
+use Rattle.base.proofs.ElementLaws.{all-of-here, all-of-next, all-of-end}
 use Rattle.price_row.specs.Row.{price-ok, row-ok}
 use Rattle.price_row.proofs.RowLaws.{unmarked-ok}
 use Rattle.price_row.proofs.row.row_ok.Statement.{statement}
@@ -36,7 +36,7 @@ returns c =
     let row = c .before .before .before .before .before .before .args .row .now in
     let l = c .before .before .before .before .loop in
     let t = c .before .cell-ok in
-    sym (l .inv .1 ∙ all-here price-ok 0 row (l .i) (omega arith) (sym (unmarked-ok (getD row (l .i) 0)) ∙ sym (t .ensures) ∙ not-true (t .result) (c .if1 .taken)))
+    sym (l .inv .1 ∙ all-of-here price-ok 0 row (l .i) (omega arith) (sym (unmarked-ok (getD row (l .i) 0)) ∙ sym (t .ensures) ∙ not-true (t .result) (c .if1 .taken)))
 
 add-i : tie.Need-add-i Inv-loop μ-loop
 add-i c = omega arith
@@ -50,14 +50,14 @@ loop-again c =
     let l = c .before .before .before .before .loop in
     let t = c .before .cell-ok in (
       omega arith,
-      l .inv .1 ∙ all-next price-ok 0 row (l .i) (omega arith) (sym (unmarked-ok (getD row (l .i) 0)) ∙ sym (t .ensures) ∙ not-false (t .result) (c .if1 .left)),
+      l .inv .1 ∙ all-of-next price-ok 0 row (l .i) (omega arith) (sym (unmarked-ok (getD row (l .i) 0)) ∙ sym (t .ensures) ∙ not-false (t .result) (c .if1 .left)),
     )
 
 returns-2 : tie.Need-returns-2 Inv-loop μ-loop
 returns-2 c =
     let row = c .before .before .before .args .row .now in
     let l = c .before .loop in
-    sym (l .inv .1 ∙ all-end price-ok 0 row (l .i) (omega arith))
+    sym (l .inv .1 ∙ all-of-end price-ok 0 row (l .i) (omega arith))
 
 pub row-ok-spec : {M : Type 1} → statement M
 row-ok-spec =

@@ -1,0 +1,79 @@
+-- Rows one behind the other: that none of them is refused where each number is a price or no link, that they are then n
+-- times n numbers, and that words behind the lists do not count. Assumes nothing.
+use mathlib.Core.Path.{_≡_, refl, sym, ap, _∙_}
+use mathlib.Core.Bool.{Bool, true, false, cond}
+use mathlib.Core.List.{List, _++_}
+use Prim.Native.Nat.{ℕ, zero, suc, _+_, _*_, _≤_, _<_}
+use native.Mathlib.Nat.{suc-mul, zero-mul}
+use native.Mathlib.Omega.{arith}
+use lib.Dec.{ltb, eqb}
+use lib.ListN.{length, drop, length-append, length-drop}
+use lib.Seq.{take-append-le, drop-append-le}
+use borrow.Author.Tests.{le-ltb}
+use Rattle.base.specs.Lists.{all-of, join-below}
+use Rattle.base.proofs.AllOfLaws.{all-of-take, all-of-drop}
+use Rattle.base.proofs.JoinLaws.{join-same}
+use Rattle.instance.specs.Limits.{max-vertices}
+use Rattle.price_row.specs.Row.{row-at, has-price, is-own, chosen-row, room-refusal, price-ok, row-ok, row-refusal, row-used}
+use Rattle.price_row.specs.Reading.{Fits}
+use Rattle.price_row.proofs.RowLaws.{row-inside, room-zero, used-chosen, chosen-whole}
+use Rattle.price_merge.specs.Rows.{rows-used}
+
+-- LISTS OF PRICES AND NO LINK
+module _ (n : ℕ) (a b : List ℕ) (small : n ≤ max-vertices) (x : n * n ≤ length a) (y : n * n ≤ length b)
+    (p : all-of price-ok a ≡ true) (q : all-of price-ok b ≡ true) where
+  fits : (t : ℕ) → t < n → Fits n t (length a) (length b)
+  fits t l = record { some = omega arith; small = small; below = l; first = x; second = y }
+
+  pub none-refused : (t : ℕ) → t < n → row-refusal n t a b ≡ 0
+  unfolding row-refusal chosen-row row-at row-ok
+  none-refused t l = rw (room-zero n t (length a) (length b) (fits t l), ok (is-own n t a))
+    where
+      ok : (c : Bool) → row-ok (cond c (row-at n t a) (row-at n t b)) ≡ true
+      ok true = all-of-take price-ok n (drop (t * n) a) (all-of-drop price-ok (t * n) a p)
+      ok false = all-of-take price-ok n (drop (t * n) b) (all-of-drop price-ok (t * n) b q)
+
+  row-length : (t : ℕ) → t < n → length (row-used n t a b) ≡ n
+  row-length t l = ap (λ (r : List ℕ). length r) (used-chosen n t a b (none-refused t l)) ∙ chosen-whole n t a b (fits t l)
+
+  rows-length : (k : ℕ) → k ≤ n → length (join-below k (λ t. row-used n t a b)) ≡ k * n
+  unfolding join-below
+  rows-length zero l = sym (zero-mul n)
+  rows-length (suc k) l =
+      let e = rows-length k (omega arith) in
+      let r = row-length k (omega arith) in
+      let s = suc-mul k n in
+      length-append (join-below k (λ t. row-used n t a b)) (row-used n k a b) ∙ omega (arith, e, r, s)
+
+  pub rows-whole : length (rows-used n a b) ≡ n * n
+  unfolding rows-used
+  rows-whole = rows-length n (omega arith)
+
+-- WORDS BEHIND THE LISTS
+row-front : (n t : ℕ) (a c : List ℕ) → t * n + n ≤ length a → row-at n t (a ++ c) ≡ row-at n t a
+unfolding row-at
+row-front n t a c l =
+    let d = length-drop (t * n) a in
+    rw (drop-append-le (t * n) a c (omega arith)) (take-append-le n (drop (t * n) a) c (omega arith))
+
+module _ (n : ℕ) (a b c d : List ℕ) (x : length a ≡ n * n) (y : length b ≡ n * n) where
+  room-front : (t : ℕ) → room-refusal n t (length (a ++ c)) (length (b ++ d)) ≡ room-refusal n t (length a) (length b)
+  unfolding room-refusal
+  room-front t =
+      let p = length-append a c in
+      let q = length-append b d in
+      rw (
+        le-ltb (length (a ++ c)) (n * n) (omega arith),
+        le-ltb (length (b ++ d)) (n * n) (omega arith),
+        le-ltb (length a) (n * n) (omega arith),
+        le-ltb (length b) (n * n) (omega arith),
+      )
+
+  used-front : (t : ℕ) → t < n → row-used n t (a ++ c) (b ++ d) ≡ row-used n t a b
+  unfolding row-used row-refusal chosen-row is-own
+  used-front t l =
+      let i = row-inside n t l in rw (room-front t, row-front n t a c (omega arith), row-front n t b d (omega arith))
+
+  pub rows-front : rows-used n (a ++ c) (b ++ d) ≡ rows-used n a b
+  unfolding rows-used
+  rows-front = join-same n (λ t. row-used n t (a ++ c) (b ++ d)) (λ t. row-used n t a b) used-front

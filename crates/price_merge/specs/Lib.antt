@@ -1,0 +1,3 @@
+-- What the contracts cite.
+pub mod Rows
+pub mod Merge
