@@ -1,7 +1,7 @@
 // Times the planner's row_used against plain Rust that does the same, in one process, and checks on random lists, of
-// which many are refused, that both answer alike and hand back a part of the same length that holds the same number at
-// any place: a price stands in one place of the lists only, so that tells the part. The call comes from a static
-// library that bench/run builds; rows_call.txt is what it exports.
+// which many are refused, that both answer alike and hand back a part of the same length that holds the same numbers: a
+// price stands in one place of the lists only, so a part that has one is told by its numbers. The call comes from a
+// static library that bench/run builds; rows_call.txt is what it exports.
 use std::hint::black_box;
 use std::time::Instant;
 
@@ -92,10 +92,12 @@ fn check() -> [u32; 2] {
         // one place too few, just enough, or more
         let [a, b] = [g.below(16), g.below(16)].map(|more| (n * n + more).saturating_sub(1) as usize);
         let (school, shipped) = (g.list(a, 1), g.list(b, 2000));
-        let (feeder, place) = (g.below(n + 2), g.below(n + 2) as usize);
-        let told = ours(&school, &shipped, n, feeder, place);
-        assert!(told == plain(&school, &shipped, n, feeder, place), "{n} {feeder} {school:?} {shipped:?}: {told:?}");
-        counts[(told.0 != 0) as usize] += 1;
+        let feeder = g.below(n + 2);
+        for place in 0..n as usize + 1 {
+            let told = ours(&school, &shipped, n, feeder, place);
+            assert!(told == plain(&school, &shipped, n, feeder, place), "{n} {feeder} {school:?} {shipped:?}: {told:?}");
+            counts[(told.0 != 0) as usize] += (place == 0) as u32;
+        }
     }
     counts
 }

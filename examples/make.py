@@ -8,7 +8,11 @@ MAX_WEIGHT = 1048574
 MAX_BUDGET = 32505794
 FREE, PINNED, BANNED = 0, 1, 2
 
+# sheet Q; the console's row in a school's own list; and the rows used of both
 Q = {(0, 1): 10, (0, 2): 10, (0, 3): 8, (1, 2): 1, (1, 3): 4, (2, 1): 2, (2, 3): 9, (3, 1): 7}
+
+OWN = {(0, 1): 6, (0, 2): 9}
+MERGED = {arc: price for arc, price in Q.items() if arc[0] != 0} | OWN
 
 
 def sheet(n, root, budget, weights, marks):
@@ -107,6 +111,7 @@ write("p8", card(1, 0, 0, {}))
 write("p9", card(2, 0, 5, {(0, 1): 5}))
 write("p10", card(2, 0, 4, {(0, 1): 5}))
 write("hall", card(32, 0, 28500, hall(), {(8, 27): PINNED, (18, 20): BANNED}))
+write("own", card(4, 0, 16, MERGED))
 write("heads", card(8, 0, 5210000, heads()))
 dearest = {(tail, head): MAX_WEIGHT for tail in range(32) for head in range(32)}
 write("dearest", card(32, 0, MAX_BUDGET, dearest))
@@ -117,4 +122,6 @@ write("longest", history_card(32, 0, MAX_BUDGET, dearest, {}, presses))
 
 write("q", prices(Q, sorted(Q)), ".prices")
 write("q-any-order", prices(Q, sorted(Q, key=lambda arc: (arc[1], -arc[0]))), ".prices")
+write("own", prices(OWN, sorted(OWN)), ".prices")
+write("own.merged", prices(MERGED, sorted(MERGED)), ".prices")
 write("hall", prices(hall(), sorted(hall())), ".prices")

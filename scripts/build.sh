@@ -2,17 +2,18 @@
 # to date. That is shown on standard error: on a terminal by a line for each crate that is proved, elsewhere by the
 # first line only. The script has set $tool, its name, $usage and $repository, and has `fail MESSAGE`, which ends it.
 
+# check_file FILE KIND: that there is such a file
+check_file() {
+    case $1 in -*) fail "there is no option $1 (a file of that name is ./$1); $usage" ;; esac
+    [ -e "$1" ] || fail "there is no file $1"
+    [ ! -d "$1" ] || fail "$1 is a directory, not a $2"
+}
+
 # take_input FILE KIND: the file, or standard input as it is for -
 take_input() {
-    case $1 in
-    -) ;;
-    -*) fail "there is no option $1 (a file of that name is ./$1); $usage" ;;
-    *)
-        [ -e "$1" ] || fail "there is no file $1"
-        [ ! -d "$1" ] || fail "$1 is a directory, not a $2"
-        { exec < "$1"; } 2> /dev/null || fail "$1 cannot be read"
-        ;;
-    esac
+    [ "$1" != - ] || return 0
+    check_file "$1" "$2"
+    { exec < "$1"; } 2> /dev/null || fail "$1 cannot be read"
 }
 
 # Counts the named crates and those below them, each once.

@@ -42,7 +42,7 @@ use Rattle.price_list.specs.declared.write.ListWritten.{ListWritten}
 use Rattle.price_list.proofs.Learnt.{Prices-read, prices-read, Prices-written, prices-written}
 use Rattle.price_row.specs.Row.{row-refusal, row-numbers}
 use Rattle.price_row.proofs.RowLaws.{row-listed, uses-empty}
-use Rattle.price_row.proofs.Learnt.{Row-taken, row-taken}
+use Rattle.price_row.proofs.Learnt.{Handed-back, handed-back}
 use Rattle.spanning.specs.Graph.{graph-of}
 use Rattle.spanning.specs.Refusal.{call-refusal, call-numbers}
 use Rattle.runs.specs.declared.planning.RunsView.{RunsView}
@@ -81,7 +81,7 @@ pub data Given : ℕ → Type 0 where
   by-reading-prices : {t : List ℕ} {n root : ℕ} {ps ps′ : List ℕ} {r : PricesRead} → Prices-read t n root ps ps′ r → Given (r .answer)
   by-writing-prices : {ps : List ℕ} {n root : ℕ} {out out′ : List ℕ} {r : ListWritten} → Prices-written ps n root out out′ r → Given (r .answer)
   by-planning-runs : {ps ms : List ℕ} {n budget : ℕ} {ss ss′ cs cs′ : List ℕ} {r : RunsView} → Runs-planned ps ms n budget ss ss′ cs cs′ r → Given (view-number r)
-  by-taking-row : {a b : List ℕ} {p q : ℕ × ℕ} {n tail k : ℕ} {row : List ℕ} {at : ℕ × ℕ} → Row-taken a b p q n tail k row at → Given k
+  by-handing-back : {a b : List ℕ} {p q : ℕ × ℕ} {n tail k : ℕ} {row : List ℕ} {at : ℕ × ℕ} → Handed-back a b p q n tail k row at → Given k
   by-reporting : {ws : List ℕ} {r : Reported} {out out′ : List ℕ} → Reported-by ws out out′ r → Given (r .answer)
   by-replaying : {ws ks fs gs : List ℕ} {v : View} {xs xs′ : List ℕ} {old new : Buffers} → Replayed ws ks fs gs xs xs′ old new v → Given (answer-of v)
 
@@ -100,7 +100,7 @@ numbers (by-enumerating p) = enumerate-numbers
 numbers (by-reading-prices p) = read-numbers
 numbers (by-writing-prices p) = write-numbers
 numbers (by-planning-runs p) = call-numbers
-numbers (by-taking-row p) = row-numbers
+numbers (by-handing-back p) = row-numbers
 numbers (by-reporting {ws = ws} p) = buffer-short ∷ open-numbers ws
 numbers (by-replaying {ws = ws} p) = buffer-short ∷ open-numbers ws
 
@@ -111,8 +111,9 @@ pub record List-before (ps ps′ : List Press) (b : Board) (r : ListAnswered) : 
   pub singly : Singly (commands-in ps) (contents-of b) (list-result-of r)
   pub still-valid : valid (model-of b) ≡ true → valid (model-of (r .board)) ≡ true
 
--- what a refusal leaves as it was; a card that is refused gives the blank board. Of two price lists, which are lent to
--- be read, a refusal "hands back the empty part at the start of the shipped list" (02, A12).
+-- what a refusal leaves as it was; a card that is refused gives the blank board. Of two lists of prices, which are lent
+-- to be read, a refusal "hands back the empty part at the start of the shipped list" (02, A12), beside its number, for
+-- which a word is lent.
 abbrev pub As-before : {a : ℕ} → Given a → Type 0
 As-before (by-opening {o = o} p) = o .board ≡ blank
 As-before (by-command {b = b} {r = r} p) = r .board ≡ b
@@ -127,13 +128,13 @@ As-before (by-enumerating {out = out} {out′ = out′} p) = out′ ≡ out
 As-before (by-reading-prices {ps = ps} {ps′ = ps′} p) = ps′ ≡ ps
 As-before (by-writing-prices {out = out} {out′ = out′} p) = out′ ≡ out
 As-before (by-planning-runs {ss = ss} {ss′ = ss′} {cs = cs} {cs′ = cs′} p) = (ss′ ≡ ss) × (cs′ ≡ cs)
-As-before (by-taking-row {q = q} {row = row} {at = at} p) = (row ≡ []) × (at ≡ q)
+As-before (by-handing-back {q = q} {row = row} {at = at} p) = (row ≡ []) × (at ≡ q)
 As-before (by-reporting {r = r} {out = out} {out′ = out′} p) = Reports-before out out′ r
 As-before (by-replaying {xs = xs} {xs′ = xs′} {old = old} {new = new} p) = (xs′ ≡ xs) × (new ≡ old)
 
 -- what an accepted call leaves or was asked of: a valid board, a card that is not refused, a list without a fault and
 -- room for its prices, prices that can be written and room for them, a graph without a fault and room for its states
--- and replacement costs, or two price lists of which the row used has no fault
+-- and replacement costs, or two lists of prices of which the row used has no fault
 abbrev pub Leaves-valid : {a : ℕ} → Given a → Type 0
 Leaves-valid (by-opening {o = o} p) = valid (model-of (o .board)) ≡ true
 Leaves-valid (by-command {r = r} p) = valid (model-of (r .board)) ≡ true
@@ -148,7 +149,7 @@ Leaves-valid (by-enumerating {b = b} p) = valid (model-of b) ≡ true
 Leaves-valid (by-reading-prices {t = t} {n = n} {root = root} {ps = ps} p) = (room-refusal n root (length ps) ≡ 0) × (read-list n root t .answer ≡ 0)
 Leaves-valid (by-writing-prices {ps = ps} {n = n} {root = root} {out = out} p) = write-refusal n root ps (length out) ≡ 0
 Leaves-valid (by-planning-runs {ps = ps} {ms = ms} {n = n} {ss = ss} {cs = cs} p) = call-refusal (graph-of n ps ms) (length ss) (length cs) ≡ 0
-Leaves-valid (by-taking-row {a = a} {b = b} {n = n} {tail = tail} p) = row-refusal n tail a b ≡ 0
+Leaves-valid (by-handing-back {a = a} {b = b} {n = n} {tail = tail} p) = row-refusal n tail a b ≡ 0
 Leaves-valid (by-reporting {ws = ws} p) = open-refusal ws ≡ 0
 Leaves-valid (by-replaying {ws = ws} p) = open-refusal ws ≡ 0
 
@@ -267,8 +268,8 @@ demand-1 (by-planning-runs {ps = ps} {ms = ms} {n = n} {budget = budget} {ss = s
       as-before = runs-before g budget ss ss′ cs cs′ r x;
       leaves-valid = runs-passed g budget ss ss′ cs cs′ r x;
     }
-demand-1 (by-taking-row {a = a} {b = b} {p = p} {q = q} {n = n} {tail = tail} u) =
-    let x = row-taken u in
+demand-1 (by-handing-back {a = a} {b = b} {p = p} {q = q} {n = n} {tail = tail} u) =
+    let x = handed-back u in
     record {
       own-number = rw (x .number) (row-listed n tail a b);
       as-before = uses-empty n tail a b p q x;

@@ -1,8 +1,8 @@
 // The public calls, gathered here: open_card, pin, ban, clear, pin_group, ban_group, clear_group, set_budget,
 // take_back, press_list, look, write_card, write_history_card, to_history_card, to_plain_card, check_plan, list_plans,
 // plan_runs, read_prices, write_prices, row_used and replay. None requires anything of its caller: whatever is handed
-// in gets an answer, and after a refusal the board and all buffers are as they were; of a list of presses that is said
-// of the refused press, and what the earlier ones did stands.
+// in gets an answer, and after a refusal the board and all buffers are as they were, but for the word that takes
+// row_used's number; of a list of presses that is said of the refused press, and what the earlier ones did stands.
 mod checking; // checking.rt: a plan made elsewhere, checked for a board
 mod copies; // copies.rt: copies into the caller's buffers
 mod displaying; // displaying.rt: what planning found, copied there

@@ -9,9 +9,6 @@ pub use from_card::CardWeights;
 pub use from_card::list_weights;
 pub use from_card::prices_from_card;
 pub use from_card::weights_on_card;
+pub use price_list::MAX_LIST;
 pub use to_card::CardMade;
 pub use to_card::card_from_prices;
-
-// A price list has at most 961 lines, of at most 14 bytes: two positions of two digits, a price of seven, two spaces
-// and a line feed.
-pub const MAX_LIST: usize = 13_454;

@@ -139,7 +139,7 @@ module _ (n r : ℕ) (table : List ℕ) (t h w : ℕ) (small : n ≤ max-vertice
       )
 
 -- no line gives the weight of no arc, so the table tells whether an arc was named
-named-weight : (n r : ℕ) (ls : List Line) (t h : ℕ) → Sound n r ls → not (eqb (weight-named ls t h) no-arc) ≡ is-named ls t h
+pub named-weight : (n r : ℕ) (ls : List Line) (t h : ℕ) → Sound n r ls → not (eqb (weight-named ls t h) no-arc) ≡ is-named ls t h
 unfolding weight-named is-named any-of
 named-weight n r [] t h s = refl
 named-weight n r (l ∷ ls) t h (more s a) = go (names l t h) (named-weight n r ls t h s)

@@ -10,3 +10,7 @@ pub use read::PricesRead;
 pub use read::read_prices;
 pub use write::ListWritten;
 pub use write::write_prices;
+
+// A price list has at most 961 lines, of at most 14 bytes: two positions of two digits, a price of seven, two spaces
+// and a line feed.
+pub const MAX_LIST: usize = 13_454;

@@ -31,6 +31,7 @@ use Rattle.text.proofs.BufferLaws.{puts-filled}
 use Rattle.price_row.specs.Row.{price-ok}
 use Rattle.price_merge.specs.Rows.{rows-used}
 use Rattle.price_merge.specs.Merge.{prices-in, merged-prices, merged-text, merged, Merges}
+use Rattle.price_merge.specs.declared.merge.ListsMerged.{ListsMerged}
 use Rattle.price_merge.proofs.RowsLaws.{rows-whole, rows-front}
 
 -- PRICES WRITTEN: words behind them do not count
@@ -142,3 +143,33 @@ module _ {a : List ℕ} (b : List ℕ) {n r : ℕ} (old : List ℕ) {own-before 
           let q : used ≡ ps ++ rest = puts-filled u .buffer ∙ rw rows-are in
           let k : v ≡ write-result ps n r (length old) = g ∙ rw q (write-front n r ps rest whole (length old)) in
           record { result = rw (← first, ← second, z, w, ← k); buffer = h ∙ rw q (rw (text-front n r ps rest whole)) }
+
+-- the list lies within the buffer
+pub merged-within : (a b : List ℕ) (n r : ℕ) (old new : List ℕ) (x : ListsMerged) → Merges a b n r old new x → x .length ≤ length new
+unfolding merged write-result
+merged-within a b n r old new x m = by (eqb (read-result a n r cells .answer) 0) (eqb (read-result b n r cells .answer) 0) (eqb refusal 0) (m .result) (m .buffer)
+  where
+    text : List ℕ
+    text = merged-text n r a b
+
+    refusal : ℕ
+    refusal = write-refusal n r (merged-prices n r a b) (length old)
+
+    written : (c : Bool) → ListWritten
+    written c = cond c (record { answer = 0; length = length text }) (record { answer = refusal; length = 0 })
+
+    chosen : (c d e : Bool) → ListsMerged
+    chosen c d e =
+        cond c
+        (cond d (record { answer = written e .answer; list = 0; line = 0; length = written e .length })
+        (record { answer = read-result b n r cells .answer; list = 2; line = read-result b n r cells .line; length = 0 }))
+        (record { answer = read-result a n r cells .answer; list = 1; line = read-result a n r cells .line; length = 0 })
+
+    by : (c d e : Bool) → x ≡ chosen c d e → new ≡ cond (eqb (x .answer) 0) (in-front text old) old → x .length ≤ length new
+    by false d e q f = let z = ap (λ (y : ListsMerged). y .length) q in omega arith
+    by true false e q f = let z = ap (λ (y : ListsMerged). y .length) q in omega arith
+    by true true false q f = let z = ap (λ (y : ListsMerged). y .length) q in omega arith
+    by true true true q f =
+        let z = ap (λ (y : ListsMerged). y .length) q in
+        let g : new ≡ in-front text old = rw q at f in
+        omega (arith, ap (λ (l : List ℕ). length l) g ∙ length-append text (drop (length text) old))

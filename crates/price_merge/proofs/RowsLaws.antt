@@ -12,17 +12,18 @@ use lib.Seq.{take-append-le, drop-append-le}
 use borrow.Author.Tests.{le-ltb}
 use Rattle.base.specs.Lists.{all-of, join-below}
 use Rattle.base.proofs.AllOfLaws.{all-of-take, all-of-drop}
+use Rattle.base.proofs.GridLaws.{grid-in}
 use Rattle.base.proofs.JoinLaws.{join-same}
 use Rattle.instance.specs.Limits.{max-vertices}
 use Rattle.price_row.specs.Row.{row-at, has-price, is-own, chosen-row, room-refusal, price-ok, row-ok, row-refusal, row-used}
-use Rattle.price_row.specs.Reading.{Fits}
-use Rattle.price_row.proofs.RowLaws.{row-inside, room-zero, used-chosen, chosen-whole}
+use Rattle.price_row.specs.Readings.{Sized}
+use Rattle.price_row.proofs.RowLaws.{room-zero, used-chosen, chosen-whole}
 use Rattle.price_merge.specs.Rows.{rows-used}
 
 -- LISTS OF PRICES AND NO LINK
 module _ (n : ℕ) (a b : List ℕ) (small : n ≤ max-vertices) (x : n * n ≤ length a) (y : n * n ≤ length b)
     (p : all-of price-ok a ≡ true) (q : all-of price-ok b ≡ true) where
-  fits : (t : ℕ) → t < n → Fits n t (length a) (length b)
+  fits : (t : ℕ) → t < n → Sized n t (length a) (length b)
   fits t l = record { some = omega arith; small = small; below = l; first = x; second = y }
 
   pub none-refused : (t : ℕ) → t < n → row-refusal n t a b ≡ 0
@@ -36,7 +37,7 @@ module _ (n : ℕ) (a b : List ℕ) (small : n ≤ max-vertices) (x : n * n ≤ 
   row-length : (t : ℕ) → t < n → length (row-used n t a b) ≡ n
   row-length t l = ap (λ (r : List ℕ). length r) (used-chosen n t a b (none-refused t l)) ∙ chosen-whole n t a b (fits t l)
 
-  rows-length : (k : ℕ) → k ≤ n → length (join-below k (λ t. row-used n t a b)) ≡ k * n
+  pub rows-length : (k : ℕ) → k ≤ n → length (join-below k (λ t. row-used n t a b)) ≡ k * n
   unfolding join-below
   rows-length zero l = sym (zero-mul n)
   rows-length (suc k) l =
@@ -72,7 +73,7 @@ module _ (n : ℕ) (a b c d : List ℕ) (x : length a ≡ n * n) (y : length b �
   used-front : (t : ℕ) → t < n → row-used n t (a ++ c) (b ++ d) ≡ row-used n t a b
   unfolding row-used row-refusal chosen-row is-own
   used-front t l =
-      let i = row-inside n t l in rw (room-front t, row-front n t a c (omega arith), row-front n t b d (omega arith))
+      let i = grid-in n t n l in rw (room-front t, row-front n t a c (omega arith), row-front n t b d (omega arith))
 
   pub rows-front : rows-used n (a ++ c) (b ++ d) ≡ rows-used n a b
   unfolding rows-used

@@ -1,13 +1,14 @@
 -- What merging two price lists as text gives, as equations: the school's own list (02, A12) and the shipped one, each
 -- read as A3 has it, and the list of the rows that are used written. Assumes nothing: these are definitions.
 use mathlib.Core.Path.{_≡_}
-use mathlib.Core.Bool.{cond}
+use mathlib.Core.Bool.{Bool, cond}
 use mathlib.Core.List.{List}
 use Prim.Native.Nat.{ℕ}
 use lib.Dec.{eqb}
 use lib.ListN.{length}
-use Rattle.base.specs.Lists.{in-front}
+use Rattle.base.specs.Lists.{any-of, in-front}
 use Rattle.instance.specs.Limits.{cells}
+use Rattle.price_format.specs.Lines.{Line}
 use Rattle.price_format.specs.Reading.{read-list, prices-of}
 use Rattle.price_format.specs.Writing.{list-text}
 use Rattle.price_list.specs.Reads.{read-result}
@@ -26,6 +27,12 @@ merged-prices n r a b = rows-used n (prices-in n r a) (prices-in n r b)
 abbrev pub merged-text : (n root : ℕ) → (school shipped : List ℕ) → List ℕ
 merged-text n r a b = list-text n r (merged-prices n r a b)
 
+-- IN A TEACHER'S WORDS: a tail that a line of the school's list names gets its arcs from there, and no other; what an
+-- arc weighs then is `merged-weight` (proofs/MergedLaws.antt)
+unfoldable pub names-tail : List Line → (tail : ℕ) → Bool
+names-tail ls t = any-of (λ l. eqb (l .tail) t) ls
+
+-- THE CALL
 -- the school's list by its first faulty line, then the shipped one, and which of them it is; then 14 for the text
 unfoldable pub merged : (school shipped : List ℕ) → (n root bytes : ℕ) → ListsMerged
 merged a b n r k =

@@ -1,5 +1,5 @@
 -- Laws of rows, what document 02 says of them in words, and calls worked out. Assumes nothing.
 pub mod RowLaws
-pub mod ReadingLaws
+pub mod ReadingsLaws
 pub mod WorkedRows
 pub mod Learnt

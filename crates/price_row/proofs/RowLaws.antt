@@ -1,23 +1,23 @@
 -- Where a row lies in its list, what the call has where it is not refused for its numbers or its room, and its three
 -- ways out. Assumes nothing.
 use mathlib.Core.Path.{_≡_, refl, sym, _∙_, subst}
-use mathlib.Core.Bool.{Bool, true, false, _&&_, _||_, not, cond}
+use mathlib.Core.Bool.{Bool, true, false, _&&_, _||_, cond}
 use mathlib.Core.List.{List, []}
 use mathlib.Core.Logic.{_≢_}
 use Prim.Native.Nat.{ℕ, zero, suc, _+_, _-_, _*_, _≤_, _<_}
-use native.Mathlib.Nat.{mul-le-mul-right, suc-mul}
 use native.Mathlib.Omega.{arith}
 use lib.Dec.{ltb, leb, eqb}
 use lib.ListN.{length, take, drop}
 use borrow.Author.Tests.{ltb-false, leb-false, eqb-true, eqb-false, le-ltb, lt-leb, ne-eqb}
 use Rattle.base.specs.Lists.{any-of}
 use Rattle.base.proofs.BoolLaws.{or-false-left, or-false-right, passed}
+use Rattle.base.proofs.GridLaws.{grid-in}
 use Rattle.base.proofs.PartLaws.{length-part}
 use Rattle.instance.specs.Limits.{max-vertices, max-weight, no-arc, free, banned}
 use Rattle.instance.specs.Refusals.{no-vertex, buffer-short, count-out-of-range, out-of-range}
 use Rattle.instance.specs.Valid.{cell-ok}
 use Rattle.price_row.specs.Row.{row-at, has-price, is-own, chosen-row, room-refusal, price-ok, row-ok, row-refusal, row-numbers, row-used, address-at, chosen-address, row-address, Uses-row}
-use Rattle.price_row.specs.Reading.{Fits}
+use Rattle.price_row.specs.Readings.{Sized}
 
 -- a price or no link is what a cell without a mark may hold
 pub unmarked-ok : (w : ℕ) → cell-ok w free ≡ price-ok w
@@ -30,9 +30,6 @@ unmarked-ok w = by (leb w max-weight) (eqb w no-arc)
     by false false = refl
 
 -- WHERE A ROW LIES
-pub row-inside : (n t : ℕ) → t < n → t * n + n ≤ n * n
-row-inside n t h = subst (λ (k : ℕ). k ≤ n * n) (suc-mul t n) (mul-le-mul-right n h)
-
 pub part-is-row : (n t : ℕ) (ps : List ℕ) → take (t * n + n - t * n) (drop (t * n) ps) ≡ row-at n t ps
 unfolding row-at
 part-is-row n t ps = let e : t * n + n - t * n ≡ n = omega arith in rw e
@@ -42,7 +39,7 @@ pub positive : (n : ℕ) → eqb n 0 ≡ false → 0 < n
 positive zero e = absurd (eqb-false 0 0 e refl)
 positive (suc n) e = omega arith
 
-pub room-passed : (n t a b : ℕ) → room-refusal n t a b ≡ 0 → Fits n t a b
+pub room-passed : (n t a b : ℕ) → room-refusal n t a b ≡ 0 → Sized n t a b
 unfolding room-refusal
 room-passed n t a b e =
     let x = passed (eqb n 0 || ltb max-vertices n) 28 _ e in
@@ -56,7 +53,7 @@ room-passed n t a b e =
       second = ltb-false b (n * n) (or-false-right (ltb a (n * n)) (ltb b (n * n)) (z .0));
     }
 
-pub room-zero : (n t a b : ℕ) → Fits n t a b → room-refusal n t a b ≡ 0
+pub room-zero : (n t a b : ℕ) → Sized n t a b → room-refusal n t a b ≡ 0
 unfolding room-refusal
 room-zero n t a b f =
     let d : n ≢ 0 = λ e. let s = f .some in omega arith in
@@ -64,7 +61,7 @@ room-zero n t a b f =
 
 -- THE ROW THAT IS CHOSEN
 module _ (n t : ℕ) (a b : List ℕ) where
-  pub not-refused : row-refusal n t a b ≡ 0 → Fits n t (length a) (length b)
+  pub not-refused : row-refusal n t a b ≡ 0 → Sized n t (length a) (length b)
   unfolding row-refusal
   not-refused e = room-passed n t (length a) (length b) (by (eqb room 0) refl e)
     where
@@ -80,10 +77,10 @@ module _ (n t : ℕ) (a b : List ℕ) where
   used-chosen e = rw e
 
   -- it has n numbers
-  pub chosen-whole : Fits n t (length a) (length b) → length (chosen-row n t a b) ≡ n
+  pub chosen-whole : Sized n t (length a) (length b) → length (chosen-row n t a b) ≡ n
   unfolding chosen-row row-at
   chosen-whole f =
-      let i = row-inside n t (f .below) in
+      let i = grid-in n t n (f .below) in
       let x = f .first in
       let y = f .second in
       by (is-own n t a) (length-part (t * n) n a (omega arith)) (length-part (t * n) n b (omega arith))

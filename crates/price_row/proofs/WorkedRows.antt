@@ -1,4 +1,4 @@
--- Calls on two price lists (02, A12), as one list with one claim about the whole list: the answer, the row that is
+-- Calls on two lists of prices (02, A12), as one list with one claim about the whole list: the answer, the row that is
 -- handed back, and where it stands. Computed. Assumes nothing.
 use mathlib.Core.Path.{_≡_, refl}
 use mathlib.Core.List.{List, [], _∷_, map}
@@ -45,7 +45,7 @@ computed c =
       address = row-address (c .n) (c .tail) (c .school) (c .shipped) at-school at-shipped;
     }
 
--- rows of the school's list: no price; a price off the diagonal, which is 0; a number on the diagonal alone
+-- rows of the school's list: no price; the price 0, off the diagonal; a number on the diagonal alone
 abbrev school : List ℕ
 school = x ∷ x ∷ x ∷ 0 ∷ x ∷ x ∷ x ∷ x ∷ 7 ∷ []
 

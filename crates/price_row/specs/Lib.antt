@@ -1,3 +1,3 @@
--- The row of prices that is used for a tail, and what is said of it in the document's words. Assumes nothing.
+-- The row of prices that is used for a tail, and what document 02 says of it in words. Assumes nothing.
 pub mod Row
-pub mod Reading
+pub mod Readings

@@ -1,6 +1,6 @@
--- The school's own prices first (02, A12): for a tail, the row of the school's price list or that of the shipped one; by
--- which number the call is refused; what it hands back, and where that stands in memory. Assumes nothing: these are
--- definitions.
+-- The school's own prices first (02, A12): of two lists of prices, the school's and the shipped one, the row that is
+-- used for a tail; by which number the call is refused; what it hands back, and where that stands in memory. Assumes
+-- nothing: these are definitions.
 use mathlib.Core.Path.{_≡_}
 use mathlib.Core.Bool.{Bool, _||_, not, cond}
 use mathlib.Core.List.{List, [], _∷_}
@@ -58,7 +58,8 @@ row-numbers = 0 ∷ no-vertex ∷ buffer-short ∷ count-out-of-range ∷ out-of
 unfoldable pub row-used : (n tail : ℕ) → (school shipped : List ℕ) → List ℕ
 row-used n t a b = cond (eqb (row-refusal n t a b) 0) (chosen-row n t a b) []
 
--- An address is a block of memory and a byte in it. Number k of a list, of four bytes each, from the list's own address:
+-- an address is a block of memory and a byte in it; here that of number k of a list, each of four bytes, from the
+-- list's own
 abbrev pub address-at : (k : ℕ) → (list : ℕ × ℕ) → ℕ × ℕ
 address-at k p = (p .0, k * 4 + p .1)
 

@@ -1,5 +1,6 @@
 // The row of prices that is used for a tail: that of the school's own list if it has any price, or else that of the
-// shipped list. It is handed back as a part of the list that it stands in, and the contract says where that part begins.
+// shipped list. It is handed back as a part of the list that it stands in, and the contract says where that part
+// begins.
 ghost use mathlib.Core.Path.{_≡_};
 ghost use Prim.Native.Nat.{_*_, _≤_, _<_};
 ghost use lib.ListN.{length};
@@ -81,8 +82,8 @@ fn chosen_row<'a>(school: &'a [u32], shipped: &'a [u32], n: u32, tail: u32) -> &
     &shipped[start..end]
 }
 
-// The number of the answer goes into `answer`, 0 with the row, since a result that held the row beside a number would
-// be a struct that holds a reference.
+// The number goes into `answer`, and 0 with a row: a struct that held both would hold a reference, and every function
+// that has one is proved by hand.
 pub fn row_used<'a>(
     school: &'a [u32],
     shipped: &'a [u32],

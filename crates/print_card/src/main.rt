@@ -4,46 +4,16 @@
 // proved in `price_card`; this program only reads and writes.
 mod judge; // judge.rt: an input that may be longer than a list can be
 
+use arguments::number_at;
 use card_input::read_input;
 use judge::MAX_READ;
 use judge::judge_input;
 use libc::STDERR_FILENO;
 use libc::STDOUT_FILENO;
 use price_card::MAX_CARD;
-use price_list::numbers::scan_digits;
 
 // One byte more than is judged, which says that there is more.
 const MAX_INPUT: usize = MAX_READ + 1;
-
-// The longest word that is read as a number.
-const MAX_WORD: usize = 64;
-
-// A word of the arguments: whether it is a number, and which, up to that of `scan_digits` for all larger ones.
-struct Word {
-    good: bool,
-    value: u32,
-}
-
-fn number_in(word: &[u8]) -> Word {
-    let digits = scan_digits(word, 0);
-    let good = digits.end == word.len();
-    Word {
-        good,
-        value: digits.value,
-    }
-}
-
-fn number_at(i: usize) -> Word {
-    let mut word = [0u8; MAX_WORD];
-    let length = os::arg(i, &mut word);
-    if length == 0 {
-        return Word {
-            good: false,
-            value: 0,
-        };
-    }
-    number_in(&word[..length])
-}
 
 fn say_refusal(answer: u32, line: usize) {
     io::write_all(STDERR_FILENO, b"refused ");

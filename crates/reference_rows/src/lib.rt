@@ -1,5 +1,5 @@
-// The row of prices that is used for a feeder, from document 02, A12, alone: every place of a list is asked whose row it
-// is in, and the row's numbers are counted by what they are.
+// The row of prices that is used for a feeder, from document 02, A12, alone: every place of a list is asked whose row
+// it is in, and the row's numbers are counted by what they are.
 
 pub const BAD_COUNT: u32 = 29; // "in order 29"
 

@@ -44,6 +44,24 @@ pub fn plain(n: u32, feeder: u32) -> Call {
     c
 }
 
+// Whether a number of the row is a price.
+pub fn has_price(s: Shown) -> bool {
+    for k in 0..ROW_ROOM {
+        if k < s.length && s.numbers[k] < NO_LINK {
+            return true;
+        }
+    }
+    false
+}
+
+// The row with another number at a place.
+pub fn with_number_changed(s: Shown, place: u32) -> Shown {
+    let mut f = s;
+    let at = (place % ROW_ROOM as u32) as usize;
+    f.numbers[at] = s.numbers[at] ^ 1;
+    f
+}
+
 // The call with another number in a place of a list.
 pub fn with_number(c: Call, of_school: bool, place: u32, number: u32) -> Call {
     let mut d = c;

@@ -1,5 +1,5 @@
-// Random calls: every count, any feeder, lists with few prices or many and with numbers that are none, handed over
-// whole or too short.
+// Random calls: every count, any feeder, lists with few prices or many and with numbers that are none, of which as much
+// is handed over as is needed, or more, or one place too few.
 use crate::calls;
 use crate::calls::Call;
 use crate::calls::ROOM;
@@ -47,7 +47,8 @@ fn damaged(c: Call, g: Random) -> Call {
         1 => d.feeder = access::plus(c.n, c.feeder % 2),
         2 => d.school_length = short,
         3 => d.shipped_length = short,
-        _ => d.school_length = access::times(c.n, c.n),
+        4..=17 => d.school_length = access::plus(short, 1),
+        _ => d.shipped_length = access::plus(short, 1),
     }
     d
 }

@@ -3,6 +3,7 @@ use crate::calls;
 use crate::calls::Call;
 use crate::calls::Shown;
 use reference::access;
+use reference::random;
 use reference::tally;
 use reference::tally::Tally;
 use reference_rows::RowPart;
@@ -16,8 +17,8 @@ const LENGTH: u32 = 1;
 
 const NUMBER: u32 = 2;
 
-// The row of the shipped list where the school's is used, its next row, and its row from one place on: a row of the
-// school's list that is used has a price, which stands nowhere else.
+// The same row of the other list, the next row, and the row from one place on: of a row that has a price, which stands
+// nowhere else.
 const OTHER_LIST: u32 = 3;
 
 const NEXT_ROW: u32 = 4;
@@ -29,7 +30,7 @@ const KINDS: u32 = 6;
 fn other_part(u: RowPart, kind: u32) -> RowPart {
     let mut v = u;
     match kind {
-        OTHER_LIST => v.is_school = false,
+        OTHER_LIST => v.is_school = !u.is_school,
         NEXT_ROW => v.from = access::plus(u.from, u.length),
         _ => v.from = access::plus(u.from, 1),
     }
@@ -41,10 +42,23 @@ fn with_fault(c: Call, u: RowPart, s: Shown, kind: u32) -> Shown {
     match kind {
         ANSWER => f.answer = s.answer ^ 1,
         LENGTH => f.length = s.length ^ 1,
-        NUMBER => f.numbers[(u.from % 32) as usize] = s.numbers[(u.from % 32) as usize] ^ 1,
+        NUMBER => f = calls::with_number_changed(
+            s,
+            random::below(random::seeded(u.from), u.length),
+        ),
         _ => f = calls::part(c, other_part(u, kind)),
     }
     f
+}
+
+// A row has a number to change; and where it has a price, no other part is the same.
+fn applies(kind: u32, u: RowPart, e: Shown) -> bool {
+    match kind {
+        ANSWER => true,
+        LENGTH => true,
+        NUMBER => 0 < u.length,
+        _ => calls::has_price(e),
+    }
 }
 
 // The result of a call held to what it should be, and then with each kind of fault.
@@ -54,7 +68,7 @@ pub fn tried(tally: Tally, which: u32, c: Call) -> Tally {
     let s = calls::by_product(c);
     let mut t = tally::checked(tally, which, calls::is_right(s, e));
     for kind in 0..KINDS {
-        if u.is_school || kind < OTHER_LIST {
+        if applies(kind, u, e) {
             t = tally::with(t, access::plus(FIRST_COUNT, kind), 1);
             t = tally::planted(t, !calls::is_right(with_fault(c, u, s, kind), e));
         }

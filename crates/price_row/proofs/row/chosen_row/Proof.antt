@@ -1,13 +1,13 @@
 -- The row ends within both lists, so either part can be taken; which one is handed back goes by the school's.
-use mathlib.Core.Path.{_≡_, sym, ap, _∙_}
+use mathlib.Core.Path.{sym, ap, _∙_}
 use Prim.Native.Nat.{ℕ, _+_, _*_, _≤_}
 use native.Mathlib.Omega.{arith}
 use lib.ListN.{length}
 use borrow.Author.Needs.{needs}
-use Rattle.base.proofs.GridLaws.{square-most}
+use Rattle.base.proofs.GridLaws.{grid-in, square-most}
 use Rattle.instance.specs.Limits.{max-vertices}
 use Rattle.price_row.specs.Row.{has-price}
-use Rattle.price_row.proofs.RowLaws.{row-inside, part-is-row, chosen-own, chosen-shipped}
+use Rattle.price_row.proofs.RowLaws.{part-is-row, chosen-own, chosen-shipped}
 use Rattle.price_row.proofs.row.chosen_row.Statement.{statement}
 use Rattle.price_row.proofs.row.chosen_row.Tie as tie
 
@@ -16,7 +16,7 @@ row-end c = c .args .tail * c .args .n + c .args .n
 
 inside : (c : tie.Start) → (row-end c ≤ 1024) × (row-end c ≤ length (c .args .school .now)) × (row-end c ≤ length (c .args .shipped .now))
 inside c =
-    let i = row-inside (c .args .n) (c .args .tail) (c .pre .1) in
+    let i = grid-in (c .args .n) (c .args .tail) (c .args .n) (c .pre .1) in
     let s = square-most (c .args .n) max-vertices (c .pre .0) in
     let a = c .pre .2 in
     let b = c .pre .3 in

@@ -1,5 +1,5 @@
 -- Three ways out, each a law of RowLaws.
-use mathlib.Core.Path.{_≡_, sym, ap, _∙_}
+use mathlib.Core.Path.{sym, ap, _∙_}
 use lib.ListN.{length}
 use borrow.Author.Needs.{needs}
 use Rattle.price_row.specs.Row.{row-ok}

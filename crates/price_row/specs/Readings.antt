@@ -1,6 +1,6 @@
 -- What document 02, A12, says of a call in words, with no test that computes: which row is handed back and where it
--- stands, and by which number a call is refused. The definitions of Row say this and nothing else (`reads` and `only` in
--- proofs/ReadingLaws.antt). Assumes nothing: these are definitions.
+-- stands, and by which number a call is refused. The definitions of Row say this and nothing else (`reads` and `only`
+-- in proofs/ReadingsLaws.antt). Assumes nothing: these are definitions.
 use mathlib.Core.Path.{_≡_}
 use mathlib.Core.List.{List, []}
 use mathlib.Core.Logic.{_≢_, _⊎_}
@@ -34,7 +34,7 @@ pub record Part-of (n tail : ℕ) (list : List ℕ) (list-address : ℕ × ℕ) 
   pub begins : address ≡ address-at (tail * n) list-address
 
 -- "Both lists hold n times n 32-bit prices": what there is where 29, 9 and 14 are not due
-pub record Fits (n tail school shipped : ℕ) : Type 0 where
+pub record Sized (n tail school shipped : ℕ) : Type 0 where
   pub some : 0 < n
   pub small : n ≤ max-vertices
   pub below : tail < n
@@ -48,11 +48,11 @@ pub data Row-reads (school shipped : List ℕ) (school-address shipped-address :
   tail-refused : 0 < n → n ≤ max-vertices → n ≤ tail → Row-reads school shipped school-address shipped-address n tail no-vertex [] shipped-address
   room-refused : 0 < n → n ≤ max-vertices → tail < n → (length school < n * n) ⊎ (length shipped < n * n)
       → Row-reads school shipped school-address shipped-address n tail buffer-short [] shipped-address
-  own-refused : Fits n tail (length school) (length shipped) → Any-price n tail school → Bad-number n tail school
+  own-refused : Sized n tail (length school) (length shipped) → Any-price n tail school → Bad-number n tail school
       → Row-reads school shipped school-address shipped-address n tail out-of-range [] shipped-address
-  shipped-refused : Fits n tail (length school) (length shipped) → (Any-price n tail school → ⊥) → Bad-number n tail shipped
+  shipped-refused : Sized n tail (length school) (length shipped) → (Any-price n tail school → ⊥) → Bad-number n tail shipped
       → Row-reads school shipped school-address shipped-address n tail out-of-range [] shipped-address
-  own-used : {row : List ℕ} {address : ℕ × ℕ} → Fits n tail (length school) (length shipped) → Any-price n tail school → (Bad-number n tail school → ⊥)
+  own-used : {row : List ℕ} {address : ℕ × ℕ} → Sized n tail (length school) (length shipped) → Any-price n tail school → (Bad-number n tail school → ⊥)
       → Part-of n tail school school-address row address → Row-reads school shipped school-address shipped-address n tail 0 row address
-  shipped-used : {row : List ℕ} {address : ℕ × ℕ} → Fits n tail (length school) (length shipped) → (Any-price n tail school → ⊥) → (Bad-number n tail shipped → ⊥)
+  shipped-used : {row : List ℕ} {address : ℕ × ℕ} → Sized n tail (length school) (length shipped) → (Any-price n tail school → ⊥) → (Bad-number n tail shipped → ⊥)
       → Part-of n tail shipped shipped-address row address → Row-reads school shipped school-address shipped-address n tail 0 row address

@@ -3,7 +3,7 @@
 use mathlib.Core.Path.{_≡_, refl, sym, ap, _∙_}
 use mathlib.Core.Bool.{Bool, true, false, _||_, not}
 use mathlib.Core.List.{List}
-use mathlib.Core.Logic.{_≢_, _⊎_, inl, inr, ⊎-elim}
+use mathlib.Core.Logic.{inl, inr, ⊎-elim}
 use Prim.Native.Nat.{ℕ, _+_, _*_, _≤_, _<_}
 use native.Mathlib.Omega.{arith}
 use lib.Dec.{ltb, leb, eqb}
@@ -13,13 +13,14 @@ use borrow.Author.Tests.{ltb-true, ltb-false, leb-true, leb-false, eqb-true, eqb
 use Rattle.base.specs.Lists.{any-of}
 use Rattle.base.proofs.BoolLaws.{or-cases, or-left, or-right, or-false-left, or-false-right, or-both-false, not-both, is-false, is-true}
 use Rattle.base.proofs.ElementLaws.{any-of-at, any-of-found}
+use Rattle.base.proofs.GridLaws.{grid-in}
 use Rattle.base.proofs.ListLaws.{all-of-any}
 use Rattle.base.proofs.PartLaws.{length-part}
 use Rattle.instance.specs.Limits.{max-vertices, max-weight, no-arc}
 use Rattle.instance.specs.Refusals.{no-vertex, buffer-short, count-out-of-range, out-of-range}
 use Rattle.price_row.specs.Row.{row-at, has-price, is-own, chosen-row, room-refusal, price-ok, row-ok, row-refusal, row-used, address-at, chosen-address, row-address, Uses-row}
-use Rattle.price_row.specs.Reading.{number-at, Any-price, Bad-number, Part-of, Fits, Row-reads, count-refused, tail-refused, room-refused, own-refused, shipped-refused, own-used, shipped-used}
-use Rattle.price_row.proofs.RowLaws.{row-inside, positive, room-passed, room-zero, uses-nothing, uses-chosen}
+use Rattle.price_row.specs.Readings.{number-at, Any-price, Bad-number, Part-of, Sized, Row-reads, count-refused, tail-refused, room-refused, own-refused, shipped-refused, own-used, shipped-used}
+use Rattle.price_row.proofs.RowLaws.{positive, room-passed, room-zero, uses-nothing, uses-chosen}
 
 -- A ROW BY ITS NUMBERS
 module _ (n t : ℕ) (ps : List ℕ) (l : t * n + n ≤ length ps) where
@@ -30,7 +31,7 @@ module _ (n t : ℕ) (ps : List ℕ) (l : t * n + n ≤ length ps) where
   unfolding row-at
   row-whole = length-part (t * n) n ps l
 
-  row-number : (j : ℕ) → j < n → getD row j no-arc ≡ number-at n t ps j
+  pub row-number : (j : ℕ) → j < n → getD row j no-arc ≡ number-at n t ps j
   unfolding row-at
   row-number j h = getD-take n (drop (t * n) ps) j no-arc h ∙ getD-drop (t * n) ps j no-arc
 
@@ -43,7 +44,7 @@ module _ (n t : ℕ) (ps : List ℕ) (l : t * n + n ≤ length ps) where
       ext-getD no-arc ws row (w ∙ sym row-whole) (λ j h. let i : j < n = omega arith in x .same j i ∙ sym (row-number j i))
 
   -- HAS ANY PRICE
-  priced-read : has-price row ≡ true → Any-price n t ps
+  pub priced-read : has-price row ≡ true → Any-price n t ps
   unfolding has-price
   priced-read h =
       let f = any-of-found (λ w. not (eqb w no-arc)) no-arc row h in
@@ -52,7 +53,7 @@ module _ (n t : ℕ) (ps : List ℕ) (l : t * n + n ≤ length ps) where
       let i : f .0 < n = omega arith in
       record { place = f .0; inside = i; priced = λ e. eqb-false (getD row (f .0) no-arc) no-arc (not-true (eqb (getD row (f .0) no-arc) no-arc) (f .2)) (row-number (f .0) i ∙ e) }
 
-  priced-made : Any-price n t ps → has-price row ≡ true
+  pub priced-made : Any-price n t ps → has-price row ≡ true
   unfolding has-price
   priced-made x =
       let w = row-whole in
@@ -104,11 +105,11 @@ module _ (n t : ℕ) (ps : List ℕ) (l : t * n + n ≤ length ps) where
 
 -- THE TWO DIRECTIONS
 module _ (a b : List ℕ) (p q : ℕ × ℕ) (n t : ℕ) where
-  own-inside : Fits n t (length a) (length b) → t * n + n ≤ length a
-  own-inside f = let i = row-inside n t (f .below) in let l = f .first in omega arith
+  own-inside : Sized n t (length a) (length b) → t * n + n ≤ length a
+  own-inside f = let i = grid-in n t n (f .below) in let l = f .first in omega arith
 
-  shipped-inside : Fits n t (length a) (length b) → t * n + n ≤ length b
-  shipped-inside f = let i = row-inside n t (f .below) in let l = f .second in omega arith
+  shipped-inside : Sized n t (length a) (length b) → t * n + n ≤ length b
+  shipped-inside f = let i = grid-in n t n (f .below) in let l = f .second in omega arith
 
   abbrev Reads : Type 0
   Reads = Row-reads a b p q n t (row-refusal n t a b) (row-used n t a b) (row-address n t a b p q)
@@ -117,7 +118,7 @@ module _ (a b : List ℕ) (p q : ℕ × ℕ) (n t : ℕ) where
   short = ltb (length a) (n * n) || ltb (length b) (n * n)
 
   -- the numbers and the room are right
-  reads-row : Fits n t (length a) (length b) → Reads
+  reads-row : Sized n t (length a) (length b) → Reads
   unfolding row-refusal row-used row-address chosen-row chosen-address is-own
   reads-row f = which (has-price (row-at n t a)) refl
     where

@@ -1,0 +1,130 @@
+-- What a merged list says of an arc: the weight that the school's list gives it where a line of that list has the arc's
+-- tail, and otherwise the weight that the shipped list gives it. Assumes nothing.
+use mathlib.Core.Path.{_≡_, refl, sym, ap, _∙_}
+use mathlib.Core.Bool.{Bool, true, false, _&&_, _||_, not, cond, true≢false}
+use mathlib.Core.List.{List, [], _∷_, _++_}
+use mathlib.Core.Logic.{⊎-elim}
+use Prim.Native.Nat.{ℕ, zero, suc, _+_, _*_, _/_, _%_, _≤_, _<_}
+use native.Mathlib.Nat.{eq-or-lt-of-le}
+use native.Mathlib.Omega.{arith}
+use lib.Arith.{digits-lt}
+use lib.Dec.{eqb}
+use lib.ListN.{length, getD, List·getD-append}
+use lib.Seq.{getD-append-add}
+use borrow.Author.Tests.{eq-eqb, ne-eqb, eqb-false, not-true}
+use Rattle.base.specs.Lists.{any-of, join-below}
+use Rattle.base.proofs.BoolLaws.{same-test, and-left, or-cases, or-left, or-right}
+use Rattle.base.proofs.GridLaws.{grid-in, grid-at-row, grid-at-column}
+use Rattle.base.proofs.ListLaws.{getD-tabulate}
+use Rattle.instance.specs.Limits.{max-vertices, no-arc}
+use Rattle.price_format.specs.Lines.{Line}
+use Rattle.price_format.specs.Reading.{names, is-named, weight-named, prices-of, read-list}
+use Rattle.price_format.proofs.ReadingLaws.{Sound, none, more, list-sound}
+use Rattle.price_list.proofs.LineLaws.{named-weight}
+use Rattle.price_row.specs.Row.{row-at, has-price, is-own, chosen-row, row-used}
+use Rattle.price_row.specs.Readings.{Any-price, number-at}
+use Rattle.price_row.proofs.RowLaws.{used-chosen}
+use Rattle.price_row.proofs.ReadingsLaws.{row-number, priced-read, priced-made}
+use Rattle.price_merge.specs.Rows.{rows-used}
+use Rattle.price_merge.specs.Merge.{prices-in, merged-prices, names-tail}
+use Rattle.price_merge.proofs.RowsLaws.{none-refused, rows-length}
+use Rattle.price_merge.proofs.MergeLaws.{read-length, read-ok}
+
+-- LINES WITH A TAIL
+named-tail : (ls : List Line) (t h : ℕ) → is-named ls t h ≡ true → names-tail ls t ≡ true
+unfolding is-named names names-tail any-of
+named-tail [] t h e = absurd (true≢false (sym e))
+named-tail (l ∷ ls) t h e =
+    ⊎-elim (λ x. or-left (eqb (l .tail) t) (any-of (λ m. eqb (m .tail) t) ls) (and-left (eqb (l .tail) t) (eqb (l .head) h) x))
+    (λ x. or-right (eqb (l .tail) t) (any-of (λ m. eqb (m .tail) t) ls) (named-tail ls t h x))
+    (or-cases (eqb (l .tail) t && eqb (l .head) h) (any-of (λ m. eqb (m .tail) t && eqb (m .head) h) ls) e)
+
+tail-named : (n r : ℕ) (ls : List Line) (t : ℕ) → Sound n r ls → names-tail ls t ≡ true → (h : ℕ) × (h < n) × (is-named ls t h ≡ true)
+unfolding is-named names names-tail any-of
+tail-named n r [] t none e = absurd (true≢false (sym e))
+tail-named n r (l ∷ ls) t (more s a) e = go (eqb (l .tail) t) refl e (tail-named n r ls t s)
+  where
+    go : (c : Bool) → eqb (l .tail) t ≡ c → c || any-of (λ m. eqb (m .tail) t) ls ≡ true
+        → (any-of (λ m. eqb (m .tail) t) ls ≡ true → (h : ℕ) × (h < n) × (any-of (λ m. eqb (m .tail) t && eqb (m .head) h) ls ≡ true))
+        → (h : ℕ) × (h < n) × ((eqb (l .tail) t && eqb (l .head) h) || any-of (λ m. eqb (m .tail) t && eqb (m .head) h) ls ≡ true)
+    go true q x f =
+        (l .head, a .head, or-left (eqb (l .tail) t && eqb (l .head) (l .head)) (any-of (λ m. eqb (m .tail) t && eqb (m .head) (l .head)) ls) (rw (q, eq-eqb (l .head) (l .head) refl)))
+    go false q x f =
+        let y = f x in
+        (y .0, y .1, or-right (eqb (l .tail) t && eqb (l .head) (y .0)) (any-of (λ m. eqb (m .tail) t && eqb (m .head) (y .0)) ls) (y .2))
+
+-- A ROW OF A LIST THAT WAS READ
+module _ (n r : ℕ) (text : List ℕ) (t : ℕ) (l : t < n) where
+  abbrev lines : List Line
+  lines = read-list n r text .lines
+
+  inside : t * n + n ≤ length (prices-in n r text)
+  inside = let e = read-length n r text in let g = grid-in n t n l in omega arith
+
+  read-weight : (h : ℕ) → h < n → number-at n t (prices-in n r text) h ≡ weight-named lines t h
+  unfolding prices-of
+  read-weight h k =
+      getD-tabulate (n * n) (λ i. weight-named lines (i / n) (i % n)) (t * n + h) no-arc (digits-lt l k) ∙ rw (grid-at-row n t h k, grid-at-column n t h k)
+
+  own-is-named : is-own n t (prices-in n r text) ≡ names-tail lines t
+  unfolding is-own
+  own-is-named =
+      same-test (has-price (row-at n t (prices-in n r text))) (names-tail lines t)
+      (λ e.
+      let p = priced-read n t (prices-in n r text) inside e in
+      let h = p .place in
+      named-tail lines t h
+      (sym (named-weight n r lines t h (list-sound n r text)) ∙ ap not (ne-eqb (weight-named lines t h) no-arc (λ z. p .priced (read-weight h (p .inside) ∙ z)))))
+      (λ e.
+      let f = tail-named n r lines t (list-sound n r text) e in
+      let h = f .0 in
+      priced-made n t (prices-in n r text) inside
+      (record {
+        place = h;
+        inside = f .1;
+        priced = λ z. eqb-false (weight-named lines t h) no-arc (not-true (eqb (weight-named lines t h) no-arc) (named-weight n r lines t h (list-sound n r text) ∙ f .2)) (sym (read-weight h (f .1)) ∙ z);
+      }))
+
+-- ROWS ONE BEHIND THE OTHER, by index
+module _ (n : ℕ) (g : ℕ → List ℕ) where
+  row-in-join : (k t h : ℕ) → ((j : ℕ) → j ≤ k → length (join-below j g) ≡ j * n) → t < k → h < n → getD (join-below k g) (t * n + h) no-arc ≡ getD (g t) h no-arc
+  unfolding join-below
+  row-in-join zero t h f l b = absurd (omega arith)
+  row-in-join (suc k) t h f l b =
+      ⊎-elim
+      (λ (e : t ≡ k).
+      let s = f k (omega arith) in
+      rw e (ap (λ (i : ℕ). getD (join-below k g ++ g k) (i + h) no-arc) (sym s) ∙ getD-append-add (join-below k g) (g k) h no-arc))
+      (λ (m : t < k).
+      let s = f k (omega arith) in
+      let q = grid-in n t k m in
+      List·getD-append (join-below k g) (g k) no-arc (t * n + h) (omega arith) ∙ row-in-join k t h (λ j c. f j (omega arith)) m b)
+      (eq-or-lt-of-le {n = t} {m = k} (omega arith))
+
+-- THE LAW
+module _ (n r : ℕ) (a b : List ℕ) (small : n ≤ max-vertices) (t h : ℕ) (l : t < n) (k : h < n) where
+  abbrev own : List ℕ
+  own = prices-in n r a
+
+  abbrev others : List ℕ
+  others = prices-in n r b
+
+  enough : (text : List ℕ) → n * n ≤ length (prices-in n r text)
+  enough text = let e = read-length n r text in omega arith
+
+  used-weight : getD (row-used n t own others) h no-arc ≡ cond (is-own n t own) (weight-named (read-list n r a .lines) t h) (weight-named (read-list n r b .lines) t h)
+  unfolding chosen-row
+  used-weight =
+      ap (λ (ws : List ℕ). getD ws h no-arc) (used-chosen n t own others (none-refused n own others small (enough a) (enough b) (read-ok n r a) (read-ok n r b) t l))
+      ∙ by (is-own n t own)
+    where
+      by : (c : Bool) → getD (cond c (row-at n t own) (row-at n t others)) h no-arc ≡ cond c (weight-named (read-list n r a .lines) t h) (weight-named (read-list n r b .lines) t h)
+      by true = row-number n t own (inside n r a t l) h k ∙ read-weight n r a t l h k
+      by false = row-number n t others (inside n r b t l) h k ∙ read-weight n r b t l h k
+
+  pub merged-weight : number-at n t (merged-prices n r a b) h
+      ≡ cond (names-tail (read-list n r a .lines) t) (weight-named (read-list n r a .lines) t h) (weight-named (read-list n r b .lines) t h)
+  unfolding merged-prices rows-used
+  merged-weight =
+      row-in-join n (λ s. row-used n s own others) n t h (rows-length n own others small (enough a) (enough b) (read-ok n r a) (read-ok n r b)) l k
+      ∙ used-weight ∙ rw (own-is-named n r a t l)
