@@ -95,7 +95,8 @@ fn check() -> [u32; 2] {
         let feeder = g.below(n + 2);
         for place in 0..n as usize + 1 {
             let told = ours(&school, &shipped, n, feeder, place);
-            assert!(told == plain(&school, &shipped, n, feeder, place), "{n} {feeder} {school:?} {shipped:?}: {told:?}");
+            let alike = told == plain(&school, &shipped, n, feeder, place);
+            assert!(alike, "{n} {feeder} {school:?} {shipped:?}: {told:?}");
             counts[(told.0 != 0) as usize] += (place == 0) as u32;
         }
     }

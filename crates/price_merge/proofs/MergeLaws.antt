@@ -6,19 +6,18 @@ use mathlib.Core.List.{List, _++_}
 use mathlib.Core.Logic.{_≢_}
 use Prim.Native.Nat.{ℕ, _+_, _*_, _/_, _%_, _≤_, _<_}
 use native.Mathlib.Omega.{arith}
-use lib.Dec.{ltb, leb, eqb}
-use lib.ListN.{length, getD, drop, length-append, List·getD-append}
+use lib.Dec.{leb, eqb}
+use lib.ListN.{length, drop, length-append, List·getD-append}
 use borrow.Author.Tests.{eqb-true, le-ltb, ne-eqb}
 use Rattle.base.specs.Bounded.{all-below}
-use Rattle.base.specs.Lists.{tabulate, all-of, in-front, join-below}
+use Rattle.base.specs.Lists.{all-of, in-front}
 use Rattle.base.proofs.AllOfLaws.{all-of-tabulate}
 use Rattle.base.proofs.BoundedLaws.{all-same}
 use Rattle.base.proofs.JoinLaws.{join-same}
 use Rattle.base.proofs.GridLaws.{square-most}
 use Rattle.base.proofs.ListLaws.{length-tabulate}
 use Rattle.instance.specs.Limits.{max-vertices, max-weight, no-arc, cells}
-use Rattle.price_format.specs.Lines.{Line}
-use Rattle.price_format.specs.Reading.{weight-named, prices-of, read-list, count-refusal, room-refusal}
+use Rattle.price_format.specs.Reading.{weight-named, prices-of, read-list, room-refusal}
 use Rattle.price_format.specs.Writing.{price-at, place-text, list-text, place-ok, prices-refusal, write-refusal}
 use Rattle.price_format.proofs.ReadingLaws.{list-sound, sound-ok}
 use Rattle.price_list.specs.Reads.{read-result, Reads}

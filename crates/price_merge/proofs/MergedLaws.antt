@@ -22,7 +22,7 @@ use Rattle.price_format.specs.Reading.{names, is-named, weight-named, prices-of
 use Rattle.price_format.proofs.ReadingLaws.{Sound, none, more, list-sound}
 use Rattle.price_list.proofs.LineLaws.{named-weight}
 use Rattle.price_row.specs.Row.{row-at, has-price, is-own, chosen-row, row-used}
-use Rattle.price_row.specs.Readings.{Any-price, number-at}
+use Rattle.price_row.specs.Readings.{number-at}
 use Rattle.price_row.proofs.RowLaws.{used-chosen}
 use Rattle.price_row.proofs.ReadingsLaws.{row-number, priced-read, priced-made}
 use Rattle.price_merge.specs.Rows.{rows-used}

@@ -1,12 +1,11 @@
 -- Rows one behind the other: that none of them is refused where each number is a price or no link, that they are then n
 -- times n numbers, and that words behind the lists do not count. Assumes nothing.
-use mathlib.Core.Path.{_≡_, refl, sym, ap, _∙_}
+use mathlib.Core.Path.{_≡_, sym, ap, _∙_}
 use mathlib.Core.Bool.{Bool, true, false, cond}
 use mathlib.Core.List.{List, _++_}
 use Prim.Native.Nat.{ℕ, zero, suc, _+_, _*_, _≤_, _<_}
 use native.Mathlib.Nat.{suc-mul, zero-mul}
 use native.Mathlib.Omega.{arith}
-use lib.Dec.{ltb, eqb}
 use lib.ListN.{length, drop, length-append, length-drop}
 use lib.Seq.{take-append-le, drop-append-le}
 use borrow.Author.Tests.{le-ltb}
@@ -15,7 +14,7 @@ use Rattle.base.proofs.AllOfLaws.{all-of-take, all-of-drop}
 use Rattle.base.proofs.GridLaws.{grid-in}
 use Rattle.base.proofs.JoinLaws.{join-same}
 use Rattle.instance.specs.Limits.{max-vertices}
-use Rattle.price_row.specs.Row.{row-at, has-price, is-own, chosen-row, room-refusal, price-ok, row-ok, row-refusal, row-used}
+use Rattle.price_row.specs.Row.{row-at, is-own, chosen-row, room-refusal, price-ok, row-ok, row-refusal, row-used}
 use Rattle.price_row.specs.Readings.{Sized}
 use Rattle.price_row.proofs.RowLaws.{room-zero, used-chosen, chosen-whole}
 use Rattle.price_merge.specs.Rows.{rows-used}

@@ -1,12 +1,11 @@
 -- The loop has put the rows of the tails that it passed.
-use mathlib.Core.Path.{_≡_, refl, sym, _∙_}
-use mathlib.Core.List.{List}
-use Prim.Native.Nat.{ℕ, _-_, _≤_}
+use mathlib.Core.Path.{_≡_, refl, _∙_}
+use Prim.Native.Nat.{_-_, _≤_}
 use native.Mathlib.Omega.{arith}
 use lib.ListN.{length}
 use borrow.Author.Needs.{needs}
 use Rattle.base.specs.Lists.{join-below}
-use Rattle.text.specs.Buffer.{Room, Puts}
+use Rattle.text.specs.Buffer.{Puts}
 use Rattle.text.proofs.JoinLaws.{join-none, join-room, join-next}
 use Rattle.price_row.specs.Row.{row-used}
 use Rattle.price_merge.specs.Rows.{rows-used}
