@@ -112,19 +112,23 @@ module _ (n r : ℕ) (a b : List ℕ) (small : n ≤ max-vertices) (t h : ℕ) (
   enough : (text : List ℕ) → n * n ≤ length (prices-in n r text)
   enough text = let e = read-length n r text in omega arith
 
-  used-weight : getD (row-used n t own others) h no-arc ≡ cond (is-own n t own) (weight-named (read-list n r a .lines) t h) (weight-named (read-list n r b .lines) t h)
+  abbrev weight-by : (named : Bool) → ℕ
+  weight-by c = cond c (weight-named (read-list n r a .lines) t h) (weight-named (read-list n r b .lines) t h)
+
+  -- of the row that is used
+  pub used-weight : getD (row-used n t own others) h no-arc ≡ weight-by (names-tail (read-list n r a .lines) t)
   unfolding chosen-row
   used-weight =
       ap (λ (ws : List ℕ). getD ws h no-arc) (used-chosen n t own others (none-refused n own others small (enough a) (enough b) (read-ok n r a) (read-ok n r b) t l))
-      ∙ by (is-own n t own)
+      ∙ by (is-own n t own) ∙ rw (own-is-named n r a t l)
     where
-      by : (c : Bool) → getD (cond c (row-at n t own) (row-at n t others)) h no-arc ≡ cond c (weight-named (read-list n r a .lines) t h) (weight-named (read-list n r b .lines) t h)
+      by : (c : Bool) → getD (cond c (row-at n t own) (row-at n t others)) h no-arc ≡ weight-by c
       by true = row-number n t own (inside n r a t l) h k ∙ read-weight n r a t l h k
       by false = row-number n t others (inside n r b t l) h k ∙ read-weight n r b t l h k
 
-  pub merged-weight : number-at n t (merged-prices n r a b) h
-      ≡ cond (names-tail (read-list n r a .lines) t) (weight-named (read-list n r a .lines) t h) (weight-named (read-list n r b .lines) t h)
+  -- and of the merged list
+  pub merged-weight : number-at n t (merged-prices n r a b) h ≡ weight-by (names-tail (read-list n r a .lines) t)
   unfolding merged-prices rows-used
   merged-weight =
       row-in-join n (λ s. row-used n s own others) n t h (rows-length n own others small (enough a) (enough b) (read-ok n r a) (read-ok n r b)) l k
-      ∙ used-weight ∙ rw (own-is-named n r a t l)
+      ∙ used-weight

@@ -69,10 +69,17 @@ module _ (n : ℕ) (a b c d : List ℕ) (x : length a ≡ n * n) (y : length b �
         le-ltb (length b) (n * n) (omega arith),
       )
 
-  used-front : (t : ℕ) → t < n → row-used n t (a ++ c) (b ++ d) ≡ row-used n t a b
-  unfolding row-used row-refusal chosen-row is-own
-  used-front t l =
-      let i = grid-in n t n l in rw (room-front t, row-front n t a c (omega arith), row-front n t b d (omega arith))
+  chosen-front : (t : ℕ) → t < n → chosen-row n t (a ++ c) (b ++ d) ≡ chosen-row n t a b
+  unfolding chosen-row is-own
+  chosen-front t l = let i = grid-in n t n l in rw (row-front n t a c (omega arith), row-front n t b d (omega arith))
+
+  pub refusal-front : (t : ℕ) → t < n → row-refusal n t (a ++ c) (b ++ d) ≡ row-refusal n t a b
+  unfolding row-refusal
+  refusal-front t l = rw (room-front t, chosen-front t l)
+
+  pub used-front : (t : ℕ) → t < n → row-used n t (a ++ c) (b ++ d) ≡ row-used n t a b
+  unfolding row-used
+  used-front t l = rw (refusal-front t l, chosen-front t l)
 
   pub rows-front : rows-used n (a ++ c) (b ++ d) ≡ rows-used n a b
   unfolding rows-used
