@@ -94,6 +94,7 @@ refuses 1 "a record has kind 3" ./prices --list "$room/record.card"
 # THE SCHOOL'S OWN LIST FIRST: some rows, none, all
 plans examples/own.card ./prices --own examples/own.prices examples/q.prices 4 0 16
 plans examples/own.card ./prices --own examples/own.prices - 4 0 16 < examples/q-any-order.prices
+plans examples/own.card ./prices --own <(cat examples/own.prices) <(cat examples/q.prices) 4 0 16
 plans examples/p1.card ./prices --own /dev/null examples/q.prices 4 0 16
 plans examples/p1.card ./prices --own examples/q.prices /dev/null 4 0 16
 plans "$room/hall.card" ./prices --own examples/hall.prices "$whole" 32 0 28500
@@ -116,6 +117,8 @@ refuses 1 "the school's own list: line 1: the line has more" ./prices --own /dev
 refuses 1 "root is not below" ./prices --own examples/own.prices examples/q.prices 4 4 16
 refuses 2 "--own takes the school's own list" ./prices --own
 refuses 2 "is a file, and not standard input" ./prices --own - examples/q.prices 4 0 16
+refuses 2 "is a file, and not standard input" ./prices --own /dev/stdin examples/q.prices 4 0 16 < examples/own.prices
+refuses 2 "once and before it" ./prices --own examples/own.prices --list examples/p1.card
 refuses 2 "three numbers" ./prices --own examples/own.prices 4 0 16
 refuses 2 "no file examples/no-such.prices" ./prices --own examples/no-such.prices examples/q.prices 4 0 16
 refuses 2 "a directory, not a price list" ./prices --own examples examples/q.prices 4 0 16

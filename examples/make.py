@@ -8,9 +8,9 @@ MAX_WEIGHT = 1048574
 MAX_BUDGET = 32505794
 FREE, PINNED, BANNED = 0, 1, 2
 
-# sheet Q; the console's row in a school's own list; and the rows used of both
 Q = {(0, 1): 10, (0, 2): 10, (0, 3): 8, (1, 2): 1, (1, 3): 4, (2, 1): 2, (2, 3): 9, (3, 1): 7}
 
+# the console's row in a school's own list, and the rows that are used of both
 OWN = {(0, 1): 6, (0, 2): 9}
 MERGED = {arc: price for arc, price in Q.items() if arc[0] != 0} | OWN
 

@@ -9,7 +9,7 @@ use native.Mathlib.Omega.{arith}
 use lib.ListN.{length, getD, drop, drop-of-length-le}
 use lib.Seq.{drop-cons}
 use Rattle.base.specs.Lists.{any-of, all-of}
-use Rattle.base.proofs.BoolLaws.{or-left, or-right}
+use Rattle.base.proofs.BoolLaws.{and-left, and-right, or-left, or-right}
 
 -- FROM ONE ON
 module _ {A : Type 0} (q : A → Bool) (d : A) (xs : List A) (i : ℕ) where
@@ -44,6 +44,12 @@ module _ {A : Type 0} (q : A → Bool) (d : A) where
   any-of-at [] i h e = absurd (omega arith)
   any-of-at (x ∷ xs) zero h e = or-left (q x) (any-of q xs) e
   any-of-at (x ∷ xs) (suc i) h e = or-right (q x) (any-of q xs) (any-of-at xs i (omega arith) e)
+
+  pub all-of-at : (xs : List A) (i : ℕ) → i < length xs → all-of q xs ≡ true → q (getD xs i d) ≡ true
+  unfolding all-of
+  all-of-at [] i h e = absurd (omega arith)
+  all-of-at (x ∷ xs) zero h e = and-left (q x) (all-of q xs) e
+  all-of-at (x ∷ xs) (suc i) h e = all-of-at xs i (omega arith) (and-right (q x) (all-of q xs) e)
 
   pub any-of-found : (xs : List A) → any-of q xs ≡ true → (i : ℕ) × (i < length xs) × (q (getD xs i d) ≡ true)
   unfolding any-of

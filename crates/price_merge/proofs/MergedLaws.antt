@@ -1,5 +1,5 @@
--- What a merged list says of an arc: the weight that the school's list gives it where a line of that list has the arc's
--- tail, and otherwise the weight that the shipped list gives it. Assumes nothing.
+-- What a merged list says of an arc, when it is read again: the weight that the school's list gives it where a line of
+-- that list has the arc's tail, and otherwise the weight that the shipped list gives it. Assumes nothing.
 use mathlib.Core.Path.{_≡_, refl, sym, ap, _∙_}
 use mathlib.Core.Bool.{Bool, true, false, _&&_, _||_, not, cond, true≢false}
 use mathlib.Core.List.{List, [], _∷_, _++_}
@@ -8,26 +8,34 @@ use Prim.Native.Nat.{ℕ, zero, suc, _+_, _*_, _/_, _%_, _≤_, _<_}
 use native.Mathlib.Nat.{eq-or-lt-of-le}
 use native.Mathlib.Omega.{arith}
 use lib.Arith.{digits-lt}
-use lib.Dec.{eqb}
+use lib.Dec.{ltb, leb, eqb}
 use lib.ListN.{length, getD, List·getD-append}
 use lib.Seq.{getD-append-add}
 use borrow.Author.Tests.{eq-eqb, ne-eqb, eqb-false, not-true}
-use Rattle.base.specs.Lists.{any-of, join-below}
+use Rattle.base.specs.Bounded.{all-below}
+use Rattle.base.specs.Lists.{any-of, all-of, tabulate, join-below}
 use Rattle.base.proofs.BoolLaws.{same-test, and-left, or-cases, or-left, or-right}
+use Rattle.base.proofs.BoundedLaws.{all-intro}
+use Rattle.base.proofs.ElementLaws.{all-of-at}
 use Rattle.base.proofs.GridLaws.{grid-in, grid-at-row, grid-at-column}
 use Rattle.base.proofs.ListLaws.{getD-tabulate}
-use Rattle.instance.specs.Limits.{max-vertices, no-arc}
+use Rattle.instance.specs.Instance.{can-be-arc}
+use Rattle.instance.specs.Limits.{max-vertices, max-weight, no-arc}
+use Rattle.instance.specs.Refusals.{buffer-short}
 use Rattle.price_format.specs.Lines.{Line}
-use Rattle.price_format.specs.Reading.{names, is-named, weight-named, prices-of, read-list}
+use Rattle.price_format.specs.Reading.{names, is-named, weight-named, prices-of, read-list, count-refusal}
+use Rattle.price_format.specs.Writing.{price-at, is-written, place-ok, prices-refusal, write-refusal, arcs-only}
 use Rattle.price_format.proofs.ReadingLaws.{Sound, none, more, list-sound}
+use Rattle.price_format.proofs.WrittenRead.{written-read}
 use Rattle.price_list.proofs.LineLaws.{named-weight}
-use Rattle.price_row.specs.Row.{row-at, has-price, is-own, chosen-row, row-used}
+use Rattle.price_list.proofs.RoomLaws.{room-enough}
+use Rattle.price_row.specs.Row.{row-at, has-price, is-own, chosen-row, price-ok, row-used}
 use Rattle.price_row.specs.Readings.{number-at}
 use Rattle.price_row.proofs.RowLaws.{used-chosen}
 use Rattle.price_row.proofs.ReadingsLaws.{row-number, priced-read, priced-made}
 use Rattle.price_merge.specs.Rows.{rows-used}
-use Rattle.price_merge.specs.Merge.{prices-in, merged-prices, names-tail}
-use Rattle.price_merge.proofs.RowsLaws.{none-refused, rows-length}
+use Rattle.price_merge.specs.Merge.{prices-in, merged-prices, merged-text, names-tail}
+use Rattle.price_merge.proofs.RowsLaws.{none-refused, rows-length, rows-ok, rows-whole}
 use Rattle.price_merge.proofs.MergeLaws.{read-length, read-ok}
 
 -- LINES WITH A TAIL
@@ -101,7 +109,7 @@ module _ (n : ℕ) (g : ℕ → List ℕ) where
       List·getD-append (join-below k g) (g k) no-arc (t * n + h) (omega arith) ∙ row-in-join k t h (λ j c. f j (omega arith)) m b)
       (eq-or-lt-of-le {n = t} {m = k} (omega arith))
 
--- THE LAW
+-- OF TWO LISTS
 module _ (n r : ℕ) (a b : List ℕ) (small : n ≤ max-vertices) (t h : ℕ) (l : t < n) (k : h < n) where
   abbrev own : List ℕ
   own = prices-in n r a
@@ -126,9 +134,52 @@ module _ (n r : ℕ) (a b : List ℕ) (small : n ≤ max-vertices) (t h : ℕ) (
       by true = row-number n t own (inside n r a t l) h k ∙ read-weight n r a t l h k
       by false = row-number n t others (inside n r b t l) h k ∙ read-weight n r b t l h k
 
-  -- and of the merged list
+  -- and of all the rows that are used
   pub merged-weight : number-at n t (merged-prices n r a b) h ≡ weight-by (names-tail (read-list n r a .lines) t)
   unfolding merged-prices rows-used
   merged-weight =
       row-in-join n (λ s. row-used n s own others) n t h (rows-length n own others small (enough a) (enough b) (read-ok n r a) (read-ok n r b)) l k
       ∙ used-weight
+
+-- THE MERGED LIST
+module _ (n r : ℕ) (a b : List ℕ) (small : n ≤ max-vertices) where
+  abbrev merged-ps : List ℕ
+  merged-ps = merged-prices n r a b
+
+  whole : length merged-ps ≡ n * n
+  unfolding merged-prices
+  whole =
+      rows-whole n (prices-in n r a) (prices-in n r b) small (omega (arith, read-length n r a)) (omega (arith, read-length n r b)) (read-ok n r a) (read-ok n r b)
+
+  -- each of its prices can be written
+  places : all-below (n * n) (λ i. place-ok n r i (price-at merged-ps i)) ≡ true
+  unfolding merged-prices place-ok is-written price-ok
+  places =
+      all-intro (n * n) _
+      (λ i l.
+      let w = price-at merged-ps i in
+      let e = whole in
+      by (can-be-arc n r (i / n) (i % n)) (eqb w no-arc) (leb w max-weight)
+      (all-of-at price-ok no-arc merged-ps i (omega arith)
+      (rows-ok n (prices-in n r a) (prices-in n r b) small (omega (arith, read-length n r a)) (omega (arith, read-length n r b)) (read-ok n r a) (read-ok n r b))))
+    where
+      by : (c e m : Bool) → m || e ≡ true → not (c && not e) || m ≡ true
+      by false e m p = refl
+      by true true m p = refl
+      by true false true p = refl
+      by true false false p = p
+
+  -- so it is refused for its length alone
+  pub merged-answer : (k : ℕ) → count-refusal n r ≡ 0 → write-refusal n r merged-ps k ≡ cond (ltb k (length (merged-text n r a b))) buffer-short 0
+  unfolding write-refusal prices-refusal
+  merged-answer k c = let e = whole in rw (room-enough n r (length merged-ps) c (omega arith), places)
+
+  -- THE LAW: read again, it says of an arc what the school's list says where that names the tail, and what the shipped
+  -- list says where it does not
+  pub merged-says : (t h : ℕ) (l : t < n) (k : h < n)
+      → weight-named (read-list n r (merged-text n r a b) .lines) t h ≡ cond (can-be-arc n r t h) (weight-by n r a b small t h l k (names-tail (read-list n r a .lines) t)) no-arc
+  unfolding arcs-only
+  merged-says t h l k =
+      sym (read-weight n r (merged-text n r a b) t l h k) ∙ ap (λ (ps : List ℕ). number-at n t ps h) (written-read n r merged-ps places small)
+      ∙ getD-tabulate (n * n) (λ i. cond (can-be-arc n r (i / n) (i % n)) (price-at merged-ps i) no-arc) (t * n + h) no-arc (digits-lt l k)
+      ∙ rw (grid-at-row n t h k, grid-at-column n t h k, merged-weight n r a b small t h l k)

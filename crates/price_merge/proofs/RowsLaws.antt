@@ -1,16 +1,17 @@
 -- Rows one behind the other: that none of them is refused where each number is a price or no link, that they are then n
 -- times n numbers, and that words behind the lists do not count. Assumes nothing.
-use mathlib.Core.Path.{_≡_, sym, ap, _∙_}
+use mathlib.Core.Path.{_≡_, refl, sym, ap, _∙_}
 use mathlib.Core.Bool.{Bool, true, false, cond}
-use mathlib.Core.List.{List, _++_}
+use mathlib.Core.List.{List, [], _++_}
 use Prim.Native.Nat.{ℕ, zero, suc, _+_, _*_, _≤_, _<_}
 use native.Mathlib.Nat.{suc-mul, zero-mul}
 use native.Mathlib.Omega.{arith}
+use lib.Dec.{eqb}
 use lib.ListN.{length, drop, length-append, length-drop}
 use lib.Seq.{take-append-le, drop-append-le}
 use borrow.Author.Tests.{le-ltb}
 use Rattle.base.specs.Lists.{all-of, join-below}
-use Rattle.base.proofs.AllOfLaws.{all-of-take, all-of-drop}
+use Rattle.base.proofs.AllOfLaws.{all-of-append, all-of-take, all-of-drop}
 use Rattle.base.proofs.GridLaws.{grid-in}
 use Rattle.base.proofs.JoinLaws.{join-same}
 use Rattle.instance.specs.Limits.{max-vertices}
@@ -44,6 +45,22 @@ module _ (n : ℕ) (a b : List ℕ) (small : n ≤ max-vertices) (x : n * n ≤ 
       let r = row-length k (omega arith) in
       let s = suc-mul k n in
       length-append (join-below k (λ t. row-used n t a b)) (row-used n k a b) ∙ omega (arith, e, r, s)
+
+  -- each of their numbers is a price or no link
+  rows-ok-below : (k : ℕ) → all-of price-ok (join-below k (λ t. row-used n t a b)) ≡ true
+  unfolding join-below all-of row-used chosen-row row-at
+  rows-ok-below zero = refl
+  rows-ok-below (suc k) =
+      all-of-append price-ok (join-below k (λ t. row-used n t a b)) (row-used n k a b) (rows-ok-below k) (by (eqb (row-refusal n k a b) 0) (is-own n k a))
+    where
+      by : (c d : Bool) → all-of price-ok (cond c (cond d (row-at n k a) (row-at n k b)) []) ≡ true
+      by false d = refl
+      by true true = all-of-take price-ok n (drop (k * n) a) (all-of-drop price-ok (k * n) a p)
+      by true false = all-of-take price-ok n (drop (k * n) b) (all-of-drop price-ok (k * n) b q)
+
+  pub rows-ok : all-of price-ok (rows-used n a b) ≡ true
+  unfolding rows-used
+  rows-ok = rows-ok-below n
 
   pub rows-whole : length (rows-used n a b) ≡ n * n
   unfolding rows-used

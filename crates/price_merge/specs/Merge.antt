@@ -27,13 +27,14 @@ merged-prices n r a b = rows-used n (prices-in n r a) (prices-in n r b)
 abbrev pub merged-text : (n root : ℕ) → (school shipped : List ℕ) → List ℕ
 merged-text n r a b = list-text n r (merged-prices n r a b)
 
--- IN A TEACHER'S WORDS: a tail that a line of the school's list names gets its arcs from there, and no other; what an
--- arc weighs then is `merged-weight` (proofs/MergedLaws.antt)
+-- IN A TEACHER'S WORDS: a tail that a line of the school's list names gets its arcs from there, and no other; that the
+-- merged list says this is `merged-says` (proofs/MergedLaws.antt)
 unfoldable pub names-tail : List Line → (tail : ℕ) → Bool
 names-tail ls t = any-of (λ l. eqb (l .tail) t) ls
 
 -- THE CALL
--- the school's list by its first faulty line, then the shipped one, and which of them it is; then 14 for the text
+-- the school's list as it is read, so that 2 and 4 come with it, then the shipped one: the refusal, which list it is,
+-- and the line; then 14 for the text, and nothing else (`merged-answer` in proofs/MergedLaws.antt)
 unfoldable pub merged : (school shipped : List ℕ) → (n root bytes : ℕ) → ListsMerged
 merged a b n r k =
     cond (eqb (read-result a n r cells .answer) 0)

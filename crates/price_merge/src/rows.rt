@@ -19,7 +19,7 @@ fn put_row(row: &[u32], out: &mut [u32], at: usize) -> usize
     next
 }
 
-// The row of each tail, one behind the other; gives how many numbers that are.
+// The row of each tail, one behind the other; gives the place after the last.
 pub fn put_rows<'a>(school: &'a [u32], shipped: &'a [u32], n: u32, out: &mut [u32]) -> usize
     requires { ⌜ Room (rows-used n (now school) (now shipped)) (now out) 0 ⌝ }
     ensures { λ r. ⌜ Puts (rows-used n (now (school .entry)) (now (shipped .entry))) (now (out .entry)) (now (out .exit)) 0 r ⌝ }
