@@ -51,7 +51,7 @@ module _ (n r : ℕ) (ps rest : List ℕ) (e : length ps ≡ n * n) where
       let l = length-append ps rest in
       rw (le-ltb (length (ps ++ rest)) (n * n) (omega arith), le-ltb (length ps) (n * n) (omega arith))
 
-  pub write-front : (k : ℕ) → write-result (ps ++ rest) n r k ≡ write-result ps n r k
+  write-front : (k : ℕ) → write-result (ps ++ rest) n r k ≡ write-result ps n r k
   unfolding write-result write-refusal prices-refusal
   write-front k = rw (room-front, places-front, text-front)
 
@@ -85,7 +85,7 @@ module _ (n r : ℕ) (t : List ℕ) where
       by true z e = eqb-true (room-refusal n r k) 0 z
       by false z e = e
 
-  pub read-small : (k : ℕ) → read-result t n r k .answer ≡ 0 → n ≤ max-vertices
+  read-small : (k : ℕ) → read-result t n r k .answer ≡ 0 → n ≤ max-vertices
   read-small k e = count-small n r (room-count n r k (room-read k e))
 
 -- THE THREE WAYS OUT, by what was read into two tables
@@ -94,18 +94,18 @@ module _ {a : List ℕ} (b : List ℕ) {n r : ℕ} (old : List ℕ) {own-before 
   first = o .result ∙ ap (read-result a n r) l
 
   -- the school's list is refused
-  pub own-refused : x .answer ≢ 0 → Merges a b n r old old (record { answer = x .answer; list = 1; line = x .line; length = 0 })
+  pub school-list-refused : x .answer ≢ 0 → Merges a b n r old old (record { answer = x .answer; list = 1; line = x .line; length = 0 })
   unfolding merged
-  own-refused d = record { result = rw (← first, ne-eqb (x .answer) 0 d); buffer = rw (ne-eqb (x .answer) 0 d) }
+  school-list-refused d = record { result = rw (← first, ne-eqb (x .answer) 0 d); buffer = rw (ne-eqb (x .answer) 0 d) }
 
   module _ (z : x .answer ≡ 0) {others-before others : List ℕ} (y : PricesRead) (p : Reads b n r others-before others y) (m : length others-before ≡ cells) where
     second : y ≡ read-result b n r cells
     second = p .result ∙ ap (read-result b n r) m
 
     -- the shipped list is
-    pub shipped-refused : y .answer ≢ 0 → Merges a b n r old old (record { answer = y .answer; list = 2; line = y .line; length = 0 })
+    pub shipped-list-refused : y .answer ≢ 0 → Merges a b n r old old (record { answer = y .answer; list = 2; line = y .line; length = 0 })
     unfolding merged
-    shipped-refused d = record { result = rw (← first, ← second, z, ne-eqb (y .answer) 0 d); buffer = rw (ne-eqb (y .answer) 0 d) }
+    shipped-list-refused d = record { result = rw (← first, ← second, z, ne-eqb (y .answer) 0 d); buffer = rw (ne-eqb (y .answer) 0 d) }
 
     -- neither is
     module _ (w : y .answer ≡ 0) where

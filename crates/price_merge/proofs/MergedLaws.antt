@@ -135,7 +135,7 @@ module _ (n r : ℕ) (a b : List ℕ) (small : n ≤ max-vertices) (t h : ℕ) (
       by false = row-number n t others (inside n r b t l) h k ∙ read-weight n r b t l h k
 
   -- and of all the rows that are used
-  pub merged-weight : number-at n t (merged-prices n r a b) h ≡ weight-by (names-tail (read-list n r a .lines) t)
+  merged-weight : number-at n t (merged-prices n r a b) h ≡ weight-by (names-tail (read-list n r a .lines) t)
   unfolding merged-prices rows-used
   merged-weight =
       row-in-join n (λ s. row-used n s own others) n t h (rows-length n own others small (enough a) (enough b) (read-ok n r a) (read-ok n r b)) l k

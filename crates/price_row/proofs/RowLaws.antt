@@ -8,7 +8,7 @@ use Prim.Native.Nat.{ℕ, zero, suc, _+_, _-_, _*_, _<_}
 use native.Mathlib.Omega.{arith}
 use lib.Dec.{ltb, leb, eqb}
 use lib.ListN.{length, take, drop}
-use borrow.Author.Tests.{ltb-false, leb-false, eqb-true, eqb-false, le-ltb, lt-leb, ne-eqb}
+use borrow.Author.Tests.{ltb-false, leb-false, eqb-false, le-ltb, lt-leb, ne-eqb}
 use Rattle.base.specs.Lists.{any-of}
 use Rattle.base.proofs.BoolLaws.{or-false-left, or-false-right, passed}
 use Rattle.base.proofs.GridLaws.{grid-in}
@@ -61,17 +61,6 @@ room-zero n t a b f =
 
 -- THE ROW THAT IS CHOSEN
 module _ (n t : ℕ) (a b : List ℕ) where
-  pub not-refused : row-refusal n t a b ≡ 0 → Sized n t (length a) (length b)
-  unfolding row-refusal
-  not-refused e = room-passed n t (length a) (length b) (by (eqb room 0) refl e)
-    where
-      room : ℕ
-      room = room-refusal n t (length a) (length b)
-
-      by : (c : Bool) → eqb room 0 ≡ c → cond c (cond (row-ok (chosen-row n t a b)) 0 out-of-range) room ≡ 0 → room ≡ 0
-      by true z y = eqb-true room 0 z
-      by false z y = y
-
   pub used-chosen : row-refusal n t a b ≡ 0 → row-used n t a b ≡ chosen-row n t a b
   unfolding row-used
   used-chosen e = rw e
@@ -110,16 +99,16 @@ module _ (n t : ℕ) (a b : List ℕ) (p q : ℕ × ℕ) where
       record { number = e; numbers = rw z; stands = rw z }
 
   -- as the program has it: the part of no number, from the first one on
-  uses-none : (r : ℕ) → r ≡ row-refusal n t a b → r ≢ 0 → Uses-row a b p q n t r [] (address-at 0 q)
-  uses-none r e d = let z : 0 * 4 + q .1 ≡ q .1 = omega arith in subst (λ (k : ℕ). Uses-row a b p q n t r [] (q .0, k)) (sym z) (uses-nothing r e d)
+  uses-empty-part : (r : ℕ) → r ≡ row-refusal n t a b → r ≢ 0 → Uses-row a b p q n t r [] (address-at 0 q)
+  uses-empty-part r e d = let z : 0 * 4 + q .1 ≡ q .1 = omega arith in subst (λ (k : ℕ). Uses-row a b p q n t r [] (q .0, k)) (sym z) (uses-nothing r e d)
 
   pub uses-refused : (r : ℕ) → r ≡ room → r ≢ 0 → Uses-row a b p q n t r [] (address-at 0 q)
   unfolding row-refusal
-  uses-refused r e d = uses-none r (rw (ne-eqb room 0 (λ y. d (e ∙ y)), e)) d
+  uses-refused r e d = uses-empty-part r (rw (ne-eqb room 0 (λ y. d (e ∙ y)), e)) d
 
   pub uses-out-of-range : room ≡ 0 → row-ok (chosen-row n t a b) ≡ false → Uses-row a b p q n t out-of-range [] (address-at 0 q)
   unfolding row-refusal
-  uses-out-of-range z k = uses-none out-of-range (rw (z, k)) (λ y. absurd (omega (arith, y)))
+  uses-out-of-range z k = uses-empty-part out-of-range (rw (z, k)) (λ y. absurd (omega (arith, y)))
 
   pub uses-chosen : room ≡ 0 → row-ok (chosen-row n t a b) ≡ true → Uses-row a b p q n t 0 (chosen-row n t a b) (chosen-address n t a p q)
   unfolding row-refusal row-used row-address

@@ -1,7 +1,7 @@
 -- Three ways out, each a law of MergeLaws.
 use mathlib.Core.Path.{refl}
 use borrow.Author.Needs.{needs}
-use Rattle.price_merge.proofs.MergeLaws.{own-refused, shipped-refused, rows-room, both-read}
+use Rattle.price_merge.proofs.MergeLaws.{school-list-refused, shipped-list-refused, rows-room, both-read}
 use Rattle.price_merge.proofs.merge.merge_lists.Statement.{statement}
 use Rattle.price_merge.proofs.merge.merge_lists.Tie as tie
 
@@ -15,7 +15,7 @@ returns : tie.Need-returns
 returns c =
     let s = c .before .before .before .before .before .before .before .before .args in
     let x = c .before .before .before .read-prices in
-    own-refused (s .shipped .now) (s .out .now) (x .result) (x .ensures) refl (c .if1 .taken)
+    school-list-refused (s .shipped .now) (s .out .now) (x .result) (x .ensures) refl (c .if1 .taken)
 
 slice-aggregate-read-prices-2 : tie.Need-slice-aggregate-read-prices-2
 slice-aggregate-read-prices-2 c = search needs
@@ -29,7 +29,7 @@ returns-2 c =
     let x = c .before .before .before .before .before .before .before .before .read-prices in
     let y = c .before .before .before .read-prices2 in
     let z = c .before .before .before .before .before .if1 .left in
-    shipped-refused (s .shipped .now) (s .out .now) (x .result) (x .ensures) refl z (y .result) (y .ensures) refl (c .if2 .taken)
+    shipped-list-refused (s .shipped .now) (s .out .now) (x .result) (x .ensures) refl z (y .result) (y .ensures) refl (c .if2 .taken)
 
 slice-aggregate-put-rows : tie.Need-slice-aggregate-put-rows
 slice-aggregate-put-rows c = search needs
