@@ -1,4 +1,5 @@
 // The arguments of a program as numbers.
+ghost use Rattle.arguments.specs.Word.{Reads-word, Reads-some};
 use price_list::numbers::scan_digits;
 
 // The longest word that is read as a number.
@@ -10,23 +11,28 @@ pub struct Word {
     pub value: u32,
 }
 
-fn number_in(word: &[u8]) -> Word {
-    let digits = scan_digits(word, 0);
-    let good = digits.end == word.len();
-    Word {
-        good,
-        value: digits.value,
-    }
-}
-
-pub fn number_at(i: usize) -> Word {
-    let mut word = [0u8; MAX_WORD];
-    let length = os::arg(i, &mut word);
+fn number_in(word: &[u8]) -> Word
+    ensures { λ r. ⌜ Reads-word (now (word .entry)) r ⌝ }
+{
+    let length = word.len();
     if length == 0 {
         return Word {
             good: false,
             value: 0,
         };
     }
+    let digits = scan_digits(word, 0);
+    Word {
+        good: digits.end == length,
+        value: digits.value,
+    }
+}
+
+// A missing argument is read as the empty word, and so is one that is too long: neither is a number.
+pub fn number_at(i: usize) -> Word
+    ensures { λ r. ⌜ Reads-some r ⌝ }
+{
+    let mut word = [0u8; MAX_WORD];
+    let length = os::arg(i, &mut word);
     number_in(&word[..length])
 }

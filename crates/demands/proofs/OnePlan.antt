@@ -52,13 +52,13 @@ pub record Seen (card : List ℕ) (is : List Input) (old new : Buffers) : Type 0
   pub long : short-for (model-in card .instance .n) old ≡ false
 
 -- the feeder list that it shows, and the instance that it goes by
-abbrev pub feeders : (card : List ℕ) → Buffers → List ℕ
-feeders ws new = take (model-in ws .instance .n) (new .parents)
+abbrev pub parents-seen : (card : List ℕ) → Buffers → List ℕ
+parents-seen ws new = take (model-in ws .instance .n) (new .parents)
 
 abbrev pub reached : (card : List ℕ) → List Input → Instance
 reached ws is = effective (input-after is (log-in ws))
 
-pub seen-first : {ws : List ℕ} {is : List Input} {old new : Buffers} → Seen ws is old new → feeders ws new ≡ first-tree (reached ws is)
+pub seen-first : {ws : List ℕ} {is : List Input} {old new : Buffers} → Seen ws is old new → parents-seen ws new ≡ first-tree (reached ws is)
 seen-first {ws} {is} {old} {new} l =
     demand-3 ws is (l .opened) (l .answers) (l .last) (l .view) old new (l .opens) (l .by-opening) (l .by-calls) (l .by-looking) .parents-shown (l .long)
 
@@ -69,7 +69,7 @@ Same-but-budget s t = Same-instance s (with-budget (s .budget) t)
 
 pub one-plan :
     {ws us : List ℕ} {is js : List Input} {old new old′ new′ : Buffers} → Seen ws is old new → Seen us js old′ new′ →
-    Same-but-budget (reached ws is) (reached us js) → feeders ws new ≡ feeders us new′
+    Same-but-budget (reached ws is) (reached us js) → parents-seen ws new ≡ parents-seen us new′
 one-plan {ws} {us} {is} {js} a b e = seen-first a ∙ same-first (reached ws is) (reached us js) e ∙ sym (seen-first b)
 
 -- MORE CALLS AFTER A RUN
@@ -80,10 +80,10 @@ after-all (single c ∷ is) js k = after-all is js (note c k .log)
 after-all (list cs ∷ is) js k = after-all is js (note-list cs k .log)
 
 -- whatever keeps the first tree of the log that a run left shows the same list
-kept :
+first-stays :
     {ws : List ℕ} {is : List Input} {old new old′ new′ : Buffers} (js : List Input) → Seen ws is old new → Seen ws (is ++ js) old′ new′ →
-    first-tree (effective (input-after js (input-after is (log-in ws)))) ≡ first-tree (reached ws is) → feeders ws new ≡ feeders ws new′
-kept {ws} {is} js a b e = seen-first a ∙ sym e ∙ ap (λ (k : Log). first-tree (effective k)) (sym (after-all is js (log-in ws))) ∙ sym (seen-first b)
+    first-tree (effective (input-after js (input-after is (log-in ws)))) ≡ first-tree (reached ws is) → parents-seen ws new ≡ parents-seen ws new′
+first-stays {ws} {is} js a b e = seen-first a ∙ sym e ∙ ap (λ (k : Log). first-tree (effective k)) (sym (after-all is js (log-in ws))) ∙ sym (seen-first b)
 
 -- budgets, accepted or refused
 budget-first : (v : ℕ) (k : Log) → first-tree (effective (note (set-budget v) k .log)) ≡ first-tree (effective k)
@@ -106,8 +106,8 @@ budgets-first (v ∷ vs) k = budgets-first vs (note (set-budget v) k .log) ∙ b
 
 pub after-budgets :
     {ws : List ℕ} {is : List Input} {old new old′ new′ : Buffers} (vs : List ℕ) → Seen ws is old new → Seen ws (is ++ budgets vs) old′ new′ →
-    feeders ws new ≡ feeders ws new′
-after-budgets {ws} {is} vs a b = kept (budgets vs) a b (budgets-first vs (input-after is (log-in ws)))
+    parents-seen ws new ≡ parents-seen ws new′
+after-budgets {ws} {is} vs a b = first-stays (budgets vs) a b (budgets-first vs (input-after is (log-in ws)))
 
 -- presses that were taken back, each after those that came after it
 pub data Taken-back : List Input → Log → Type 0 where
@@ -149,8 +149,8 @@ back-again (press {c} {is} {js} {k} n a x y) =
 
 pub after-take-backs :
     {ws : List ℕ} {is js : List Input} {old new old′ new′ : Buffers} → Seen ws is old new → Seen ws (is ++ js) old′ new′ →
-    Taken-back js (input-after is (log-in ws)) → feeders ws new ≡ feeders ws new′
-after-take-backs {js = js} a b t = kept js a b (ap (λ (k : Log). first-tree (effective k)) (back-again t))
+    Taken-back js (input-after is (log-in ws)) → parents-seen ws new ≡ parents-seen ws new′
+after-take-backs {js = js} a b t = first-stays js a b (ap (λ (k : Log). first-tree (effective k)) (back-again t))
 
 -- BOARDS THAT ARE CALLED EQUAL show alike but for the cuts, which are free
 pub record Shown-alike (a b : Board) (u v : View) (new new′ : Buffers) : Type 0 where

@@ -2,11 +2,10 @@
 -- and where that stands are those that document 02 has in words, case by case. And with A3's reader: of two price lists
 -- that were read, no tail below the count is refused, and its row gives an arc what the school's list says where that
 -- names the tail, and what the shipped list says where it does not. Assumes nothing.
-use mathlib.Core.Path.{_≡_, sym, ap, _∙_}
+use mathlib.Core.Path.{_≡_, ap, _∙_}
 use mathlib.Core.Bool.{cond}
-use mathlib.Core.List.{List, _++_}
-use Prim.Native.Nat.{ℕ, _*_, _≤_, _<_}
-use native.Mathlib.Omega.{arith}
+use mathlib.Core.List.{List}
+use Prim.Native.Nat.{ℕ, _≤_, _<_}
 use lib.ListN.{length, getD, drop}
 use Rattle.base.specs.Lists.{in-front}
 use Rattle.instance.specs.Limits.{max-vertices, no-arc}
@@ -21,7 +20,7 @@ use Rattle.price_row.proofs.ReadingsLaws.{reads}
 use Rattle.price_row.proofs.Learnt.{Handed-back, handed-back}
 use Rattle.price_merge.specs.Merge.{prices-in, names-tail}
 use Rattle.price_merge.proofs.RowsLaws.{none-refused, refusal-front, used-front}
-use Rattle.price_merge.proofs.MergeLaws.{read-length, read-ok}
+use Rattle.price_merge.proofs.MergeLaws.{read-length, read-enough, read-ok}
 use Rattle.price_merge.proofs.MergedLaws.{used-weight}
 use Rattle.demands.proofs.PriceNumbers.{read-passed}
 
@@ -42,9 +41,6 @@ module _ {t : List ℕ} {n root : ℕ} {ps ps′ : List ℕ} {r : PricesRead} (x
   small : n ≤ max-vertices
   small = count-small n root (room-count n root (length ps) (read-passed t n root ps ps′ r (prices-read x) z .0))
 
-enough : (n root : ℕ) (t : List ℕ) → n * n ≤ length (prices-in n root t)
-enough n root t = let e = read-length n root t in omega arith
-
 pub read-rows : {t s : List ℕ} {n root : ℕ} {ps ps′ qs qs′ : List ℕ} {r v : PricesRead} {p q : ℕ × ℕ} {tail k : ℕ} {row : List ℕ} {at : ℕ × ℕ}
     → Prices-read t n root ps ps′ r → r .answer ≡ 0 → Prices-read s n root qs qs′ v → v .answer ≡ 0 → Handed-back ps′ qs′ p q n tail k row at → tail < n
     → Read-row n tail (read-list n root t .lines) (read-list n root s .lines) k row
@@ -53,7 +49,7 @@ read-rows {t} {s} {n} {root} {ps} {ps′} {qs} {qs′} {tail = tail} {k = k} {ro
     let b = prices-in n root s in
     let h = handed-back u in
     let m = small x z in
-    let none = none-refused n a b m (enough n root t) (enough n root s) (read-ok n root t) (read-ok n root s) tail l in
+    let none = none-refused n a b m (read-enough n root t) (read-enough n root s) (read-ok n root t) (read-ok n root s) tail l in
     let e : row-refusal n tail ps′ qs′ ≡ row-refusal n tail a b =
     rw (words-are x z, words-are y w) (refusal-front n a b (drop (length a) ps) (drop (length b) qs) (read-length n root t) (read-length n root s) tail l) in
     let f : row-used n tail ps′ qs′ ≡ row-used n tail a b =

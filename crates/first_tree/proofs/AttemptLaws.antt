@@ -1,5 +1,5 @@
--- What a program reads and adds up when a tail is tried: weights, a total, the matrix of the arcs that are kept.
--- Assumes nothing.
+-- What a program reads and adds up when a tail is tried: weights, a total, the matrix of the admissible arcs. Assumes
+-- nothing.
 use mathlib.Core.Path.{_≡_, refl, sym, ap, _∙_}
 use mathlib.Core.Bool.{Bool, true, false, _&&_, cond}
 use mathlib.Core.List.{List}
@@ -28,8 +28,8 @@ use Rattle.edmonds.specs.declared.Planned.{Planned}
 use Rattle.edmonds.specs.Planned.{Planned-matrix}
 use Rattle.paths.specs.Tree.{Matrix-tree}
 use Rattle.paths.proofs.TreeLaws.{own-weight}
-use Rattle.narrowing.specs.Narrowed.{Of-total, Kept}
-use Rattle.first_tree.specs.Tails.{kept-by, Tails-ok}
+use Rattle.narrowing.specs.Narrowed.{Of-total, Admissible}
+use Rattle.first_tree.specs.Tails.{admissible-by, Tails-ok}
 use Rattle.first_tree.specs.Attempt.{No-cheaper}
 
 pub cell-weight : (n root : ℕ) (m : List ℕ) (t h : ℕ) → length m ≡ cells → t < 32 → h < 32 → weight (unmarked n root m) t h ≡ getD m (cell t h) 0
@@ -80,53 +80,53 @@ module _ (n root : ℕ) (m ps : List ℕ) where
         cost-most q true = omega arith
         cost-most q false = matrix-weight-most n root m (k .matrix-ok) (parent (take n ps) q) q
 
--- THE MATRIX OF THE ARCS THAT ARE KEPT, cell by cell
-abbrev kept-cell : (m tails : List ℕ) → (n root i : ℕ) → ℕ
-kept-cell m zs n root i =
-    cond (remaining (unmarked n root m) (i / 32) (i % 32) && kept-by zs (i / 32) (i % 32)) (weight-at (unmarked n root m) i) no-arc
+-- THE MATRIX OF THE ADMISSIBLE ARCS, cell by cell
+abbrev admissible-cell : (m tails : List ℕ) → (n root i : ℕ) → ℕ
+admissible-cell m zs n root i =
+    cond (remaining (unmarked n root m) (i / 32) (i % 32) && admissible-by zs (i / 32) (i % 32)) (weight-at (unmarked n root m) i) no-arc
 
-abbrev pub Kept-cells : (m tails : List ℕ) → (n root : ℕ) → (w : List ℕ) → (i : ℕ) → Type 0
-Kept-cells m zs n root w i = Overwritten cells (replicate cells no-arc) w (kept-cell m zs n root) i
+abbrev pub Admissible-cells : (m tails : List ℕ) → (n root : ℕ) → (w : List ℕ) → (i : ℕ) → Type 0
+Admissible-cells m zs n root w i = Overwritten cells (replicate cells no-arc) w (admissible-cell m zs n root) i
 
 module _ (m zs : List ℕ) (n root : ℕ) where
-  pub cells-none : Kept-cells m zs n root (replicate cells no-arc) 0
-  cells-none = overwrite-none (replicate cells no-arc) (kept-cell m zs n root) (length-replicate {A = ℕ} cells no-arc)
+  pub cells-none : Admissible-cells m zs n root (replicate cells no-arc) 0
+  cells-none = overwrite-none (replicate cells no-arc) (admissible-cell m zs n root) (length-replicate {A = ℕ} cells no-arc)
 
-  pub cells-pass : (w : List ℕ) (i : ℕ) → i < cells → Kept-cells m zs n root w i → kept-by zs (i / 32) (i % 32) ≡ false → Kept-cells m zs n root w (i + 1)
+  pub cells-pass : (w : List ℕ) (i : ℕ) → i < cells → Admissible-cells m zs n root w i → admissible-by zs (i / 32) (i % 32) ≡ false → Admissible-cells m zs n root w (i + 1)
   cells-pass w i l o e =
-      overwrite-pass (replicate cells no-arc) (kept-cell m zs n root) w i o
+      overwrite-pass (replicate cells no-arc) (admissible-cell m zs n root) w i o
       (default (replicate cells no-arc) i 0 no-arc (rw (length-replicate {A = ℕ} cells no-arc) l) ∙ replicate-at cells i no-arc
-      ∙ sym (ap (λ (b : Bool). cond b (weight-at (unmarked n root m) i) no-arc) (and-false-right (remaining (unmarked n root m) (i / 32) (i % 32)) (kept-by zs (i / 32) (i % 32)) e)))
+      ∙ sym (ap (λ (b : Bool). cond b (weight-at (unmarked n root m) i) no-arc) (and-false-right (remaining (unmarked n root m) (i / 32) (i % 32)) (admissible-by zs (i / 32) (i % 32)) e)))
 
-  pub cells-store : Matrix-ok n root m → Tails-ok (unmarked n root m) zs → (w : List ℕ) (i : ℕ) → i < cells → Kept-cells m zs n root w i
-      → kept-by zs (i / 32) (i % 32) ≡ true → Kept-cells m zs n root (set w i (getD m i 0)) (i + 1)
+  pub cells-store : Matrix-ok n root m → Tails-ok (unmarked n root m) zs → (w : List ℕ) (i : ℕ) → i < cells → Admissible-cells m zs n root w i
+      → admissible-by zs (i / 32) (i % 32) ≡ true → Admissible-cells m zs n root (set w i (getD m i 0)) (i + 1)
   unfolding unmarked
   cells-store ok k w i l o e =
-      overwrite-store (replicate cells no-arc) (kept-cell m zs n root) w i (getD m i 0) o l
+      overwrite-store (replicate cells no-arc) (admissible-cell m zs n root) w i (getD m i 0) o l
       (default m i 0 no-arc (let z = ok .size in omega arith)
-      ∙ sym (ap (λ (b : Bool). cond b (getD m i no-arc) no-arc) (and-both (remaining (unmarked n root m) (i / 32) (i % 32)) (kept-by zs (i / 32) (i % 32)) (k .arcs (i / 32) (i % 32) e) e)))
+      ∙ sym (ap (λ (b : Bool). cond b (getD m i no-arc) no-arc) (and-both (remaining (unmarked n root m) (i / 32) (i % 32)) (admissible-by zs (i / 32) (i % 32)) (k .arcs (i / 32) (i % 32) e) e)))
 
-  pub cells-all : (w : List ℕ) → Kept-cells m zs n root w cells → w ≡ matrix-where (unmarked n root m) (kept-by zs)
+  pub cells-all : (w : List ℕ) → Admissible-cells m zs n root w cells → w ≡ matrix-where (unmarked n root m) (admissible-by zs)
   unfolding matrix-where
-  cells-all w o = tabulate-is cells w (kept-cell m zs n root) 0 (o .size) (o .done)
+  cells-all w o = tabulate-is cells w (admissible-cell m zs n root) 0 (o .size) (o .done)
 
   -- it can be planned on
-  pub kept-ok : Matrix-ok n root m → Matrix-ok n root (matrix-where (unmarked n root m) (kept-by zs))
+  pub admissible-ok : Matrix-ok n root m → Matrix-ok n root (matrix-where (unmarked n root m) (admissible-by zs))
   unfolding matrix-where unmarked
-  kept-ok ok =
+  admissible-ok ok =
       record {
         small = ok .small;
         root-below = ok .root-below;
-        size = length-tabulate cells (kept-cell m zs n root);
+        size = length-tabulate cells (admissible-cell m zs n root);
         bounded =
             λ i l.
-            rw (getD-tabulate cells (kept-cell m zs n root) i no-arc l)
-            (cond-most (remaining (unmarked n root m) (i / 32) (i % 32) && kept-by zs (i / 32) (i % 32)) (getD m i no-arc) no-arc no-arc (ok .bounded i l) (omega arith));
+            rw (getD-tabulate cells (admissible-cell m zs n root) i no-arc l)
+            (cond-most (remaining (unmarked n root m) (i / 32) (i % 32) && admissible-by zs (i / 32) (i % 32)) (getD m i no-arc) no-arc no-arc (ok .bounded i l) (omega arith));
       }
 
--- BY PLANNING: the arborescences of the matrix of the arcs that are kept are those of kept arcs
+-- BY PLANNING: the arborescences of the matrix of the admissible arcs are those of admissible arcs
 module _ (m zs : List ℕ) (n root w : ℕ) (ok : Matrix-ok n root m) (least : No-cheaper (unmarked n root m) w) (reduced cuts cuts′ : List ℕ) (r : Planned)
-    (p : Planned-matrix (matrix-where (unmarked n root m) (kept-by zs)) reduced n root cuts cuts′ r) where
+    (p : Planned-matrix (matrix-where (unmarked n root m) (admissible-by zs)) reduced n root cuts cuts′ r) where
   abbrev s : Instance
   s = unmarked n root m
 
@@ -134,40 +134,40 @@ module _ (m zs : List ℕ) (n root w : ℕ) (ok : Matrix-ok n root m) (least : N
   unfolding unmarked
   small = ok .small
 
-  there : (qs : List ℕ) → is-arborescence s qs ≡ true → Kept s (kept-by zs) qs → is-arborescence (restricted s (kept-by zs)) qs ≡ true
-  there qs a k = restricted-arborescence s (kept-by zs) small qs .1 (a, k)
+  there : (qs : List ℕ) → is-arborescence s qs ≡ true → Admissible s (admissible-by zs) qs → is-arborescence (restricted s (admissible-by zs)) qs ≡ true
+  there qs a k = restricted-arborescence s (admissible-by zs) small qs .1 (a, k)
 
-  pub plan-none : r .found ≡ false → (qs : List ℕ) → Of-total s w qs → Kept s (kept-by zs) qs → ⊥
+  pub plan-none : r .found ≡ false → (qs : List ℕ) → Of-total s w qs → Admissible s (admissible-by zs) qs → ⊥
   unfolding unmarked
-  plan-none f qs o k = no-entry (restricted s (kept-by zs)) qs (there qs (o .arborescence) k) (record { set = r .set; value = 0 }) (p .no-entry f)
+  plan-none f qs o k = no-entry (restricted s (admissible-by zs)) qs (there qs (o .arborescence) k) (record { set = r .set; value = 0 }) (p .no-entry f)
 
   module _ (f : r .found ≡ true) where
-    found-in : is-arborescence (restricted s (kept-by zs)) (take n (r .parents)) ≡ true
+    found-in : is-arborescence (restricted s (admissible-by zs)) (take n (r .parents)) ≡ true
     unfolding unmarked
     found-in = p .minimum f .arborescence
 
-    pub plan-kept : Kept s (kept-by zs) (take n (r .parents))
-    plan-kept = restricted-arborescence s (kept-by zs) small (take n (r .parents)) .0 found-in .1
+    pub plan-admissible : Admissible s (admissible-by zs) (take n (r .parents))
+    plan-admissible = restricted-arborescence s (admissible-by zs) small (take n (r .parents)) .0 found-in .1
 
     found-there : is-arborescence s (take n (r .parents)) ≡ true
-    found-there = restricted-arborescence s (kept-by zs) small (take n (r .parents)) .0 found-in .0
+    found-there = restricted-arborescence s (admissible-by zs) small (take n (r .parents)) .0 found-in .0
 
     same-total : r .total ≡ total s (take n (r .parents))
     unfolding unmarked
-    same-total = p .is-total f ∙ restricted-total s (kept-by zs) small (take n (r .parents)) found-in
+    same-total = p .is-total f ∙ restricted-total s (admissible-by zs) small (take n (r .parents)) found-in
 
     pub plan-of-total : r .total ≡ w → Of-total s w (take n (r .parents))
     plan-of-total e = record { arborescence = found-there; attained = sym same-total ∙ e }
 
     -- a dearer one is cheapest among these, so none of them has the total w
-    pub plan-dearer : r .total ≢ w → (qs : List ℕ) → Of-total s w qs → Kept s (kept-by zs) qs → ⊥
+    pub plan-dearer : r .total ≢ w → (qs : List ℕ) → Of-total s w qs → Admissible s (admissible-by zs) qs → ⊥
     unfolding unmarked
     plan-dearer d qs o k =
         let a = there qs (o .arborescence) k in
-        let l = weak-duality (restricted s (kept-by zs)) qs a (cuts-in (r .count) cuts′) (p .minimum f .proved .feasible) in
+        let l = weak-duality (restricted s (admissible-by zs)) qs a (cuts-in (r .count) cuts′) (p .minimum f .proved .feasible) in
         let v = p .minimum f .proved .adds in
-        let t = restricted-total s (kept-by zs) small qs a in
-        let u = restricted-total s (kept-by zs) small (take n (r .parents)) found-in in
+        let t = restricted-total s (admissible-by zs) small qs a in
+        let u = restricted-total s (admissible-by zs) small (take n (r .parents)) found-in in
         let e = same-total in
         let q = o .attained in
         let h = least (take n (r .parents)) found-there in

@@ -15,43 +15,43 @@ use Rattle.base.proofs.BoolLaws.{test, not-both, is-true, is-false, and-left, a
 use Rattle.instance.specs.Limits.{max-vertices}
 use Rattle.instance.specs.Cuts.{Cut, cuts-from, cuts-in, inside, enters}
 use Rattle.narrowing.specs.Narrowed.{share-cut, stays-beside}
-use Rattle.first_tree.specs.Tails.{kept-by}
+use Rattle.first_tree.specs.Tails.{admissible-by}
 use Rattle.first_tree.specs.Fixing.{Within, Fixed-tails}
 use Rattle.first_tree.proofs.SetLaws.{inside-and, inside-one}
 
 -- INTO A SET from within alone
 module _ (n set : ℕ) (old new : List ℕ) (w : Within n set old new) where
-  within-at : (g h : ℕ) → (b : Bool) → inside set h ≡ b → h < n → kept-by new g h ≡ cond b (kept-by old g h && inside set g) (kept-by old g h)
+  within-at : (g h : ℕ) → (b : Bool) → inside set h ≡ b → h < n → admissible-by new g h ≡ cond b (admissible-by old g h && inside set g) (admissible-by old g h)
   within-at g h true e l =
       ap (λ (c : ℕ). inside c g) (w .done h l ∙ rw e) ∙ inside-and (getD old h 0) set g
   within-at g h false e l = ap (λ (c : ℕ). inside c g) (w .done h l ∙ rw e)
 
-  within-less : (g h : ℕ) → kept-by new g h ≡ true → kept-by old g h ≡ true
+  within-less : (g h : ℕ) → admissible-by new g h ≡ true → admissible-by old g h ≡ true
   within-less g h e =
       ⊎-elim (λ (b : ltb h n ≡ true). below (ltb-true h n b) (inside set h) refl)
       (λ (b : ltb h n ≡ false). sym (ap (λ (c : ℕ). inside c g) (w .rest h (ltb-false h n b))) ∙ e) (test (ltb h n))
     where
-      below : h < n → (b : Bool) → inside set h ≡ b → kept-by old g h ≡ true
-      below l true i = and-left (kept-by old g h) (inside set g) (sym (within-at g h true i l) ∙ e)
+      below : h < n → (b : Bool) → inside set h ≡ b → admissible-by old g h ≡ true
+      below l true i = and-left (admissible-by old g h) (inside set g) (sym (within-at g h true i l) ∙ e)
       below l false i = sym (within-at g h false i l) ∙ e
 
   -- what does not enter the set stays
-  within-stays : (g h : ℕ) → h < n → kept-by old g h ≡ true → enters set g h ≡ false → kept-by new g h ≡ true
+  within-stays : (g h : ℕ) → h < n → admissible-by old g h ≡ true → enters set g h ≡ false → admissible-by new g h ≡ true
   unfolding enters
   within-stays g h l k out = at (inside set h) refl
     where
-      at : (b : Bool) → inside set h ≡ b → kept-by new g h ≡ true
+      at : (b : Bool) → inside set h ≡ b → admissible-by new g h ≡ true
       at true i =
           within-at g h true i l
-          ∙ and-both (kept-by old g h) (inside set g) k
+          ∙ and-both (admissible-by old g h) (inside set g) k
           (is-true (inside set g) (λ j. not-both (not (inside set g) && inside set h) (and-both (not (inside set g)) (inside set h) (rw j) i) out))
       at false i = within-at g h false i l ∙ k
 
 -- CUT BY CUT: those from place k on have been looked at
 pub record Fixing (cuts : List ℕ) (n count t v : ℕ) (old now : List ℕ) (k : ℕ) : Type 0 where
   pub size : length now ≡ max-vertices
-  pub less : (g h : ℕ) → kept-by now g h ≡ true → kept-by old g h ≡ true
-  pub stays : (g h : ℕ) → h < n → kept-by old g h ≡ true → share-cut (cuts-from (count - k) k cuts) t v g h ≡ false → kept-by now g h ≡ true
+  pub less : (g h : ℕ) → admissible-by now g h ≡ true → admissible-by old g h ≡ true
+  pub stays : (g h : ℕ) → h < n → admissible-by old g h ≡ true → share-cut (cuts-from (count - k) k cuts) t v g h ≡ false → admissible-by now g h ≡ true
   pub unmoved : k ≡ count → now ≡ old
 
 module _ (cuts : List ℕ) (n count t v : ℕ) (old : List ℕ) where
@@ -110,32 +110,32 @@ module _ (cuts : List ℕ) (n count t v : ℕ) (old : List ℕ) where
       (sym (rw z at (next (suc k) (omega arith) l g h)) ∙ last-ones g h e k (omega arith))
 
   -- LAST, the set of the head
-  module _ (now : List ℕ) (from : ℕ) (small : n ≤ max-vertices) (some : from ≤ count) (below : v < n) (kept : kept-by old t v ≡ true)
+  module _ (now : List ℕ) (from : ℕ) (small : n ≤ max-vertices) (some : from ≤ count) (below : v < n) (admissible : admissible-by old t v ≡ true)
       (i : Fixing cuts n count t v old now from) where
     abbrev new : List ℕ
     new = set now v (2 ^ t)
 
-    here : (g : ℕ) → kept-by new g v ≡ eqb g t
+    here : (g : ℕ) → admissible-by new g v ≡ eqb g t
     here g = ap (λ (c : ℕ). inside c g) (getD-set-same now v (2 ^ t) 0 (let z = i .size in omega arith)) ∙ inside-one t g
 
     elsewhere : (h : ℕ) → h ≢ v → getD new h 0 ≡ getD now h 0
     elsewhere h d = getD-set-other now v h (2 ^ t) 0 d
 
-    new-less : (g h : ℕ) → kept-by new g h ≡ true → kept-by old g h ≡ true
+    new-less : (g h : ℕ) → admissible-by new g h ≡ true → admissible-by old g h ≡ true
     new-less g h e = at (ℕ-discrete h v)
       where
-        at : Dec (h ≡ v) → kept-by old g h ≡ true
+        at : Dec (h ≡ v) → admissible-by old g h ≡ true
         at (yes z) =
-            let same : g ≡ t = eqb-true g t (sym (here g) ∙ subst (λ (x : ℕ). kept-by new g x ≡ true) z e) in
-            subst (λ (x : ℕ). kept-by old g x ≡ true) (sym z) (subst (λ (x : ℕ). kept-by old x v ≡ true) (sym same) kept)
+            let same : g ≡ t = eqb-true g t (sym (here g) ∙ subst (λ (x : ℕ). admissible-by new g x ≡ true) z e) in
+            subst (λ (x : ℕ). admissible-by old g x ≡ true) (sym z) (subst (λ (x : ℕ). admissible-by old x v ≡ true) (sym same) admissible)
         at (no z) = i .less g h (sym (ap (λ (c : ℕ). inside c g) (elsewhere h z)) ∙ e)
 
-    new-stays : (g h : ℕ) → h < n → kept-by old g h ≡ true → stays-beside (cuts-in count cuts) t v g h ≡ true → kept-by new g h ≡ true
+    new-stays : (g h : ℕ) → h < n → admissible-by old g h ≡ true → stays-beside (cuts-in count cuts) t v g h ≡ true → admissible-by new g h ≡ true
     unfolding stays-beside
     new-stays g h l k s = at (ℕ-discrete h v)
       where
-        at : Dec (h ≡ v) → kept-by new g h ≡ true
-        at (yes z) = subst (λ (x : ℕ). kept-by new g x ≡ true) (sym z) (here g ∙ (rw (eq-eqb h v z) at s))
+        at : Dec (h ≡ v) → admissible-by new g h ≡ true
+        at (yes z) = subst (λ (x : ℕ). admissible-by new g x ≡ true) (sym z) (here g ∙ (rw (eq-eqb h v z) at s))
         at (no z) =
             ap (λ (c : ℕ). inside c g) (elsewhere h z)
             ∙ i .stays g h l k (last-ones g h (not-true (share-cut (cuts-in count cuts) t v g h) (rw (ne-eqb h v z) at s)) from some)

@@ -19,7 +19,7 @@ use Rattle.instance.specs.Cuts.{inside}
 use Rattle.instance.proofs.SetBits.{inside-none, inside-below}
 use Rattle.narrowing.specs.Grown.{Grown}
 use Rattle.narrowing.proofs.GrownLaws.{grown-root, grown-more}
-use Rattle.first_tree.specs.Tails.{kept-by}
+use Rattle.first_tree.specs.Tails.{admissible-by}
 use Rattle.first_tree.specs.Fixing.{Fixed-tails}
 use Rattle.first_tree.specs.Growth.{In-range, Growing, Nothing-new, Grows, Grown-tree}
 use Rattle.first_tree.proofs.SetLaws.{inside-and, inside-or, inside-one, or-least, least-inside}
@@ -65,8 +65,8 @@ module _ (n from count h : ℕ) (now : List ℕ) (reached : ℕ) (ps : List ℕ)
   both : inside (getD now h 0) tail && inside reached tail ≡ true
   both = sym (inside-and (getD now h 0) reached tail) ∙ tail-in
 
-  pub source-kept : kept-by now (trailingZeros 32 (bitAnd (getD now h 0) reached)) h ≡ true
-  source-kept = and-left (inside (getD now h 0) tail) (inside reached tail) both
+  pub source-admissible : admissible-by now (trailingZeros 32 (bitAnd (getD now h 0) reached)) h ≡ true
+  source-admissible = and-left (inside (getD now h 0) tail) (inside reached tail) both
 
   source-reached : inside reached tail ≡ true
   source-reached = and-right (inside (getD now h 0) tail) (inside reached tail) both
@@ -91,8 +91,8 @@ module _ (n from count h : ℕ) (now : List ℕ) (reached : ℕ) (ps : List ℕ)
               f .others same v (λ z. not-both (inside reached v || eqb v h) (or-right (inside reached v) (eqb v h) (eq-eqb v h z)) w)
               ∙ g .others same v (or-false-left (inside reached v) (eqb v h) w);
           grown =
-              subst (λ (l : List ℕ). Grown n root (kept-by tails) (inside more) l) (sym (take-set-lt n ps h tail below))
-              (grown-more n root (kept-by tails) (inside reached) (inside more) (take n ps) (g .grown) tail h below out source-reached (g .less tail h source-kept) joined);
+              subst (λ (l : List ℕ). Grown n root (admissible-by tails) (inside more) l) (sym (take-set-lt n ps h tail below))
+              (grown-more n root (admissible-by tails) (inside reached) (inside more) (take n ps) (g .grown) tail h below out source-reached (g .less tail h source-admissible) joined);
         }
 
     pub grows-more : Grows n from count h (suc h) now new reached (bitOr reached (2 ^ h)) ps (set ps h (trailingZeros 32 (bitAnd (getD now h 0) reached)))
@@ -151,8 +151,8 @@ growing-root n root from count tails small =
       less = λ t h e. e;
       others = λ same h o. refl;
       grown =
-          subst (λ (l : List ℕ). Grown n root (kept-by tails) (inside (2 ^ root)) l) (sym (take-replicate n max-vertices no-parent small))
-          (grown-root n root (kept-by tails) (inside (2 ^ root)) (inside-one root));
+          subst (λ (l : List ℕ). Grown n root (admissible-by tails) (inside (2 ^ root)) l) (sym (take-replicate n max-vertices no-parent small))
+          (grown-root n root (admissible-by tails) (inside (2 ^ root)) (inside-one root));
     }
 
 -- A ROUND ADDED NOTHING: arcs lead to no other vertex
@@ -166,6 +166,6 @@ grown-tree n root from count tails now reached ps k g s =
           λ same t h l e i.
           is-true (inside reached h)
           (λ o.
-          not-both (inside (bitAnd (getD tails h 0) reached) t) (inside-and (getD tails h 0) reached t ∙ and-both (kept-by tails t h) (inside reached t) e i)
+          not-both (inside (bitAnd (getD tails h 0) reached) t) (inside-and (getD tails h 0) reached t ∙ and-both (admissible-by tails t h) (inside reached t) e i)
           (ap (λ (c : ℕ). inside c t) (s same refl h (omega arith) l o) ∙ inside-none 0 t (pow-pos t)));
     }

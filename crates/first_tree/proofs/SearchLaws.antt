@@ -24,16 +24,16 @@ use Rattle.theory.proofs.Duality.{weak-duality}
 use Rattle.paths.specs.Tree.{Matrix-tree}
 use Rattle.paths.proofs.PathLaws.{parent-other}
 use Rattle.paths.proofs.ExchangeLaws.{exchange-uses, exchange, exchange-total}
-use Rattle.narrowing.specs.Narrowed.{Of-total, Kept, None-below, Refuted}
+use Rattle.narrowing.specs.Narrowed.{Of-total, Admissible, None-below, Refuted}
 use Rattle.narrowing.proofs.FixedLaws.{fixed-less}
 use Rattle.narrowing.proofs.NarrowedLaws.{narrowed-start, narrowed-take, none-below-take, refute-absent, refute-cycle, refute-fixed, fixed-tail, narrowed-settle, narrowed-root, narrowed-first}
-use Rattle.narrowing.proofs.GrownLaws.{grown-kept, grown-whole, exhausted-none}
-use Rattle.first_tree.specs.Tails.{kept-by, Tails-ok, Tight-tails}
+use Rattle.narrowing.proofs.GrownLaws.{grown-admissible, grown-whole, exhausted-none}
+use Rattle.first_tree.specs.Tails.{admissible-by, Tails-ok, Tight-tails}
 use Rattle.first_tree.specs.Fixing.{Fixed-tails}
 use Rattle.first_tree.specs.Growth.{Grown-tree}
 use Rattle.first_tree.specs.Attempt.{Leads-back, Exchangeable, No-cheaper, Attempted, Tried}
 use Rattle.first_tree.specs.Search.{Search, Planned-tree, Settled, Least-parent}
-use Rattle.first_tree.proofs.TailLaws.{tight-ok, tight-kept}
+use Rattle.first_tree.proofs.TailLaws.{tight-ok, tight-admissible}
 
 not-all : (k : ℕ) (P : ℕ → Bool) → all-below k P ≡ false → (v : ℕ) × (v < k) × (P v ≡ false)
 unfolding all-below
@@ -64,11 +64,11 @@ module _ (m cuts : List ℕ) (n root w from count : ℕ) (k : Search m cuts n ro
   -- A TREE GROWN
   module _ (zs : List ℕ) (ok : Tails-ok (unmarked n root m) zs) (at reached : ℕ) (ps : List ℕ) (g : Grown-tree n root at count zs reached ps) where
     -- not whole, where no cut is looked at
-    pub grown-short : at ≡ count → all-below n (inside reached) ≡ false → (qs : List ℕ) → Of-total (unmarked n root m) w qs → Kept (unmarked n root m) (kept-by zs) qs → ⊥
+    pub grown-short : at ≡ count → all-below n (inside reached) ≡ false → (qs : List ℕ) → Of-total (unmarked n root m) w qs → Admissible (unmarked n root m) (admissible-by zs) qs → ⊥
     unfolding unmarked
     grown-short e short qs o x =
         let miss = not-all n (inside reached) short in
-        exhausted-none s (kept-by zs) (inside reached) (miss .0)
+        exhausted-none s (admissible-by zs) (inside reached) (miss .0)
         (record { root-reached = g .grown .root-reached; stays-within = g .stays-within e; out-below = miss .1; missed = miss .2 }) qs (o .arborescence) x
 
     module _ (all : all-below n (inside reached) ≡ true) where
@@ -81,28 +81,28 @@ module _ (m cuts : List ℕ) (n root w from count : ℕ) (k : Search m cuts n ro
           record {
             matrix-ok = k .matrix-ok;
             places = g .places;
-            arborescence = grown-whole s (kept-by zs) (ok .arcs) (inside reached) (take n ps) (g .grown) root-below each;
+            arborescence = grown-whole s (admissible-by zs) (ok .arcs) (inside reached) (take n ps) (g .grown) root-below each;
           }
 
-      pub grown-passes : Kept (unmarked n root m) (kept-by zs) (take n ps)
+      pub grown-passes : Admissible (unmarked n root m) (admissible-by zs) (take n ps)
       unfolding unmarked
-      grown-passes = grown-kept s (kept-by zs) (ok .arcs) (inside reached) (take n ps) (g .grown) root-below each
+      grown-passes = grown-admissible s (admissible-by zs) (ok .arcs) (inside reached) (take n ps) (g .grown) root-below each
 
   -- A TAIL TRIED
   module _ (v : ℕ) (zs ps : List ℕ) (d : Settled m n root w v zs ps) where
     pub tree-at-hand : Matrix-tree n root m ps
     tree-at-hand = record { matrix-ok = k .matrix-ok; places = d .places; arborescence = d .narrowed .tree .arborescence }
 
-    module _ (t : ℕ) (below : v < n) (kept : kept-by zs t v ≡ true) where
+    module _ (t : ℕ) (below : v < n) (admissible : admissible-by zs t v ≡ true) where
       arc : remaining s t v ≡ true
-      arc = d .tails-ok .arcs t v kept
+      arc = d .tails-ok .arcs t v admissible
 
-      pub kept-ends : Ends n root t v
+      pub admissible-ends : Ends n root t v
       unfolding unmarked
-      kept-ends = remaining-ends s t v arc
+      admissible-ends = remaining-ends s t v arc
 
       pub not-root : v ≢ root
-      not-root = eqb-false v root (kept-ends .not-root)
+      not-root = eqb-false v root (admissible-ends .not-root)
 
       -- settled parents lead back
       pub tried-cycle : Leads-back (take n ps) t v → Tried m n root w v zs ps t false ps
@@ -111,9 +111,9 @@ module _ (m cuts : List ℕ) (n root w from count : ℕ) (k : Search m cuts n ro
           record {
             places = d .places;
             tree = λ e. absurd (not-both false e refl);
-            kept = λ e. absurd (not-both false e refl);
+            admissible = λ e. absurd (not-both false e refl);
             has-tail = λ e. absurd (not-both false e refl);
-            none = λ _. refute-cycle s cs w (k .proves) v (kept-by zs) (take n ps) (d .narrowed) below (kept-ends .not-root) root-below small t b;
+            none = λ _. refute-cycle s cs w (k .proves) v (admissible-by zs) (take n ps) (d .narrowed) below (admissible-ends .not-root) root-below small t b;
           }
 
       -- an exchange
@@ -121,13 +121,13 @@ module _ (m cuts : List ℕ) (n root w from count : ℕ) (k : Search m cuts n ro
         abbrev qs : List ℕ
         qs = set (take n ps) v t
 
-        others-kept : Kept s (kept-by zs) qs
+        others-admissible : Admissible s (admissible-by zs) qs
         unfolding unmarked
-        others-kept u l e = at (ℕ-discrete u v)
+        others-admissible u l e = at (ℕ-discrete u v)
           where
-            at : Dec (u ≡ v) → kept-by zs (parent qs u) u ≡ true
-            at (yes z) = subst (λ (y : ℕ). kept-by zs (parent qs y) y ≡ true) (sym z) (rw (exchange-uses s (take n ps) root-below (d .narrowed .tree .arborescence) t v arc (x .apart)) kept)
-            at (no z) = rw (parent-other (take n ps) v t u z) (d .narrowed .tree-kept u l e)
+            at : Dec (u ≡ v) → admissible-by zs (parent qs u) u ≡ true
+            at (yes z) = subst (λ (y : ℕ). admissible-by zs (parent qs y) y ≡ true) (sym z) (rw (exchange-uses s (take n ps) root-below (d .narrowed .tree .arborescence) t v arc (x .apart)) admissible)
+            at (no z) = rw (parent-other (take n ps) v t u z) (d .narrowed .tree-admissible u l e)
 
         others-total : Of-total s w qs
         others-total =
@@ -143,7 +143,7 @@ module _ (m cuts : List ℕ) (n root w from count : ℕ) (k : Search m cuts n ro
             record {
               places = length-set ps v t ∙ d .places;
               tree = λ _. rw e others-total;
-              kept = λ _. rw e others-kept;
+              admissible = λ _. rw e others-admissible;
               has-tail = λ _. rw e (exchange-uses s (take n ps) root-below (d .narrowed .tree .arborescence) t v arc (x .apart));
               none = λ z. absurd (not-both true refl z);
             }
@@ -153,16 +153,16 @@ module _ (m cuts : List ℕ) (n root w from count : ℕ) (k : Search m cuts n ro
         pub fixed-ok : Tails-ok (unmarked n root m) zs′
         fixed-ok = record { size = f .size; arcs = λ g h e. d .tails-ok .arcs g h (f .less g h e) }
 
-        pub tried-fixed : (found : Bool) (others : List ℕ) → Attempted (unmarked n root m) w (kept-by zs′) found others → Tried m n root w v zs ps t found others
+        pub tried-fixed : (found : Bool) (others : List ℕ) → Attempted (unmarked n root m) w (admissible-by zs′) found others → Tried m n root w v zs ps t found others
         unfolding unmarked
         tried-fixed found others a =
             record {
               places = a .places;
               tree = a .tree;
-              kept = λ e. fixed-less s cs (kept-by zs) (kept-by zs′) t v (f .fixed) (take n others) (a .kept e);
+              admissible = λ e. fixed-less s cs (admissible-by zs) (admissible-by zs′) t v (f .fixed) (take n others) (a .admissible e);
               has-tail =
-                  λ e. fixed-tail s cs w (k .proves) v (kept-by zs) (take n ps) (d .narrowed) below (kept-ends .not-root) (kept-by zs′) t (f .fixed) (take n others) (a .kept e);
-              none = λ e. refute-fixed s cs w (k .proves) v (kept-by zs) (take n ps) (d .narrowed) below (kept-ends .not-root) (kept-by zs′) t (f .fixed) (a .none e);
+                  λ e. fixed-tail s cs w (k .proves) v (admissible-by zs) (take n ps) (d .narrowed) below (admissible-ends .not-root) (admissible-by zs′) t (f .fixed) (take n others) (a .admissible e);
+              none = λ e. refute-fixed s cs w (k .proves) v (admissible-by zs) (take n ps) (d .narrowed) below (admissible-ends .not-root) (admissible-by zs′) t (f .fixed) (a .none e);
             }
 
   -- A TAIL TAKEN, when those below it cannot be had
@@ -170,9 +170,9 @@ module _ (m cuts : List ℕ) (n root w from count : ℕ) (k : Search m cuts n ro
       → None-below (unmarked n root m) w v (take n ps) t → Settled m n root w v zs others × Least-parent m n root w v others
   settled-take v zs ps d t others a b =
       let o = a .tree refl in
-      let x = a .kept refl in (
-        record { places = a .places; tails-ok = d .tails-ok; narrowed = narrowed-take s cs w (k .proves) v (kept-by zs) (take n ps) (d .narrowed) (take n others) o x },
-        rw (a .has-tail refl) (none-below-take s cs w (k .proves) v (kept-by zs) (take n ps) (d .narrowed) (take n others) o x t b),
+      let x = a .admissible refl in (
+        record { places = a .places; tails-ok = d .tails-ok; narrowed = narrowed-take s cs w (k .proves) v (admissible-by zs) (take n ps) (d .narrowed) (take n others) o x },
+        rw (a .has-tail refl) (none-below-take s cs w (k .proves) v (admissible-by zs) (take n ps) (d .narrowed) (take n others) o x t b),
       )
 
   -- START AND FINISH
@@ -182,13 +182,13 @@ module _ (m cuts : List ℕ) (n root w from count : ℕ) (k : Search m cuts n ro
         places = p .places;
         tails-ok = tight-ok m reduced n root zs z;
         narrowed =
-            narrowed-start s cs w (k .proves) (kept-by zs) (take n ps) (p .tree)
-            (λ t h r e. tight-kept m reduced n root zs z t h r (p .costs t h r ∙ e));
+            narrowed-start s cs w (k .proves) (admissible-by zs) (take n ps) (p .tree)
+            (λ t h r e. tight-admissible m reduced n root zs z t h r (p .costs t h r ∙ e));
       }
 
   pub settled-all : (zs ps : List ℕ) → Settled m n root w n zs ps → take n ps ≡ first-tree (unmarked n root m)
   unfolding unmarked
-  settled-all zs ps d = narrowed-first s cs w (k .proves) (kept-by zs) (take n ps) (d .narrowed)
+  settled-all zs ps d = narrowed-first s cs w (k .proves) (admissible-by zs) (take n ps) (d .narrowed)
 
   -- ONE VERTEX MORE
   pub settled-root : (v : ℕ) (zs ps : List ℕ) → v < n → v ≡ root → Settled m n root w v zs ps → Settled m n root w (v + 1) zs ps
@@ -197,14 +197,14 @@ module _ (m cuts : List ℕ) (n root w from count : ℕ) (k : Search m cuts n ro
       record {
         places = d .places;
         tails-ok = d .tails-ok;
-        narrowed = rw (add-one v) (narrowed-root s cs w (k .proves) v (kept-by zs) (take n ps) (d .narrowed) l (eq-eqb v root e));
+        narrowed = rw (add-one v) (narrowed-root s cs w (k .proves) v (admissible-by zs) (take n ps) (d .narrowed) l (eq-eqb v root e));
       }
 
   module _ (v : ℕ) (zs ps : List ℕ) (l : v < n) (e : v ≢ root) (d : Settled m n root w v zs ps) where
-    -- the arc of the tree at hand is kept
-    pub own-kept : kept-by zs (parent (take n ps) v) v ≡ true
+    -- the arc of the tree at hand is admissible
+    pub own-admissible : admissible-by zs (parent (take n ps) v) v ≡ true
     unfolding unmarked
-    own-kept = d .narrowed .tree-kept v l (ne-eqb v root e)
+    own-admissible = d .narrowed .tree-admissible v l (ne-eqb v root e)
 
     pub settled-more : Least-parent m n root w v ps → (zs′ : List ℕ) → Fixed-tails cuts n from count (parent (take n ps) v) v zs zs′ → Settled m n root w (v + 1) zs′ ps
     unfolding unmarked
@@ -214,10 +214,10 @@ module _ (m cuts : List ℕ) (n root w from count : ℕ) (k : Search m cuts n ro
           tails-ok = record { size = f .size; arcs = λ g h x. d .tails-ok .arcs g h (f .less g h x) };
           narrowed =
               rw (add-one v)
-              (narrowed-settle s cs w (k .proves) v (kept-by zs) (take n ps) (d .narrowed) l (ne-eqb v root e) (kept-by zs′) b (f .fixed));
+              (narrowed-settle s cs w (k .proves) v (admissible-by zs) (take n ps) (d .narrowed) l (ne-eqb v root e) (admissible-by zs′) b (f .fixed));
         }
 
-  -- a tail that is not kept cannot be had
-  pub none-absent : (v : ℕ) (zs ps : List ℕ) → v < n → v ≢ root → Settled m n root w v zs ps → (t : ℕ) → kept-by zs t v ≡ false → Refuted (unmarked n root m) w v (take n ps) t
+  -- the tail of an arc that is not admissible cannot be had
+  pub none-absent : (v : ℕ) (zs ps : List ℕ) → v < n → v ≢ root → Settled m n root w v zs ps → (t : ℕ) → admissible-by zs t v ≡ false → Refuted (unmarked n root m) w v (take n ps) t
   unfolding unmarked
-  none-absent v zs ps l e d t r = refute-absent s cs w (k .proves) v (kept-by zs) (take n ps) (d .narrowed) l (ne-eqb v root e) t r
+  none-absent v zs ps l e d t r = refute-absent s cs w (k .proves) v (admissible-by zs) (take n ps) (d .narrowed) l (ne-eqb v root e) t r

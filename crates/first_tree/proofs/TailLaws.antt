@@ -20,7 +20,7 @@ use Rattle.instance.specs.Cuts.{inside}
 use Rattle.instance.specs.Matrix.{unmarked}
 use Rattle.instance.proofs.ArcLaws.{remaining-ends, unmarked-remaining}
 use Rattle.instance.proofs.SetBits.{bit-small, inside-none, inside-below, inside-digits}
-use Rattle.first_tree.specs.Tails.{kept-by, Tails-ok, tight, tight-set, Tight-tails}
+use Rattle.first_tree.specs.Tails.{admissible-by, Tails-ok, tight, tight-set, Tight-tails}
 
 module _ (m reduced : List ℕ) (n root : ℕ) where
   -- FILLED from the front
@@ -40,17 +40,17 @@ module _ (m reduced : List ℕ) (n root : ℕ) where
   set-has t h l = inside-digits n (λ u. tight m reduced n root u h) t l
 
   module _ (zs : List ℕ) (k : Tight-tails m reduced n root zs) where
-    kept-has : (t h : ℕ) → t < n → h < n → kept-by zs t h ≡ tight m reduced n root t h
-    kept-has t h l b = ap (λ (c : ℕ). inside c t) (k .into h b) ∙ set-has t h l
+    admissible-has : (t h : ℕ) → t < n → h < n → admissible-by zs t h ≡ tight m reduced n root t h
+    admissible-has t h l b = ap (λ (c : ℕ). inside c t) (k .into h b) ∙ set-has t h l
 
-    kept-tail : (t h : ℕ) → h < n → kept-by zs t h ≡ true → t < n
-    kept-tail t h b e = inside-below n (tight-set m reduced n root n h) t (set-below h) (sym (ap (λ (c : ℕ). inside c t) (k .into h b)) ∙ e)
+    admissible-tail : (t h : ℕ) → h < n → admissible-by zs t h ≡ true → t < n
+    admissible-tail t h b e = inside-below n (tight-set m reduced n root n h) t (set-below h) (sym (ap (λ (c : ℕ). inside c t) (k .into h b)) ∙ e)
 
-    kept-head : (t h : ℕ) → kept-by zs t h ≡ true → h < n
-    kept-head t h e =
+    admissible-head : (t h : ℕ) → admissible-by zs t h ≡ true → h < n
+    admissible-head t h e =
         ⊎-elim (λ (b : ltb h n ≡ true). ltb-true h n b)
         (λ (b : ltb h n ≡ false).
-        absurd (not-both (kept-by zs t h) e (ap (λ (c : ℕ). inside c t) (k .rest h (ltb-false h n b)) ∙ inside-none 0 t (pow-pos t)))) (test (ltb h n))
+        absurd (not-both (admissible-by zs t h) e (ap (λ (c : ℕ). inside c t) (k .rest h (ltb-false h n b)) ∙ inside-none 0 t (pow-pos t)))) (test (ltb h n))
 
     pub tight-ok : Tails-ok (unmarked n root m) zs
     unfolding tight
@@ -59,15 +59,15 @@ module _ (m reduced : List ℕ) (n root : ℕ) where
           size = k .size;
           arcs =
               λ t h e.
-              let b = kept-head t h e in
-              let l = kept-tail t h b e in
+              let b = admissible-head t h e in
+              let l = admissible-tail t h b e in
               unmarked-remaining n root m t h
-              ∙ and-right (eqb (getD reduced (cell t h) 0) 0) (is-arc (unmarked n root m) t h) (sym (kept-has t h l b) ∙ e);
+              ∙ and-right (eqb (getD reduced (cell t h) 0) 0) (is-arc (unmarked n root m) t h) (sym (admissible-has t h l b) ∙ e);
         }
 
-    pub tight-kept : (t h : ℕ) → remaining (unmarked n root m) t h ≡ true → getD reduced (cell t h) 0 ≡ 0 → kept-by zs t h ≡ true
+    pub tight-admissible : (t h : ℕ) → remaining (unmarked n root m) t h ≡ true → getD reduced (cell t h) 0 ≡ 0 → admissible-by zs t h ≡ true
     unfolding tight unmarked
-    tight-kept t h r z =
+    tight-admissible t h r z =
         let end = remaining-ends (unmarked n root m) t h r in
-        kept-has t h (end .tail-below) (end .head-below)
+        admissible-has t h (end .tail-below) (end .head-below)
         ∙ and-both (eqb (getD reduced (cell t h) 0) 0) (is-arc (unmarked n root m) t h) (eq-eqb (getD reduced (cell t h) 0) 0 z) (sym (unmarked-remaining n root m t h) ∙ r)

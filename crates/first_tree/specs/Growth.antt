@@ -10,7 +10,7 @@ use lib.ListN.{length, getD, take}
 use Rattle.instance.specs.Limits.{max-vertices, max-cuts}
 use Rattle.instance.specs.Cuts.{inside}
 use Rattle.narrowing.specs.Grown.{Grown}
-use Rattle.first_tree.specs.Tails.{kept-by}
+use Rattle.first_tree.specs.Tails.{admissible-by}
 
 -- what the program holds is in range, and so are the cuts that are looked at
 pub record In-range (n from count : ℕ) (now : List ℕ) (reached : ℕ) (parents : List ℕ) : Type 0 where
@@ -24,9 +24,9 @@ pub record In-range (n from count : ℕ) (now : List ℕ) (reached : ℕ) (paren
 -- A tree as it grows, from the sets of tails at first to those as they are now. Where no cut is looked at, the set of a
 -- vertex that is not reached is as it was.
 pub record Growing (n root from count : ℕ) (tails now : List ℕ) (reached : ℕ) (parents : List ℕ) : Type 0 where
-  pub less : (t h : ℕ) → kept-by now t h ≡ true → kept-by tails t h ≡ true
+  pub less : (t h : ℕ) → admissible-by now t h ≡ true → admissible-by tails t h ≡ true
   pub others : from ≡ count → (h : ℕ) → inside reached h ≡ false → getD now h 0 ≡ getD tails h 0
-  pub grown : Grown n root (kept-by tails) (inside reached) (take n parents)
+  pub grown : Grown n root (admissible-by tails) (inside reached) (take n parents)
 
 -- where no cut is looked at, and no more than `before` is reached by now: no arc leads on to a vertex from low to below
 -- high
@@ -44,5 +44,5 @@ pub record Grows (n from count low high : ℕ) (old now : List ℕ) (before reac
 -- THE TREE, and, where no cut is looked at, that arcs lead to no other vertex
 pub record Grown-tree (n root from count : ℕ) (tails : List ℕ) (reached : ℕ) (parents : List ℕ) : Type 0 where
   pub places : length parents ≡ max-vertices
-  pub grown : Grown n root (kept-by tails) (inside reached) (take n parents)
-  pub stays-within : from ≡ count → (t h : ℕ) → h < n → kept-by tails t h ≡ true → inside reached t ≡ true → inside reached h ≡ true
+  pub grown : Grown n root (admissible-by tails) (inside reached) (take n parents)
+  pub stays-within : from ≡ count → (t h : ℕ) → h < n → admissible-by tails t h ≡ true → inside reached t ≡ true → inside reached h ≡ true

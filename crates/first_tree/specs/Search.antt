@@ -11,7 +11,7 @@ use Rattle.instance.specs.Arborescence.{remaining, parent}
 use Rattle.instance.specs.Cuts.{cuts-in, Proves, reduced-cost}
 use Rattle.instance.specs.Matrix.{unmarked, Matrix-ok}
 use Rattle.narrowing.specs.Narrowed.{Of-total, Narrowed, None-below}
-use Rattle.first_tree.specs.Tails.{kept-by, Tails-ok}
+use Rattle.first_tree.specs.Tails.{admissible-by, Tails-ok}
 
 -- a matrix with its cheapest total w and the cuts that prove it, of which those from a place on are looked at
 pub record Search (m cuts : List ℕ) (n root w from count : ℕ) : Type 0 where
@@ -31,7 +31,7 @@ pub record Planned-tree (m reduced cuts : List ℕ) (n root w count : ℕ) (pare
 pub record Settled (m : List ℕ) (n root w v : ℕ) (tails parents : List ℕ) : Type 0 where
   pub places : length parents ≡ max-vertices
   pub tails-ok : Tails-ok (unmarked n root m) tails
-  pub narrowed : Narrowed (unmarked n root m) w v (kept-by tails) (take n parents)
+  pub narrowed : Narrowed (unmarked n root m) w v (admissible-by tails) (take n parents)
 
 -- no tail below the parent of v can be had
 abbrev pub Least-parent : (m : List ℕ) → (n root w v : ℕ) → (parents : List ℕ) → Type 0

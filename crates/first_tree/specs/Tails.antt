@@ -1,5 +1,5 @@
--- The tails that each vertex can have, as sets: the set at place h has the tails of the arcs into h that are kept.
--- Assumes nothing: these are definitions.
+-- The tails that each vertex can have, as sets: the set at place h has the tails of the admissible arcs into h. Assumes
+-- nothing: these are definitions.
 use mathlib.Core.Path.{_≡_}
 use mathlib.Core.Bool.{Bool, true, _&&_, cond}
 use mathlib.Core.List.{List}
@@ -13,14 +13,14 @@ use Rattle.instance.specs.Arborescence.{remaining}
 use Rattle.instance.specs.Cuts.{inside}
 use Rattle.instance.specs.Matrix.{unmarked}
 
--- whether an arc is kept
-abbrev pub kept-by : (tails : List ℕ) → (tail head : ℕ) → Bool
-kept-by zs t h = inside (getD zs h 0) t
+-- whether an arc is admissible
+abbrev pub admissible-by : (tails : List ℕ) → (tail head : ℕ) → Bool
+admissible-by zs t h = inside (getD zs h 0) t
 
 -- a set for each vertex, of arcs that remain
 pub record Tails-ok (s : Instance) (tails : List ℕ) : Type 0 where
   pub size : length tails ≡ max-vertices
-  pub arcs : (t h : ℕ) → kept-by tails t h ≡ true → remaining s t h ≡ true
+  pub arcs : (t h : ℕ) → admissible-by tails t h ≡ true → remaining s t h ≡ true
 
 -- AT FIRST: the arcs of a matrix whose reduced costs are 0
 unfoldable pub tight : (m reduced : List ℕ) → (n root tail head : ℕ) → Bool

@@ -10,7 +10,7 @@ ghost use Rattle.instance.specs.Arborescence.{total as total-of};
 ghost use Rattle.instance.specs.Matrix.{matrix-where, unmarked, Matrix-ok};
 ghost use Rattle.paths.specs.Paths.{Rooted};
 ghost use Rattle.paths.specs.Tree.{Matrix-tree};
-ghost use Rattle.first_tree.specs.Tails.{kept-by, Tails-ok};
+ghost use Rattle.first_tree.specs.Tails.{admissible-by, Tails-ok};
 ghost use Rattle.first_tree.specs.Attempt.{Leads-back, Exchangeable, No-cheaper, Attempted, Tried};
 ghost use Rattle.first_tree.specs.Search.{Search, Settled};
 use super::fixing::fix_arc;
@@ -83,10 +83,10 @@ fn tree_total(m: &[u32; CELLS], parents: &[u8; VERTICES], n: u32, root: u32) -> 
     sum
 }
 
-// The weights of the arcs that are kept, and no arc elsewhere.
-fn kept_matrix(m: &[u32; CELLS], tails: &[u32; VERTICES], n: u32, root: u32) -> [u32; CELLS]
+// The weights of the admissible arcs, and no arc elsewhere.
+fn admissible_matrix(m: &[u32; CELLS], tails: &[u32; VERTICES], n: u32, root: u32) -> [u32; CELLS]
     requires { ⌜ Matrix-ok n root (now m) × Tails-ok (unmarked n root (now m)) (now tails) ⌝ }
-    ensures { λ r. ⌜ r ≡ matrix-where (unmarked n root (now (m .entry))) (kept-by (now (tails .entry))) ⌝ }
+    ensures { λ r. ⌜ r ≡ matrix-where (unmarked n root (now (m .entry))) (admissible-by (now (tails .entry))) ⌝ }
 {
     let mut w = [NO_ARC; CELLS];
     let mut i: usize = 0;
@@ -99,12 +99,18 @@ fn kept_matrix(m: &[u32; CELLS], tails: &[u32; VERTICES], n: u32, root: u32) -> 
     w
 }
 
-// A cheapest arborescence of the arcs that are kept, if it has that total; else there is none of it.
-fn plan_kept(m: &[u32; CELLS], tails: &[u32; VERTICES], n: u32, root: u32, total: u32) -> Attempt
+// A cheapest arborescence of the admissible arcs, if it has that total; else there is none of it.
+fn plan_admissible(
+    m: &[u32; CELLS],
+    tails: &[u32; VERTICES],
+    n: u32,
+    root: u32,
+    total: u32,
+) -> Attempt
     requires { ⌜ Matrix-ok n root (now m) × Tails-ok (unmarked n root (now m)) (now tails) × No-cheaper (unmarked n root (now m)) total ⌝ }
-    ensures { λ r. ⌜ Attempted (unmarked n root (now (m .entry))) total (kept-by (now (tails .entry))) (r .found) (r .parents) ⌝ }
+    ensures { λ r. ⌜ Attempted (unmarked n root (now (m .entry))) total (admissible-by (now (tails .entry))) (r .found) (r .parents) ⌝ }
 {
-    let mut w = kept_matrix(m, tails, n, root);
+    let mut w = admissible_matrix(m, tails, n, root);
     let mut cuts = [0u32; CUT_WORDS];
     let planned = edmonds::plan_matrix(&mut w, n as usize, Vertex(root), &mut cuts);
     let parents = planned.parents;
@@ -120,8 +126,8 @@ fn plan_kept(m: &[u32; CELLS], tails: &[u32; VERTICES], n: u32, root: u32, total
     }
 }
 
-// With an arc fixed: a tree of arcs that are kept, of the cheapest total, or that there is none.
-fn tree_kept(
+// With an arc fixed: a tree of admissible arcs, of the cheapest total, or that there is none.
+fn tree_admissible(
     m: &[u32; CELLS], // the weights of the remaining arcs
     cuts: &[u32; CUT_WORDS], // the cuts that prove the total
     tails: &[u32; VERTICES], // the tails that each vertex can have
@@ -132,7 +138,7 @@ fn tree_kept(
     count: u32, // the number of cuts
 ) -> Attempt
     requires { ⌜ Search (now m) (now cuts) n root total (from .0) count × Tails-ok (unmarked n root (now m)) (now tails) ⌝ }
-    ensures { λ r. ⌜ Attempted (unmarked n root (now (m .entry))) total (kept-by (now (tails .entry))) (r .found) (r .parents) ⌝ }
+    ensures { λ r. ⌜ Attempted (unmarked n root (now (m .entry))) total (admissible-by (now (tails .entry))) (r .found) (r .parents) ⌝ }
 {
     let all = grow(cuts, tails, n, root, CutIndex(count), count);
     if !all_reached(all.reached, n) {
@@ -151,7 +157,7 @@ fn tree_kept(
             };
         }
     }
-    plan_kept(m, tails, n, root, total)
+    plan_admissible(m, tails, n, root, total)
 }
 
 // A cheapest arborescence that begins like the tree at hand below the vertex and has this tail into it, or that there
@@ -166,10 +172,10 @@ pub fn try_tail(
     total: u32, // the cheapest total
     from: CutIndex, // the cuts from this one on are looked at
     count: u32, // the number of cuts
-    tail: u32, // the arc, which is kept
+    tail: u32, // the arc, which is admissible
     vertex: u32, // into this vertex
 ) -> Attempt
-    requires { ⌜ Search (now m) (now cuts) n root total (from .0) count × Settled (now m) n root total vertex (now tails) parents × (vertex < n) × (kept-by (now tails) tail vertex ≡ true) ⌝ }
+    requires { ⌜ Search (now m) (now cuts) n root total (from .0) count × Settled (now m) n root total vertex (now tails) parents × (vertex < n) × (admissible-by (now tails) tail vertex ≡ true) ⌝ }
     ensures { λ r. ⌜ Tried (now (m .entry)) n root total vertex (now (tails .entry)) parents tail (r .found) (r .parents) ⌝ }
 {
     if leads_back(&parents, n, root, tail, vertex) {
@@ -188,5 +194,5 @@ pub fn try_tail(
     }
     let mut fixed = *tails;
     fix_arc(cuts, n, from, count, tail, vertex, &mut fixed);
-    tree_kept(m, cuts, &fixed, n, root, total, from, count)
+    tree_admissible(m, cuts, &fixed, n, root, total, from, count)
 }

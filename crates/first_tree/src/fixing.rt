@@ -1,12 +1,12 @@
-// An arc fixed: into its head no other tail is kept, and elsewhere no arc that enters a cut which it enters, since no
-// two arcs of a cheapest arborescence do. The sets of tails then say what can stand beside it. All is right whichever
-// of the cuts are looked at: with fewer of them more is kept.
+// An arc fixed: into its head no other arc stays admissible, and elsewhere none that enters a cut which it enters,
+// since no two arcs of a cheapest arborescence do. The sets of tails then say what can stand beside it. All is right
+// whichever of the cuts are looked at: with fewer of them more arcs stay admissible.
 ghost use mathlib.Core.Path.{_≡_};
 ghost use mathlib.Core.Bool.{true};
 ghost use Prim.Native.Nat.{_≤_, _<_};
 ghost use lib.ListN.{length};
 ghost use Rattle.instance.specs.Limits.{max-vertices, max-cuts};
-ghost use Rattle.first_tree.specs.Tails.{kept-by};
+ghost use Rattle.first_tree.specs.Tails.{admissible-by};
 ghost use Rattle.first_tree.specs.Fixing.{Within, Fixed-tails};
 use checks::sets::is_entering;
 use checks::sets::is_inside;
@@ -30,7 +30,7 @@ pub fn first_group(cuts: &[u32; CUT_WORDS], count: u32) -> CutIndex
     CutIndex(count)
 }
 
-// Into the vertices of a set no tail is kept that is outside it.
+// Into the vertices of a set no arc from outside it stays admissible.
 fn keep_within(n: u32, set: u32, tails: &mut [u32; VERTICES])
     requires { ⌜ (n ≤ max-vertices) × (length (now tails) ≡ max-vertices) ⌝ }
     ensures { λ _. ⌜ Within n set (now (tails .entry)) (now (tails .exit)) ⌝ }
@@ -45,7 +45,7 @@ fn keep_within(n: u32, set: u32, tails: &mut [u32; VERTICES])
     }
 }
 
-// Fixes an arc that is kept.
+// Fixes an admissible arc.
 pub fn fix_arc(
     cuts: &[u32; CUT_WORDS], // the cuts
     n: u32, // the number of vertices
@@ -55,7 +55,7 @@ pub fn fix_arc(
     head: u32, // into this vertex
     tails: &mut [u32; VERTICES], // the tails that each vertex can have
 )
-    requires { ⌜ (n ≤ max-vertices) × (from .0 ≤ count) × (count ≤ max-cuts) × (tail < n) × (head < n) × (length (now tails) ≡ max-vertices) × (kept-by (now tails) tail head ≡ true) ⌝ }
+    requires { ⌜ (n ≤ max-vertices) × (from .0 ≤ count) × (count ≤ max-cuts) × (tail < n) × (head < n) × (length (now tails) ≡ max-vertices) × (admissible-by (now tails) tail head ≡ true) ⌝ }
     ensures { λ _. ⌜ Fixed-tails (now (cuts .entry)) n (from .0) count tail head (now (tails .entry)) (now (tails .exit)) ⌝ }
 {
     let low = from.0;

@@ -1,4 +1,4 @@
-// A tree grown from the root along arcs that are kept, each fixed as it is taken. Where no cut is looked at it comes to
+// A tree grown from the root along admissible arcs, each fixed as it is taken. Where no cut is looked at it comes to
 // every vertex that such arcs lead to, so a vertex that it misses is in no tree. Where cuts are looked at it enters
 // none of them twice, as a cheapest tree does; that it is one is not promised, and its total has to be compared.
 ghost use mathlib.Core.Path.{_≡_};

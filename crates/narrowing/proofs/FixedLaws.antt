@@ -11,7 +11,7 @@ use Rattle.instance.specs.Instance.{Instance}
 use Rattle.instance.specs.Arborescence.{parent}
 use Rattle.instance.specs.Cuts.{Cut, Proves}
 use Rattle.theory.proofs.Slackness.{entered-once}
-use Rattle.narrowing.specs.Narrowed.{Of-total, Kept, share-cut, stays-beside, Fixed}
+use Rattle.narrowing.specs.Narrowed.{Of-total, Admissible, share-cut, stays-beside, Fixed}
 
 module _ (s : Instance) (cs : List Cut) (w : ℕ) (p : Proves s cs w) where
   all-stay : (qs : List ℕ) → Of-total s w qs → (t v : ℕ) → v < s .n → parent qs v ≡ t → (h : ℕ) → h < s .n → stays-beside cs t v (parent qs h) h ≡ true
@@ -27,10 +27,10 @@ module _ (s : Instance) (cs : List Cut) (w : ℕ) (p : Proves s cs w) where
 
   -- AN ARBORESCENCE OF THE CHEAPEST TOTAL that has the arc passes the test with the arc fixed
   pub fixed-keeps : (keep keep′ : ℕ → ℕ → Bool) (t v : ℕ) → v < s .n → Fixed (s .n) cs keep keep′ t v
-      → (qs : List ℕ) → Of-total s w qs → Kept s keep qs → parent qs v ≡ t → Kept s keep′ qs
+      → (qs : List ℕ) → Of-total s w qs → Admissible s keep qs → parent qs v ≡ t → Admissible s keep′ qs
   fixed-keeps keep keep′ t v lv f qs o k e h lh r = f .stays (parent qs h) h lh (k h lh r) (all-stay qs o t v lv e h lh)
 
 -- what passes with the arc fixed passes without
 pub fixed-less : (s : Instance) (cs : List Cut) (keep keep′ : ℕ → ℕ → Bool) (t v : ℕ) → Fixed (s .n) cs keep keep′ t v
-    → (qs : List ℕ) → Kept s keep′ qs → Kept s keep qs
+    → (qs : List ℕ) → Admissible s keep′ qs → Admissible s keep qs
 fixed-less s cs keep keep′ t v f qs k h l r = f .less (parent qs h) h l (k h l r)

@@ -18,7 +18,7 @@ use Rattle.instance.proofs.ReachLaws.{enough}
 use Rattle.instance.proofs.ArborescenceLaws.{joined, make-arborescence}
 use Rattle.paths.specs.Paths.{Descends}
 use Rattle.paths.proofs.PathLaws.{descends-here, descends-up, parent-other, parent-same}
-use Rattle.narrowing.specs.Narrowed.{Kept}
+use Rattle.narrowing.specs.Narrowed.{Admissible}
 use Rattle.narrowing.specs.Grown.{Grown, Exhausted}
 
 module _ (n root : ℕ) (keep : ℕ → ℕ → Bool) where
@@ -29,7 +29,7 @@ module _ (n root : ℕ) (keep : ℕ → ℕ → Bool) where
         size = length-replicate n no-parent;
         root-reached = only root ∙ eq-eqb root root refl;
         at-root = replicate-at n root no-parent;
-        kept = λ v x e. absurd (not-both (eqb v root) (sym (only v) ∙ x) e);
+        admissible = λ v x e. absurd (not-both (eqb v root) (sym (only v) ∙ x) e);
         parent-reached = λ v x e. absurd (not-both (eqb v root) (sym (only v) ∙ x) e);
         path = λ v x. descends-here (replicate n no-parent) root v (eqb-true v root (sym (only v) ∙ x));
       }
@@ -73,14 +73,14 @@ module _ (n root : ℕ) (keep : ℕ → ℕ → Bool) where
           size = length-set ps h p ∙ g .size;
           root-reached = stays root (g .root-reached);
           at-root = other root (g .root-reached) ∙ g .at-root;
-          kept = λ v x e. at-kept v e (cases v x);
+          admissible = λ v x e. at-admissible v e (cases v x);
           parent-reached = λ v x e. stays (parent qs v) (at-parent v e (cases v x));
           path = λ v x. at-path v (cases v x);
         }
       where
-        at-kept : (v : ℕ) → eqb v root ≡ false → (reached v ≡ true) ⊎ (eqb v h ≡ true) → keep (parent qs v) v ≡ true
-        at-kept v e (inl x) = rw (other v x) (g .kept v x e)
-        at-kept v e (inr q) = subst (λ (u : ℕ). keep (parent qs u) u ≡ true) (sym (eqb-true v h q)) (rw there passes)
+        at-admissible : (v : ℕ) → eqb v root ≡ false → (reached v ≡ true) ⊎ (eqb v h ≡ true) → keep (parent qs v) v ≡ true
+        at-admissible v e (inl x) = rw (other v x) (g .admissible v x e)
+        at-admissible v e (inr q) = subst (λ (u : ℕ). keep (parent qs u) u ≡ true) (sym (eqb-true v h q)) (rw there passes)
 
         at-parent : (v : ℕ) → eqb v root ≡ false → (reached v ≡ true) ⊎ (eqb v h ≡ true) → reached (parent qs v) ≡ true
         at-parent v e (inl x) = rw (other v x) (g .parent-reached v x e)
@@ -93,11 +93,11 @@ module _ (n root : ℕ) (keep : ℕ → ℕ → Bool) where
 -- ALL REACHED, by arcs that remain
 module _ (s : Instance) (keep : ℕ → ℕ → Bool) (arcs : (t h : ℕ) → keep t h ≡ true → remaining s t h ≡ true) (reached : ℕ → Bool) (ps : List ℕ)
     (g : Grown (s .n) (s .root) keep reached ps) (root-below : s .root < s .n) (all : (v : ℕ) → v < s .n → reached v ≡ true) where
-  pub grown-kept : Kept s keep ps
-  grown-kept v l e = g .kept v (all v l) e
+  pub grown-admissible : Admissible s keep ps
+  grown-admissible v l e = g .admissible v (all v l) e
 
   arc : (v : ℕ) → v < s .n → eqb v (s .root) ≡ false → remaining s (parent ps v) v ≡ true
-  arc v l e = arcs (parent ps v) v (grown-kept v l e)
+  arc v l e = arcs (parent ps v) v (grown-admissible v l e)
 
   pub grown-whole : is-arborescence s ps ≡ true
   grown-whole =
@@ -112,7 +112,7 @@ module _ (s : Instance) (keep : ℕ → ℕ → Bool) (arcs : (t h : ℕ) → ke
 -- NOTHING MORE TO REACH, and a vertex is missed: no arborescence passes the test. Go up from that vertex: each parent
 -- is missed too, and the root is not.
 module _ (s : Instance) (keep : ℕ → ℕ → Bool) (reached : ℕ → Bool) (out : ℕ) (c : Exhausted s keep reached out) (ps : List ℕ)
-    (a : is-arborescence s ps ≡ true) (k : Kept s keep ps) where
+    (a : is-arborescence s ps ≡ true) (k : Admissible s keep ps) where
   root-not : (v : ℕ) → reached v ≡ false → eqb v (s .root) ≡ true → ⊥
   root-not v m e = not-both (reached v) (rw (eqb-true v (s .root) e) (c .root-reached)) m
 

@@ -23,7 +23,7 @@ use Rattle.theory.proofs.FirstLaws.{first-only}
 use Rattle.paths.specs.Paths.{Descends}
 use Rattle.paths.proofs.PathLaws.{no-return}
 use Rattle.paths.proofs.ExchangeLaws.{rooted}
-use Rattle.narrowing.specs.Narrowed.{Of-total, Agree, Kept, Narrowed, None-below, Refuted, Fixed}
+use Rattle.narrowing.specs.Narrowed.{Of-total, Agree, Admissible, Narrowed, None-below, Refuted, Fixed}
 use Rattle.narrowing.proofs.FixedLaws.{fixed-keeps, fixed-less}
 
 -- AGREEING BELOW A VERTEX
@@ -41,30 +41,30 @@ module _ (s : Instance) (cs : List Cut) (w : ℕ) (p : Proves s cs w) where
   narrowed-start keep ps o tight =
       record {
         tree = o;
-        tree-kept = stay ps o;
+        tree-admissible = stay ps o;
         keeps = λ qs q a. stay qs q;
         agrees = λ qs a k u l. absurd (omega arith);
         least = λ u l qs q a. absurd (omega arith);
       }
     where
-      stay : (qs : List ℕ) → Of-total s w qs → Kept s keep qs
+      stay : (qs : List ℕ) → Of-total s w qs → Admissible s keep qs
       stay qs q v l e =
           tight (parent qs v) v (joined s qs (q .arborescence) v l e .arc) (tight-arc s qs (q .arborescence) cs (p .feasible) (p .adds ∙ sym (q .attained)) v l e)
 
   module _ (v : ℕ) (keep : ℕ → ℕ → Bool) (ps : List ℕ) (k : Narrowed s w v keep ps) where
     -- TAKE another arborescence of the cheapest total that passes the test
-    pub narrowed-take : (qs : List ℕ) → Of-total s w qs → Kept s keep qs → Narrowed s w v keep qs
+    pub narrowed-take : (qs : List ℕ) → Of-total s w qs → Admissible s keep qs → Narrowed s w v keep qs
     narrowed-take qs o x =
         let same : Agree v ps qs = k .agrees qs (o .arborescence) x in
         record {
           tree = o;
-          tree-kept = x;
+          tree-admissible = x;
           keeps = λ rs q g. k .keeps rs q (λ u l. same u l ∙ g u l);
           agrees = λ rs a y u l. sym (same u l) ∙ k .agrees rs a y u l;
           least = λ u l rs q g. subst (λ (z : ℕ). z ≤ parent rs u) (same u l) (k .least u l rs q (λ z m. same z (omega arith) ∙ g z m));
         }
 
-    pub none-below-take : (qs : List ℕ) → Of-total s w qs → Kept s keep qs → (t : ℕ) → None-below s w v ps t → None-below s w v qs t
+    pub none-below-take : (qs : List ℕ) → Of-total s w qs → Admissible s keep qs → (t : ℕ) → None-below s w v ps t → None-below s w v qs t
     none-below-take qs o x t b rs q g = b rs q (λ u l. k .agrees qs (o .arborescence) x u l ∙ g u l)
 
     -- REFUTE a tail
@@ -91,11 +91,11 @@ module _ (s : Instance) (cs : List Cut) (w : ℕ) (p : Proves s cs w) where
 
       module _ (keep′ : ℕ → ℕ → Bool) (t : ℕ) (f : Fixed (s .n) cs keep keep′ t v) where
         -- where no arborescence of the cheapest total passes the test with the arc fixed
-        pub refute-fixed : ((qs : List ℕ) → Of-total s w qs → Kept s keep′ qs → ⊥) → Refuted s w v ps t
+        pub refute-fixed : ((qs : List ℕ) → Of-total s w qs → Admissible s keep′ qs → ⊥) → Refuted s w v ps t
         refute-fixed n qs o g e = n qs o (fixed-keeps s cs w p keep keep′ t v below f qs o (k .keeps qs o g) e)
 
         -- one that does has the arc
-        pub fixed-tail : (qs : List ℕ) → Kept s keep′ qs → parent qs v ≡ t
+        pub fixed-tail : (qs : List ℕ) → Admissible s keep′ qs → parent qs v ≡ t
         fixed-tail qs x = f .only (parent qs v) (x v below apart)
 
       -- SETTLE v: no tail below the present one can be had
@@ -103,7 +103,7 @@ module _ (s : Instance) (cs : List Cut) (w : ℕ) (p : Proves s cs w) where
       narrowed-settle keep′ b f =
           record {
             tree = k .tree;
-            tree-kept = fixed-keeps s cs w p keep keep′ (parent ps v) v below f ps (k .tree) (k .tree-kept) refl;
+            tree-admissible = fixed-keeps s cs w p keep keep′ (parent ps v) v below f ps (k .tree) (k .tree-admissible) refl;
             keeps =
                 λ qs o g.
                 fixed-keeps s cs w p keep keep′ (parent ps v) v below f qs o (k .keeps qs o (λ u l. g u (omega arith))) (sym (g v (omega arith)));
@@ -122,7 +122,7 @@ module _ (s : Instance) (cs : List Cut) (w : ℕ) (p : Proves s cs w) where
     narrowed-root below here =
         record {
           tree = k .tree;
-          tree-kept = k .tree-kept;
+          tree-admissible = k .tree-admissible;
           keeps = λ qs o g. k .keeps qs o (λ u l. g u (omega arith));
           agrees = λ qs a x. agree-more v ps qs (k .agrees qs a x) (same qs a);
           least = λ u l qs o g. at u l qs o g (ℕ-discrete u v);

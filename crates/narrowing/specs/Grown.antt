@@ -15,7 +15,7 @@ pub record Grown (n root : ℕ) (keep : (tail head : ℕ) → Bool) (reached : �
   pub size : length parents ≡ n
   pub root-reached : reached root ≡ true
   pub at-root : parent parents root ≡ no-parent
-  pub kept : (v : ℕ) → reached v ≡ true → eqb v root ≡ false → keep (parent parents v) v ≡ true
+  pub admissible : (v : ℕ) → reached v ≡ true → eqb v root ≡ false → keep (parent parents v) v ≡ true
   pub parent-reached : (v : ℕ) → reached v ≡ true → eqb v root ≡ false → reached (parent parents v) ≡ true
   pub path : (v : ℕ) → reached v ≡ true → Descends parents root v
 

@@ -20,18 +20,18 @@ pub record Of-total (s : Instance) (w : ℕ) (parents : List ℕ) : Type 0 where
 abbrev pub Agree : (v : ℕ) → (ps qs : List ℕ) → Type 0
 Agree v ps qs = (u : ℕ) → u < v → parent ps u ≡ parent qs u
 
--- each arc passes the test
-abbrev pub Kept : Instance → (keep : (tail head : ℕ) → Bool) → (parents : List ℕ) → Type 0
-Kept s keep ps = (v : ℕ) → v < s .n → eqb v (s .root) ≡ false → keep (parent ps v) v ≡ true
+-- each arc is admissible: it passes the test
+abbrev pub Admissible : Instance → (keep : (tail head : ℕ) → Bool) → (parents : List ℕ) → Type 0
+Admissible s keep ps = (v : ℕ) → v < s .n → eqb v (s .root) ≡ false → keep (parent ps v) v ≡ true
 
 -- WHAT IS SETTLED BELOW v, where w is the cheapest total: an arborescence ps of that total, which no other that is as
 -- cheap comes before at a vertex below v; and a test that those of them pass that begin like ps, and that no
 -- arborescence passes that begins otherwise
 pub record Narrowed (s : Instance) (w v : ℕ) (keep : (tail head : ℕ) → Bool) (ps : List ℕ) : Type 0 where
   pub tree : Of-total s w ps
-  pub tree-kept : Kept s keep ps
-  pub keeps : (qs : List ℕ) → Of-total s w qs → Agree v ps qs → Kept s keep qs
-  pub agrees : (qs : List ℕ) → is-arborescence s qs ≡ true → Kept s keep qs → Agree v ps qs
+  pub tree-admissible : Admissible s keep ps
+  pub keeps : (qs : List ℕ) → Of-total s w qs → Agree v ps qs → Admissible s keep qs
+  pub agrees : (qs : List ℕ) → is-arborescence s qs ≡ true → Admissible s keep qs → Agree v ps qs
   pub least : (u : ℕ) → u < v → (qs : List ℕ) → Of-total s w qs → Agree u ps qs → parent ps u ≤ parent qs u
 
 -- while v is being settled: no tail below t can be had

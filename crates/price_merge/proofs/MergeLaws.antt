@@ -61,6 +61,9 @@ module _ (n r : ℕ) (t : List ℕ) where
   unfolding prices-of
   read-length = length-tabulate (n * n) _
 
+  pub read-enough : n * n ≤ length (prices-in n r t)
+  read-enough = omega (arith, read-length)
+
   -- each number is a price or no link
   pub read-ok : all-of price-ok (prices-in n r t) ≡ true
   unfolding prices-of price-ok
@@ -88,6 +91,12 @@ module _ (n r : ℕ) (t : List ℕ) where
   read-small : (k : ℕ) → read-result t n r k .answer ≡ 0 → n ≤ max-vertices
   read-small k e = count-small n r (room-count n r k (room-read k e))
 
+-- THE ROWS THAT ARE USED of two such lists are n times n numbers
+pub merged-length : (n r : ℕ) (a b : List ℕ) → n ≤ max-vertices → length (merged-prices n r a b) ≡ n * n
+unfolding merged-prices
+merged-length n r a b m =
+    rows-whole n (prices-in n r a) (prices-in n r b) m (read-enough n r a) (read-enough n r b) (read-ok n r a) (read-ok n r b)
+
 -- THE THREE WAYS OUT, by what was read into two tables
 module _ {a : List ℕ} (b : List ℕ) {n r : ℕ} (old : List ℕ) {own-before own : List ℕ} (x : PricesRead) (o : Reads a n r own-before own x) (l : length own-before ≡ cells) where
   first : x ≡ read-result a n r cells
@@ -112,11 +121,6 @@ module _ {a : List ℕ} (b : List ℕ) {n r : ℕ} (old : List ℕ) {own-before 
       small : n ≤ max-vertices
       small = read-small n r a cells (ap (λ (u : PricesRead). u .answer) (sym first) ∙ z)
 
-      whole : length (merged-prices n r a b) ≡ n * n
-      unfolding merged-prices
-      whole =
-          rows-whole n (prices-in n r a) (prices-in n r b) small (omega (arith, read-length n r a)) (omega (arith, read-length n r b)) (read-ok n r a) (read-ok n r b)
-
       own-is : own ≡ in-front (prices-in n r a) own-before
       own-is = o .buffer ∙ rw z
 
@@ -129,7 +133,7 @@ module _ {a : List ℕ} (b : List ℕ) {n r : ℕ} (old : List ℕ) {own-before 
 
       -- they fit into the table
       pub rows-room : (words : List ℕ) → length words ≡ cells → Room (rows-used n own others) words 0
-      rows-room words e = rw rows-are (record { long-enough = omega (arith, whole, e, square-most n max-vertices small) })
+      rows-room words e = rw rows-are (record { long-enough = omega (arith, merged-length n r a b small, e, square-most n max-vertices small) })
 
       -- what is written of the table is the list of the rows used
       pub both-read : {words used new : List ℕ} {next : ℕ} (v : ListWritten) → Puts (rows-used n own others) words used 0 next
@@ -139,6 +143,7 @@ module _ {a : List ℕ} (b : List ℕ) {n r : ℕ} (old : List ℕ) {own-before 
       both-read {words} {used} v u g h =
           let ps = merged-prices n r a b in
           let rest = drop (length ps) words in
+          let whole = merged-length n r a b small in
           let q : used ≡ ps ++ rest = puts-filled u .buffer ∙ rw rows-are in
           let k : v ≡ write-result ps n r (length old) = g ∙ rw q (write-front n r ps rest whole (length old)) in
           record { result = rw (← first, ← second, z, w, ← k); buffer = h ∙ rw q (rw (text-front n r ps rest whole)) }

@@ -13,7 +13,7 @@ use lib.ListN.{length, getD, List·getD-append}
 use lib.Seq.{getD-append-add}
 use borrow.Author.Tests.{eq-eqb, ne-eqb, eqb-false, not-true}
 use Rattle.base.specs.Bounded.{all-below}
-use Rattle.base.specs.Lists.{any-of, all-of, tabulate, join-below}
+use Rattle.base.specs.Lists.{any-of, join-below}
 use Rattle.base.proofs.BoolLaws.{same-test, and-left, or-cases, or-left, or-right}
 use Rattle.base.proofs.BoundedLaws.{all-intro}
 use Rattle.base.proofs.ElementLaws.{all-of-at}
@@ -35,8 +35,8 @@ use Rattle.price_row.proofs.RowLaws.{used-chosen}
 use Rattle.price_row.proofs.ReadingsLaws.{row-number, priced-read, priced-made}
 use Rattle.price_merge.specs.Rows.{rows-used}
 use Rattle.price_merge.specs.Merge.{prices-in, merged-prices, merged-text, names-tail}
-use Rattle.price_merge.proofs.RowsLaws.{none-refused, rows-length, rows-ok, rows-whole}
-use Rattle.price_merge.proofs.MergeLaws.{read-length, read-ok}
+use Rattle.price_merge.proofs.RowsLaws.{none-refused, rows-length, rows-ok}
+use Rattle.price_merge.proofs.MergeLaws.{read-enough, read-ok, merged-length}
 
 -- LINES WITH A TAIL
 named-tail : (ls : List Line) (t h : ℕ) → is-named ls t h ≡ true → names-tail ls t ≡ true
@@ -67,7 +67,7 @@ module _ (n r : ℕ) (text : List ℕ) (t : ℕ) (l : t < n) where
   lines = read-list n r text .lines
 
   inside : t * n + n ≤ length (prices-in n r text)
-  inside = let e = read-length n r text in let g = grid-in n t n l in omega arith
+  inside = let e = read-enough n r text in let g = grid-in n t n l in omega arith
 
   read-weight : (h : ℕ) → h < n → number-at n t (prices-in n r text) h ≡ weight-named lines t h
   unfolding prices-of
@@ -117,9 +117,6 @@ module _ (n r : ℕ) (a b : List ℕ) (small : n ≤ max-vertices) (t h : ℕ) (
   abbrev others : List ℕ
   others = prices-in n r b
 
-  enough : (text : List ℕ) → n * n ≤ length (prices-in n r text)
-  enough text = let e = read-length n r text in omega arith
-
   abbrev weight-by : (named : Bool) → ℕ
   weight-by c = cond c (weight-named (read-list n r a .lines) t h) (weight-named (read-list n r b .lines) t h)
 
@@ -127,7 +124,7 @@ module _ (n r : ℕ) (a b : List ℕ) (small : n ≤ max-vertices) (t h : ℕ) (
   pub used-weight : getD (row-used n t own others) h no-arc ≡ weight-by (names-tail (read-list n r a .lines) t)
   unfolding chosen-row
   used-weight =
-      ap (λ (ws : List ℕ). getD ws h no-arc) (used-chosen n t own others (none-refused n own others small (enough a) (enough b) (read-ok n r a) (read-ok n r b) t l))
+      ap (λ (ws : List ℕ). getD ws h no-arc) (used-chosen n t own others (none-refused n own others small (read-enough n r a) (read-enough n r b) (read-ok n r a) (read-ok n r b) t l))
       ∙ by (is-own n t own) ∙ rw (own-is-named n r a t l)
     where
       by : (c : Bool) → getD (cond c (row-at n t own) (row-at n t others)) h no-arc ≡ weight-by c
@@ -138,18 +135,13 @@ module _ (n r : ℕ) (a b : List ℕ) (small : n ≤ max-vertices) (t h : ℕ) (
   merged-weight : number-at n t (merged-prices n r a b) h ≡ weight-by (names-tail (read-list n r a .lines) t)
   unfolding merged-prices rows-used
   merged-weight =
-      row-in-join n (λ s. row-used n s own others) n t h (rows-length n own others small (enough a) (enough b) (read-ok n r a) (read-ok n r b)) l k
+      row-in-join n (λ s. row-used n s own others) n t h (rows-length n own others small (read-enough n r a) (read-enough n r b) (read-ok n r a) (read-ok n r b)) l k
       ∙ used-weight
 
 -- THE MERGED LIST
 module _ (n r : ℕ) (a b : List ℕ) (small : n ≤ max-vertices) where
   abbrev merged-ps : List ℕ
   merged-ps = merged-prices n r a b
-
-  whole : length merged-ps ≡ n * n
-  unfolding merged-prices
-  whole =
-      rows-whole n (prices-in n r a) (prices-in n r b) small (omega (arith, read-length n r a)) (omega (arith, read-length n r b)) (read-ok n r a) (read-ok n r b)
 
   -- each of its prices can be written
   places : all-below (n * n) (λ i. place-ok n r i (price-at merged-ps i)) ≡ true
@@ -158,10 +150,10 @@ module _ (n r : ℕ) (a b : List ℕ) (small : n ≤ max-vertices) where
       all-intro (n * n) _
       (λ i l.
       let w = price-at merged-ps i in
-      let e = whole in
+      let e = merged-length n r a b small in
       by (can-be-arc n r (i / n) (i % n)) (eqb w no-arc) (leb w max-weight)
       (all-of-at price-ok no-arc merged-ps i (omega arith)
-      (rows-ok n (prices-in n r a) (prices-in n r b) small (omega (arith, read-length n r a)) (omega (arith, read-length n r b)) (read-ok n r a) (read-ok n r b))))
+      (rows-ok n (prices-in n r a) (prices-in n r b) small (read-enough n r a) (read-enough n r b) (read-ok n r a) (read-ok n r b))))
     where
       by : (c e m : Bool) → m || e ≡ true → not (c && not e) || m ≡ true
       by false e m p = refl
@@ -172,7 +164,7 @@ module _ (n r : ℕ) (a b : List ℕ) (small : n ≤ max-vertices) where
   -- so it is refused for its length alone
   pub merged-answer : (k : ℕ) → count-refusal n r ≡ 0 → write-refusal n r merged-ps k ≡ cond (ltb k (length (merged-text n r a b))) buffer-short 0
   unfolding write-refusal prices-refusal
-  merged-answer k c = let e = whole in rw (room-enough n r (length merged-ps) c (omega arith), places)
+  merged-answer k c = let e = merged-length n r a b small in rw (room-enough n r (length merged-ps) c (omega arith), places)
 
   -- THE LAW: read again, it says of an arc what the school's list says where that names the tail, and what the shipped
   -- list says where it does not

@@ -20,7 +20,7 @@ use Rattle.instance.specs.Limits.{max-vertices, max-weight, no-arc}
 use Rattle.instance.specs.Refusals.{no-vertex, buffer-short, count-out-of-range, out-of-range}
 use Rattle.price_row.specs.Row.{row-at, has-price, is-own, chosen-row, room-refusal, price-ok, row-ok, row-refusal, row-used, address-at, chosen-address, row-address, Uses-row}
 use Rattle.price_row.specs.Readings.{number-at, Any-price, Bad-number, Part-of, Sized, Row-reads, count-refused, tail-refused, room-refused, own-refused, shipped-refused, own-used, shipped-used}
-use Rattle.price_row.proofs.RowLaws.{positive, room-passed, room-zero, uses-nothing, uses-chosen}
+use Rattle.price_row.proofs.RowLaws.{room-passed, room-zero, uses-nothing, uses-chosen}
 
 -- A ROW BY ITS NUMBERS
 module _ (n t : ℕ) (ps : List ℕ) (l : t * n + n ≤ length ps) where
@@ -153,7 +153,7 @@ module _ (a b : List ℕ) (p q : ℕ × ℕ) (n t : ℕ) where
       count true e =
           rw e (count-refused (⊎-elim (λ z. inl (eqb-true n 0 z)) (λ z. inr (ltb-true max-vertices n z)) (or-cases (eqb n 0) (ltb max-vertices n) e)))
       count false e =
-          tail (positive n (or-false-left (eqb n 0) (ltb max-vertices n) e)) (ltb-false max-vertices n (or-false-right (eqb n 0) (ltb max-vertices n) e)) (leb n t) refl e
+          tail (omega (arith, eqb-false n 0 (or-false-left (eqb n 0) (ltb max-vertices n) e))) (ltb-false max-vertices n (or-false-right (eqb n 0) (ltb max-vertices n) e)) (leb n t) refl e
 
   abbrev wrong-count : Bool
   wrong-count = eqb n 0 || ltb max-vertices n

@@ -4,7 +4,7 @@ use mathlib.Core.Path.{_≡_, refl, sym, _∙_, subst}
 use mathlib.Core.Bool.{Bool, true, false, _&&_, _||_, cond}
 use mathlib.Core.List.{List, []}
 use mathlib.Core.Logic.{_≢_}
-use Prim.Native.Nat.{ℕ, zero, suc, _+_, _-_, _*_, _<_}
+use Prim.Native.Nat.{ℕ, _+_, _-_, _*_}
 use native.Mathlib.Omega.{arith}
 use lib.Dec.{ltb, leb, eqb}
 use lib.ListN.{length, take, drop}
@@ -35,10 +35,6 @@ unfolding row-at
 part-is-row n t ps = let e : t * n + n - t * n ≡ n = omega arith in rw e
 
 -- WHAT IS NOT REFUSED for its numbers or its room
-pub positive : (n : ℕ) → eqb n 0 ≡ false → 0 < n
-positive zero e = absurd (eqb-false 0 0 e refl)
-positive (suc n) e = omega arith
-
 pub room-passed : (n t a b : ℕ) → room-refusal n t a b ≡ 0 → Sized n t a b
 unfolding room-refusal
 room-passed n t a b e =
@@ -46,7 +42,7 @@ room-passed n t a b e =
     let y = passed (leb n t) 8 _ (x .1) in
     let z = passed (ltb a (n * n) || ltb b (n * n)) 13 0 (y .1) in
     record {
-      some = positive n (or-false-left (eqb n 0) (ltb max-vertices n) (x .0));
+      some = omega (arith, eqb-false n 0 (or-false-left (eqb n 0) (ltb max-vertices n) (x .0)));
       small = ltb-false max-vertices n (or-false-right (eqb n 0) (ltb max-vertices n) (x .0));
       below = leb-false n t (y .0);
       first = ltb-false a (n * n) (or-false-left (ltb a (n * n)) (ltb b (n * n)) (z .0));

@@ -88,19 +88,19 @@ pub fn row_used<'a>(
     school: &'a [u32],
     shipped: &'a [u32],
     count: u32,
-    feeder: Vertex,
+    tail: Vertex,
     answer: &mut u32,
 ) -> &'a [u32]
     ensures { λ r. ⌜ Uses-row (now (school .entry)) (now (shipped .entry)) (school .entry .ptr) (shipped .entry .ptr)
-        count (feeder .0) (now (answer .exit)) (now r) (r .ptr) ⌝ }
+        count (tail .0) (now (answer .exit)) (now r) (r .ptr) ⌝ }
 {
-    let tail = feeder.0;
-    let refusal = room_answer(count, tail, school.len(), shipped.len());
+    let vertex = tail.0;
+    let refusal = room_answer(count, vertex, school.len(), shipped.len());
     if refusal != 0 {
         *answer = refusal;
         return &shipped[0..0];
     }
-    let row = chosen_row(school, shipped, count, tail);
+    let row = chosen_row(school, shipped, count, vertex);
     if row_ok(row) {
         *answer = 0;
         return row;

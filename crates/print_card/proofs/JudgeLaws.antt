@@ -16,10 +16,6 @@ use Rattle.price_card.proofs.ToCardLaws.{made-within}
 use Rattle.print_card.specs.declared.judge.Judged.{Judged}
 use Rattle.print_card.specs.Judge.{max-read, line-end, line-feeds, judged-part, judged, Judges}
 
--- the first bytes of a list are as many as were asked for
-pub counted : (k : ℕ) (l : List ℕ) → k ≤ length l → k ≡ length (take k l)
-counted k l h = let e = length-take k l in omega arith
-
 pub taken-most : (k m : ℕ) (l : List ℕ) → k ≤ length l → length l ≡ m → length (take k l) ≤ m
 taken-most k m l h e = let q = length-take k l in omega arith
 

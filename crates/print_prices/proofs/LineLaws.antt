@@ -1,17 +1,11 @@
 -- The line that goes with a list fits its buffer, whatever its numbers. Assumes nothing.
-use mathlib.Core.Path.{_≡_}
-use mathlib.Core.List.{List}
 use Prim.Native.Nat.{ℕ, _^_, _≤_, _<_}
 use native.Mathlib.Omega.{arith}
-use lib.ListN.{length, length-take, take}
+use lib.ListN.{length}
 use Rattle.text.specs.Lines.{codes}
 use Rattle.text.proofs.DecimalLaws.{decimal-length}
 use Rattle.text.proofs.LineLaws.{three-length}
 use Rattle.report_text.specs.Heading.{header-line}
-
--- the first bytes of a list are as many as were asked for
-pub counted : (k : ℕ) (l : List ℕ) → k ≤ length l → k ≡ length (take k l)
-counted k l h = let e = length-take k l in omega arith
 
 pub numbers-fit : (n r b : ℕ) → n < 2 ^ 32 → r < 2 ^ 32 → b < 2 ^ 32 → length (header-line n r b) ≤ 64
 unfolding header-line codes

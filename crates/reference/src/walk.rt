@@ -39,39 +39,39 @@ pub struct Walk {
     pub length: u32,
     pub tries: u32,
     pub settled: u32,
-    pub feeders: [u8; MAX_VERTICES as usize],
+    pub parents: [u8; MAX_VERTICES as usize],
 }
 
 // The next feeder of a position, n where no link is left. After none comes 0: 255 and one more is 0 in a byte.
-fn next_feeder(table: &[u32; CELLS], n: u32, position: u32, present: u8) -> u32 {
+fn next_tail(table: &[u32; CELLS], n: u32, position: u32, present: u8) -> u32 {
     let from = narrow(plus(of_byte(present), 1));
-    for feeder in of_byte(from)..n {
-        if table[problem::cell(feeder, position)] != ABSENT {
-            return feeder;
+    for tail in of_byte(from)..n {
+        if table[problem::cell(tail, position)] != ABSENT {
+            return tail;
         }
     }
     n
 }
 
 // Whether the feeders lead from a position back to it. They end at the root and at a position not yet settled.
-fn closes_ring(feeders: &[u8], position: u32) -> bool {
-    let mut at = byte(feeders, position);
+fn closes_cycle(parents: &[u8], position: u32) -> bool {
+    let mut at = byte(parents, position);
     for step in 0..MAX_VERTICES {
         if at == position {
             return true;
         }
-        at = byte(feeders, at);
+        at = byte(parents, at);
     }
     false
 }
 
 // "Its total is the sum of its prices."
-fn total(table: &[u32; CELLS], feeders: &[u8], n: u32) -> u32 {
+fn total(table: &[u32; CELLS], parents: &[u8], n: u32) -> u32 {
     let mut sum = 0;
     for position in 0..n {
-        let feeder = byte(feeders, position);
-        if feeder != NO_PARENT {
-            sum = plus(sum, table[problem::cell(feeder, position)]);
+        let tail = byte(parents, position);
+        if tail != NO_PARENT {
+            sum = plus(sum, table[problem::cell(tail, position)]);
         }
     }
     sum
@@ -98,9 +98,9 @@ fn tried(table: &[u32; CELLS], n: u32, root: u32, limit: u32, w: Walk) -> Walk {
         plus(w.settled, 1)
     };
     let at = (position % MAX_VERTICES) as usize;
-    let feeder = next_feeder(table, n, position, w.feeders[at]);
-    if feeder == n {
-        next.feeders[at] = NO_PARENT as u8;
+    let tail = next_tail(table, n, position, w.parents[at]);
+    if tail == n {
+        next.parents[at] = NO_PARENT as u8;
         return back(next);
     }
     if w.tries == limit {
@@ -108,9 +108,9 @@ fn tried(table: &[u32; CELLS], n: u32, root: u32, limit: u32, w: Walk) -> Walk {
         return next;
     }
     next.tries = plus(w.tries, 1);
-    next.feeders[at] = narrow(feeder);
-    let feeders = next.feeders;
-    if !closes_ring(&feeders, position) {
+    next.parents[at] = narrow(tail);
+    let parents = next.parents;
+    if !closes_cycle(&parents, position) {
         next.settled = plus(w.settled, 1);
     }
     next
@@ -122,8 +122,8 @@ fn listed(table: &[u32; CELLS], n: u32, budget: u32, w: Walk, out: &mut [u8]) ->
         return w;
     }
     let mut next = back(w);
-    let feeders = w.feeders;
-    if budget < total(table, &feeders, n) {
+    let parents = w.parents;
+    if budget < total(table, &parents, n) {
         return next;
     }
     let length = plus(w.length, n);
@@ -131,7 +131,7 @@ fn listed(table: &[u32; CELLS], n: u32, budget: u32, w: Walk, out: &mut [u8]) ->
         next.ended = NO_ROOM;
         return next;
     }
-    put_bytes(out, w.length, &feeders, n);
+    put_bytes(out, w.length, &parents, n);
     next.length = length;
     next.trees = plus(w.trees, 1);
     next
@@ -152,7 +152,7 @@ pub fn list(
         length: 0,
         tries: 0,
         settled: 0,
-        feeders: [NO_PARENT as u8; MAX_VERTICES as usize],
+        parents: [NO_PARENT as u8; MAX_VERTICES as usize],
     };
     if limit == 0 || MAX_TRIES < limit {
         w.answer = BAD_TRY_LIMIT;

@@ -3,7 +3,7 @@
 
 pub const BAD_COUNT: u32 = 29; // "in order 29"
 
-pub const BAD_FEEDER: u32 = 9; // "9 for the feeder"
+pub const NO_VERTEX: u32 = 9; // "9 for the feeder"
 
 pub const TOO_SHORT: u32 = 14; // "14": of either list, needed or not
 
@@ -43,20 +43,20 @@ fn refused(answer: u32) -> RowPart {
     }
 }
 
-fn is_in_row(place: u32, n: u32, feeder: u32) -> bool {
+fn is_in_row(place: u32, n: u32, tail: u32) -> bool {
     if n == 0 {
         return false;
     }
-    place / n == feeder
+    place / n == tail
 }
 
 // The places of a feeder's row whose number is not "no link": all of them, or only those above every price.
-fn priced(prices: &[u32], n: u32, feeder: u32, only_above: bool) -> u32 {
+fn priced(prices: &[u32], n: u32, tail: u32, only_above: bool) -> u32 {
     let mut count = 0;
     let all = times(n, n);
     for place in 0..all {
         let at = place as usize;
-        if at < prices.len() && is_in_row(place, n, feeder) {
+        if at < prices.len() && is_in_row(place, n, tail) {
             if NO_LINK < prices[at] || prices[at] < NO_LINK && !only_above {
                 count = plus(count, 1);
             }
@@ -65,22 +65,22 @@ fn priced(prices: &[u32], n: u32, feeder: u32, only_above: bool) -> u32 {
     count
 }
 
-pub fn used(school: &[u32], shipped: &[u32], n: u32, feeder: u32) -> RowPart {
+pub fn used(school: &[u32], shipped: &[u32], n: u32, tail: u32) -> RowPart {
     if n < 1 || 32 < n {
         return refused(BAD_COUNT);
     }
-    if n <= feeder {
-        return refused(BAD_FEEDER);
+    if n <= tail {
+        return refused(NO_VERTEX);
     }
     let all = times(n, n) as usize;
     if school.len() < all || shipped.len() < all {
         return refused(TOO_SHORT);
     }
-    let is_school = 0 < priced(school, n, feeder, false);
+    let is_school = 0 < priced(school, n, tail, false);
     let above = if is_school {
-        priced(school, n, feeder, true)
+        priced(school, n, tail, true)
     } else {
-        priced(shipped, n, feeder, true)
+        priced(shipped, n, tail, true)
     };
     if 0 < above {
         return refused(BAD_NUMBER);
@@ -88,7 +88,7 @@ pub fn used(school: &[u32], shipped: &[u32], n: u32, feeder: u32) -> RowPart {
     RowPart {
         answer: 0,
         is_school: is_school,
-        from: times(feeder, n),
+        from: times(tail, n),
         length: n,
     }
 }

@@ -14,7 +14,7 @@ pub const ROW_ROOM: usize = 40;
 
 pub struct Call {
     pub n: u32,
-    pub feeder: u32,
+    pub tail: u32,
     pub school: [u32; ROOM],
     pub shipped: [u32; ROOM],
     pub school_length: u32,
@@ -29,10 +29,10 @@ pub struct Shown {
 }
 
 // No link anywhere in the school's list, and in the shipped one 2,000 and its place; the whole of both is handed over.
-pub fn plain(n: u32, feeder: u32) -> Call {
+pub fn plain(n: u32, tail: u32) -> Call {
     let mut c = Call {
         n: n,
-        feeder: feeder,
+        tail: tail,
         school: [NO_LINK; ROOM],
         shipped: [0; ROOM],
         school_length: ROOM as u32,
@@ -100,9 +100,9 @@ pub fn part(c: Call, u: RowPart) -> Shown {
 }
 
 // One lifetime for both lists, as the call has it.
-fn made<'a>(school: &'a [u32], shipped: &'a [u32], n: u32, feeder: u32) -> Shown {
+fn made<'a>(school: &'a [u32], shipped: &'a [u32], n: u32, tail: u32) -> Shown {
     let mut answer = 77;
-    let row = row_used(school, shipped, n, Vertex(feeder), &mut answer);
+    let row = row_used(school, shipped, n, Vertex(tail), &mut answer);
     taken(answer, row, 0, row.len())
 }
 
@@ -113,7 +113,7 @@ pub fn by_product(c: Call) -> Shown {
         access::front_words(&school, c.school_length),
         access::front_words(&shipped, c.shipped_length),
         c.n,
-        c.feeder,
+        c.tail,
     )
 }
 
@@ -124,7 +124,7 @@ pub fn by_reference(c: Call) -> RowPart {
         access::front_words(&school, c.school_length),
         access::front_words(&shipped, c.shipped_length),
         c.n,
-        c.feeder,
+        c.tail,
     )
 }
 

@@ -43,8 +43,8 @@ fn damaged(c: Call, g: Random) -> Call {
     let way = random::below(g, 32);
     let short = std::num::wrapping_sub_u32(access::times(c.n, c.n), 1);
     match way {
-        0 => d.n = counts[(c.feeder % 4) as usize],
-        1 => d.feeder = access::plus(c.n, c.feeder % 2),
+        0 => d.n = counts[(c.tail % 4) as usize],
+        1 => d.tail = access::plus(c.n, c.tail % 2),
         2 => d.school_length = short,
         3 => d.shipped_length = short,
         4..=17 => d.school_length = access::plus(short, 1),

@@ -7,9 +7,9 @@ use native.Mathlib.Omega.{arith}
 use lib.ListN.{getD, take}
 use Rattle.instance.specs.Arborescence.{parent}
 use Rattle.paths.proofs.TreeLaws.{parent-read, tail-below}
-use Rattle.first_tree.specs.Tails.{kept-by}
+use Rattle.first_tree.specs.Tails.{admissible-by}
 use Rattle.first_tree.specs.Search.{Search, Settled}
-use Rattle.first_tree.proofs.SearchLaws.{tree-at-hand, settled-start, settled-root, own-kept, settled-more, settled-all}
+use Rattle.first_tree.proofs.SearchLaws.{tree-at-hand, settled-start, settled-root, own-admissible, settled-more, settled-all}
 use Rattle.first_tree.proofs.first_tree.Statement.{statement}
 use Rattle.first_tree.proofs.first_tree.Tie as tie
 
@@ -44,11 +44,11 @@ module _ (c : tie.After-least-parent Inv-loop μ-loop) where
       (tree-at-hand (a .m .now) (a .cuts .now) (a .n) (a .root) (a .total) 0 (a .count) (b .pre .0) v (c .before .before .before .before .loop .tails) (c .least-parent .result) settled) v
       (c .before .before .before .loop-test .taken) (c .before .before .if1 .taken)
 
-  kept : kept-by (c .before .before .before .before .loop .tails) (getD (c .least-parent .result) v 0) v ≡ true
-  kept =
+  admissible : admissible-by (c .before .before .before .before .loop .tails) (getD (c .least-parent .result) v 0) v ≡ true
+  admissible =
       let a = b .args in
       rw read
-      (own-kept (a .m .now) (a .cuts .now) (a .n) (a .root) (a .total) 0 (a .count) (b .pre .0) v (c .before .before .before .before .loop .tails) (c .least-parent .result)
+      (own-admissible (a .m .now) (a .cuts .now) (a .n) (a .root) (a .total) 0 (a .count) (b .pre .0) v (c .before .before .before .before .loop .tails) (c .least-parent .result)
       (c .before .before .before .loop-test .taken) (c .before .before .if1 .taken) settled)
 
 first-group-requires : tie.Need-first-group-requires Inv-loop μ-loop
@@ -78,7 +78,7 @@ cast-tail-2 c = omega (arith, below c, b c .pre .0 .matrix-ok .small)
 fix-arc-requires : tie.Need-fix-arc-requires Inv-loop μ-loop
 fix-arc-requires c κs =
     let k = search-at (c .before .before .before .before .before .before .before) in
-    (k .matrix-ok .small, k .from-within, k .few, below (c .before), c .before .before .before .before .loop-test .taken, c .before .before .before .before .before .loop .inv .1 .tails-ok .size, kept (c .before))
+    (k .matrix-ok .small, k .from-within, k .few, below (c .before), c .before .before .before .before .loop-test .taken, c .before .before .before .before .before .loop .inv .1 .tails-ok .size, admissible (c .before))
 
 add-v : tie.Need-add-v Inv-loop μ-loop
 add-v c = let b = c .before .before .before .before .before in omega (arith, b .pre .0 .matrix-ok .small)

@@ -1,6 +1,8 @@
 -- `print_card` is safe: what was read and what is written lie within their buffers. Assumes nothing.
+use mathlib.Core.Path.{sym}
+use lib.Seq.{length-take-le}
 use borrow.Author.Needs.{needs}
-use Rattle.print_card.proofs.JudgeLaws.{counted, taken-most, judged-within}
+use Rattle.print_card.proofs.JudgeLaws.{taken-most, judged-within}
 use Rattle.print_card.proofs.print_card.Statement.{statement}
 use Rattle.print_card.proofs.print_card.Tie as tie
 
@@ -23,7 +25,7 @@ array-share-prefix-list : tie.Need-array-share-prefix-list
 array-share-prefix-list c = search needs
 
 slice-aggregate-judge-input : tie.Need-slice-aggregate-judge-input
-slice-aggregate-judge-input c = counted _ _ (c .before .before .before .read-input .ensures)
+slice-aggregate-judge-input c = sym (length-take-le _ _ (c .before .before .before .read-input .ensures))
 
 slice-aggregate-judge-input-2 : tie.Need-slice-aggregate-judge-input-2
 slice-aggregate-judge-input-2 c = search needs
@@ -47,7 +49,9 @@ array-share-prefix-card : tie.Need-array-share-prefix-card
 array-share-prefix-card c = let j = c .before .before .before .before .judge-input in judged-within _ _ _ _ _ _ (j .result) (j .ensures) (c .before .before .if2 .left)
 
 slice-aggregate-write-all-2 : tie.Need-slice-aggregate-write-all-2
-slice-aggregate-write-all-2 c = let j = c .before .before .before .before .before .judge-input in counted _ _ (judged-within _ _ _ _ _ _ (j .result) (j .ensures) (c .before .before .before .if2 .left))
+slice-aggregate-write-all-2 c =
+    let j = c .before .before .before .before .before .judge-input in
+    sym (length-take-le _ _ (judged-within _ _ _ _ _ _ (j .result) (j .ensures) (c .before .before .before .if2 .left)))
 
 write-all-requires-2 : tie.Need-write-all-requires-2
 write-all-requires-2 c κs = search needs

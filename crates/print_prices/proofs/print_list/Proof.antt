@@ -1,7 +1,8 @@
 -- `print_list` is safe: the list lies within its buffer. Assumes nothing.
+use mathlib.Core.Path.{sym}
+use lib.Seq.{length-take-le}
 use borrow.Author.Needs.{needs}
 use Rattle.price_card.proofs.FromCardLaws.{list-within}
-use Rattle.print_prices.proofs.LineLaws.{counted}
 use Rattle.print_prices.proofs.print_list.Statement.{statement}
 use Rattle.print_prices.proofs.print_list.Tie as tie
 
@@ -21,7 +22,7 @@ array-share-prefix-list : tie.Need-array-share-prefix-list
 array-share-prefix-list c = let l = c .before .before .list-weights in list-within _ _ _ (l .result) (l .ensures)
 
 slice-aggregate-write-all : tie.Need-slice-aggregate-write-all
-slice-aggregate-write-all c = let l = c .before .before .before .list-weights in counted _ _ (list-within _ _ _ (l .result) (l .ensures))
+slice-aggregate-write-all c = let l = c .before .before .before .list-weights in sym (length-take-le _ _ (list-within _ _ _ (l .result) (l .ensures)))
 
 write-all-requires : tie.Need-write-all-requires
 write-all-requires c κs = search needs

@@ -1,6 +1,7 @@
 -- `read_weights` is safe: what was read lies within its buffer. Assumes nothing.
+use mathlib.Core.Path.{sym}
+use lib.Seq.{length-take-le}
 use borrow.Author.Needs.{needs}
-use Rattle.print_prices.proofs.LineLaws.{counted}
 use Rattle.print_prices.proofs.read_weights.Statement.{statement}
 use Rattle.print_prices.proofs.read_weights.Tie as tie
 
@@ -14,7 +15,7 @@ array-share-prefix-card : tie.Need-array-share-prefix-card
 array-share-prefix-card c = search needs
 
 slice-aggregate-weights-on-card : tie.Need-slice-aggregate-weights-on-card
-slice-aggregate-weights-on-card c = counted _ _ (c .before .before .read-input .ensures)
+slice-aggregate-weights-on-card c = sym (length-take-le _ _ (c .before .before .read-input .ensures))
 
 weights-on-card-requires : tie.Need-weights-on-card-requires
 weights-on-card-requires c κs = search needs

@@ -1,11 +1,13 @@
 -- `say_numbers` is safe: the line fits its buffer. Assumes nothing.
+use mathlib.Core.Path.{sym}
 use Prim.Native.Nat.{_≤_}
 use native.Mathlib.Omega.{arith}
 use lib.ListN.{length}
+use lib.Seq.{length-take-le}
 use borrow.Author.Needs.{needs}
 use Rattle.text.proofs.BufferLaws.{room-whole}
 use Rattle.report_text.specs.Heading.{header-line}
-use Rattle.print_prices.proofs.LineLaws.{counted, numbers-fit}
+use Rattle.print_prices.proofs.LineLaws.{numbers-fit}
 use Rattle.print_prices.proofs.say_numbers.Statement.{statement}
 use Rattle.print_prices.proofs.say_numbers.Tie as tie
 
@@ -25,7 +27,7 @@ array-share-prefix-line : tie.Need-array-share-prefix-line
 array-share-prefix-line c = within (c .before)
 
 slice-aggregate-write-all : tie.Need-slice-aggregate-write-all
-slice-aggregate-write-all c = counted _ _ (within (c .before .before))
+slice-aggregate-write-all c = sym (length-take-le _ _ (within (c .before .before)))
 
 write-all-requires : tie.Need-write-all-requires
 write-all-requires c κs = search needs

@@ -5,10 +5,10 @@ use Rattle.reference_rows.proofs.priced.Statement.{statement}
 use Rattle.reference_rows.proofs.priced.Tie as tie
 
 abbrev Inv-loop : tie.InvT-loop
-Inv-loop prices n feeder only-above count₀ all place₀ count place = Unit
+Inv-loop prices n tail only-above count₀ all place₀ count place = Unit
 
 abbrev μ-loop : tie.MeasureT-loop
-μ-loop prices n feeder only-above count₀ all place₀ count place = all - place
+μ-loop prices n tail only-above count₀ all place₀ count place = all - place
 
 pub priced-spec : {M : Type 1} → statement M
 priced-spec =

@@ -1,7 +1,7 @@
 -- Each way out by its law. Assumes nothing.
 use native.Mathlib.Omega.{arith}
 use Rattle.paths.proofs.TreeLaws.{tree-rooted}
-use Rattle.first_tree.proofs.SearchLaws.{tree-at-hand, kept-ends, not-root, tried-cycle, tried-exchange, fixed-ok, tried-fixed}
+use Rattle.first_tree.proofs.SearchLaws.{tree-at-hand, admissible-ends, not-root, tried-cycle, tried-exchange, fixed-ok, tried-fixed}
 use Rattle.first_tree.proofs.attempt.try_tail.Statement.{statement}
 use Rattle.first_tree.proofs.attempt.try_tail.Tie as tie
 
@@ -10,7 +10,7 @@ leads-back-requires c κs =
     let b = c .before in
     let a = b .args in
     let h = tree-at-hand (a .m .now) (a .cuts .now) (a .n) (a .root) (a .total) (a .from .0) (a .count) (b .pre .0) (a .vertex) (a .tails .now) (a .t4) (b .pre .1) in
-    let e = kept-ends (a .m .now) (a .cuts .now) (a .n) (a .root) (a .total) (a .from .0) (a .count) (b .pre .0) (a .vertex) (a .tails .now) (a .t4) (b .pre .1) (a .tail) (b .pre .2) (b .pre .3) in
+    let e = admissible-ends (a .m .now) (a .cuts .now) (a .n) (a .root) (a .total) (a .from .0) (a .count) (b .pre .0) (a .vertex) (a .tails .now) (a .t4) (b .pre .1) (a .tail) (b .pre .2) (b .pre .3) in
     (b .pre .0 .matrix-ok .small, b .pre .1 .places, tree-rooted (a .n) (a .root) (a .m .now) (a .t4) h, e .tail-below, b .pre .2)
 
 returns : tie.Need-returns
@@ -25,14 +25,14 @@ can-exchange-requires c κs =
     let b = c .before .before .before .before in
     let a = b .args in
     let h = tree-at-hand (a .m .now) (a .cuts .now) (a .n) (a .root) (a .total) (a .from .0) (a .count) (b .pre .0) (a .vertex) (a .tails .now) (a .t4) (b .pre .1) in
-    let e = kept-ends (a .m .now) (a .cuts .now) (a .n) (a .root) (a .total) (a .from .0) (a .count) (b .pre .0) (a .vertex) (a .tails .now) (a .t4) (b .pre .1) (a .tail) (b .pre .2) (b .pre .3) in
+    let e = admissible-ends (a .m .now) (a .cuts .now) (a .n) (a .root) (a .total) (a .from .0) (a .count) (b .pre .0) (a .vertex) (a .tails .now) (a .t4) (b .pre .1) (a .tail) (b .pre .2) (b .pre .3) in
     (h, e .tail-below, b .pre .2, not-root (a .m .now) (a .cuts .now) (a .n) (a .root) (a .total) (a .from .0) (a .count) (b .pre .0) (a .vertex) (a .tails .now) (a .t4) (b .pre .1) (a .tail) (b .pre .2) (b .pre .3))
 
 cast-other : tie.Need-cast-other
 cast-other c =
     let b = c .before .before .before .before .before .before in
     let a = b .args in
-    let e = kept-ends (a .m .now) (a .cuts .now) (a .n) (a .root) (a .total) (a .from .0) (a .count) (b .pre .0) (a .vertex) (a .tails .now) (a .t4) (b .pre .1) (a .tail) (b .pre .2) (b .pre .3) in
+    let e = admissible-ends (a .m .now) (a .cuts .now) (a .n) (a .root) (a .total) (a .from .0) (a .count) (b .pre .0) (a .vertex) (a .tails .now) (a .t4) (b .pre .1) (a .tail) (b .pre .2) (b .pre .3) in
     omega (arith, e .tail-below, b .pre .0 .matrix-ok .small)
 
 array-write-other : tie.Need-array-write-other
@@ -50,11 +50,11 @@ fix-arc-requires c κs =
     let b = c .before .before .before .before .before .before .before .before in
     let a = b .args in
     let k = b .pre .0 in
-    let e = kept-ends (a .m .now) (a .cuts .now) (a .n) (a .root) (a .total) (a .from .0) (a .count) k (a .vertex) (a .tails .now) (a .t4) (b .pre .1) (a .tail) (b .pre .2) (b .pre .3) in
+    let e = admissible-ends (a .m .now) (a .cuts .now) (a .n) (a .root) (a .total) (a .from .0) (a .count) k (a .vertex) (a .tails .now) (a .t4) (b .pre .1) (a .tail) (b .pre .2) (b .pre .3) in
     (k .matrix-ok .small, k .from-within, k .few, e .tail-below, b .pre .2, b .pre .1 .tails-ok .size, b .pre .3)
 
-tree-kept-requires : tie.Need-tree-kept-requires
-tree-kept-requires c κs =
+tree-admissible-requires : tie.Need-tree-admissible-requires
+tree-admissible-requires c κs =
     let b = c .before .before .before .before .before .before .before .before .before .before in
     let a = b .args in
     (b .pre .0, fixed-ok (a .m .now) (a .cuts .now) (a .n) (a .root) (a .total) (a .from .0) (a .count) (b .pre .0) (a .vertex) (a .tails .now) (a .t4) (b .pre .1) (a .tail) (b .pre .2) (b .pre .3) _ (c .before .fix-arc .ensures))
@@ -64,7 +64,7 @@ returns-3 c =
     let b = c .before .before .before .before .before .before .before .before .before .before .before in
     let a = b .args in
     tried-fixed (a .m .now) (a .cuts .now) (a .n) (a .root) (a .total) (a .from .0) (a .count) (b .pre .0) (a .vertex) (a .tails .now) (a .t4) (b .pre .1) (a .tail) (b .pre .2) (b .pre .3) _ (c .before .before .fix-arc .ensures) _ _
-    (c .tree-kept .ensures)
+    (c .tree-admissible .ensures)
 
 pub try-tail-spec : {M : Type 1} → statement M
 try-tail-spec =
@@ -77,5 +77,5 @@ try-tail-spec =
     array-write-other
     returns-2
     fix-arc-requires
-    tree-kept-requires
+    tree-admissible-requires
     returns-3)

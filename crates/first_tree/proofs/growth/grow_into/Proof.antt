@@ -2,7 +2,7 @@
 use mathlib.Core.Path.{sym, _∙_}
 use native.Mathlib.Omega.{arith}
 use Rattle.instance.proofs.SetBits.{one-shifted}
-use Rattle.first_tree.proofs.GrowthLaws.{grows-already, grows-none, source-kept, source-below, grows-more}
+use Rattle.first_tree.proofs.GrowthLaws.{grows-already, grows-none, source-admissible, source-below, grows-more}
 use Rattle.first_tree.proofs.growth.grow_into.Statement.{statement}
 use Rattle.first_tree.proofs.growth.grow_into.Tie as tie
 
@@ -33,7 +33,7 @@ fix-arc-requires c κs =
       source-below (a .n) (a .from .0) (a .count) (a .head) _ (a .reached) _ k (p .1) out (c .before .if2 .left),
       p .1,
       k .size,
-      source-kept (a .n) (a .from .0) (a .count) (a .head) _ (a .reached) _ k (p .1) out (c .before .if2 .left),
+      source-admissible (a .n) (a .from .0) (a .count) (a .head) _ (a .reached) _ k (p .1) out (c .before .if2 .left),
     )
 
 cast-parents : tie.Need-cast-parents

@@ -23,12 +23,12 @@ returns : tie.Need-returns
 returns c =
     let s = c .before .before .before .before .before .args in
     let w = c .before .before .room-answer in
-    uses-refused (s .count) (s .feeder .0) (s .school .now) (s .shipped .now) (s .school .ptr) (s .shipped .ptr) (w .result) (w .ensures) (c .before .if1 .taken)
+    uses-refused (s .count) (s .tail .0) (s .school .now) (s .shipped .now) (s .school .ptr) (s .shipped .ptr) (w .result) (w .ensures) (c .before .if1 .taken)
 
 chosen-row-requires : tie.Need-chosen-row-requires
 chosen-row-requires c κs =
     let s = c .before .before .before .before .args in
-    let f = room-passed (s .count) (s .feeder .0) (length (s .school .now)) (length (s .shipped .now)) (sym (c .before .room-answer .ensures) ∙ c .if1 .left) in
+    let f = room-passed (s .count) (s .tail .0) (length (s .school .now)) (length (s .shipped .now)) (sym (c .before .room-answer .ensures) ∙ c .if1 .left) in
     (f .small, f .below, f .first, f .second)
 
 row-ok-requires : tie.Need-row-ok-requires
@@ -40,7 +40,7 @@ returns-2 c =
     let e = c .before .before .chosen-row .ensures in
     let z = sym (c .before .before .before .before .room-answer .ensures) ∙ c .before .before .before .if1 .left in
     rw (e .0, e .1)
-    (uses-chosen (s .count) (s .feeder .0) (s .school .now) (s .shipped .now) (s .school .ptr) (s .shipped .ptr) z (ap row-ok (sym (e .0)) ∙ sym (c .before .row-ok .ensures) ∙ c .if2 .taken))
+    (uses-chosen (s .count) (s .tail .0) (s .school .now) (s .shipped .now) (s .school .ptr) (s .shipped .ptr) z (ap row-ok (sym (e .0)) ∙ sym (c .before .row-ok .ensures) ∙ c .if2 .taken))
 
 sub-result-2 : tie.Need-sub-result-2
 sub-result-2 c = search needs
@@ -56,7 +56,7 @@ returns-3 c =
     let s = c .before .before .before .before .before .before .before .before .args in
     let e = c .before .before .before .chosen-row .ensures in
     let z = sym (c .before .before .before .before .before .room-answer .ensures) ∙ c .before .before .before .before .if1 .left in
-    uses-out-of-range (s .count) (s .feeder .0) (s .school .now) (s .shipped .now) (s .school .ptr) (s .shipped .ptr) z
+    uses-out-of-range (s .count) (s .tail .0) (s .school .now) (s .shipped .now) (s .school .ptr) (s .shipped .ptr) z
     (ap row-ok (sym (e .0)) ∙ sym (c .before .before .row-ok .ensures) ∙ c .before .if2 .left)
 
 pub row-used-spec : {M : Type 1} → statement M

@@ -1,9 +1,11 @@
 -- `judge_input` meets its contract: each return by its law. Assumes nothing.
+use mathlib.Core.Path.{sym}
 use native.Mathlib.Omega.{arith}
 use lib.ListN.{length}
+use lib.Seq.{length-take-le}
 use borrow.Author.Needs.{needs}
 use Rattle.print_card.specs.Judge.{line-feeds}
-use Rattle.print_card.proofs.JudgeLaws.{counted, end-within, feeds-within, judged-whole, part-refused, part-accepted}
+use Rattle.print_card.proofs.JudgeLaws.{end-within, feeds-within, judged-whole, part-refused, part-accepted}
 use Rattle.print_card.proofs.judge.judge_input.Statement.{statement}
 use Rattle.print_card.proofs.judge.judge_input.Tie as tie
 
@@ -24,7 +26,7 @@ line-end-requires c κs = search needs
 slice-aggregate-card-from-prices : tie.Need-slice-aggregate-card-from-prices
 slice-aggregate-card-from-prices c =
     let t = c .before .before .before .before .before .args .text .now in
-    counted _ _ (let w = end-within t (length t) in omega (arith, c .before .line-end .ensures))
+    sym (length-take-le _ _ (let w = end-within t (length t) in omega (arith, c .before .line-end .ensures)))
 
 card-from-prices-requires-2 : tie.Need-card-from-prices-requires-2
 card-from-prices-requires-2 c κs = search needs

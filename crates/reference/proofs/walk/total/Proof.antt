@@ -5,10 +5,10 @@ use Rattle.reference.proofs.walk.total.Statement.{statement}
 use Rattle.reference.proofs.walk.total.Tie as tie
 
 abbrev Inv-loop : tie.InvT-loop
-Inv-loop table feeders n sum₀ position₀ sum position = Unit
+Inv-loop table parents n sum₀ position₀ sum position = Unit
 
 abbrev μ-loop : tie.MeasureT-loop
-μ-loop table feeders n sum₀ position₀ sum position = n - position
+μ-loop table parents n sum₀ position₀ sum position = n - position
 
 pub total-spec : {M : Type 1} → statement M
 total-spec =

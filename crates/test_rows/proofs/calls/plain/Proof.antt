@@ -5,10 +5,10 @@ use Rattle.test_rows.proofs.calls.plain.Statement.{statement}
 use Rattle.test_rows.proofs.calls.plain.Tie as tie
 
 abbrev Inv-loop : tie.InvT-loop
-Inv-loop n feeder c₀ k₀ c k = Unit
+Inv-loop n tail c₀ k₀ c k = Unit
 
 abbrev μ-loop : tie.MeasureT-loop
-μ-loop n feeder c₀ k₀ c k = 1100 - k
+μ-loop n tail c₀ k₀ c k = 1100 - k
 
 pub plain-spec : {M : Type 1} → statement M
 plain-spec =

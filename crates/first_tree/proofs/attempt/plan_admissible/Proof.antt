@@ -1,4 +1,4 @@
--- The matrix of the arcs that are kept is planned; each outcome by its law. Assumes nothing.
+-- The matrix of the admissible arcs is planned; each outcome by its law. Assumes nothing.
 use mathlib.Core.Path.{refl, sym, subst}
 use mathlib.Core.Bool.{false}
 use mathlib.Core.List.{List}
@@ -9,28 +9,28 @@ use Rattle.base.proofs.BoolLaws.{not-both}
 use Rattle.instance.specs.Limits.{cut-words}
 use Rattle.instance.specs.Matrix.{matrix-where, unmarked, Matrix-ok}
 use Rattle.edmonds.specs.Planned.{Planned-matrix}
-use Rattle.first_tree.specs.Tails.{kept-by}
-use Rattle.first_tree.proofs.AttemptLaws.{kept-ok, plan-none, plan-kept, plan-of-total, plan-dearer}
-use Rattle.first_tree.proofs.attempt.plan_kept.Statement.{statement}
-use Rattle.first_tree.proofs.attempt.plan_kept.Tie as tie
+use Rattle.first_tree.specs.Tails.{admissible-by}
+use Rattle.first_tree.proofs.AttemptLaws.{admissible-ok, plan-none, plan-admissible, plan-of-total, plan-dearer}
+use Rattle.first_tree.proofs.attempt.plan_admissible.Statement.{statement}
+use Rattle.first_tree.proofs.attempt.plan_admissible.Tie as tie
 
 planned :
     (c : tie.After-plan-matrix) → let b = c .before .before .before .before in
-    Planned-matrix (matrix-where (unmarked (b .args .n) (b .args .root) (b .args .m .now)) (kept-by (b .args .tails .now))) (c .plan-matrix .last .0) (b .args .n) (b .args .root)
+    Planned-matrix (matrix-where (unmarked (b .args .n) (b .args .root) (b .args .m .now)) (admissible-by (b .args .tails .now))) (c .plan-matrix .last .0) (b .args .n) (b .args .root)
     (replicate cut-words 0) (c .plan-matrix .last .1 .1 .1 .0) (c .plan-matrix .result)
 planned c =
     let b = c .before .before .before .before in
     subst
     (λ (w : List ℕ). Planned-matrix w (c .plan-matrix .last .0) (b .args .n) (b .args .root) (replicate cut-words 0) (c .plan-matrix .last .1 .1 .1 .0) (c .plan-matrix .result))
-    (c .before .before .before .kept-matrix .ensures) (c .plan-matrix .ensures)
+    (c .before .before .before .admissible-matrix .ensures) (c .plan-matrix .ensures)
 
-kept-matrix-requires : tie.Need-kept-matrix-requires
-kept-matrix-requires c κs = (c .pre .0, c .pre .1)
+admissible-matrix-requires : tie.Need-admissible-matrix-requires
+admissible-matrix-requires c κs = (c .pre .0, c .pre .1)
 
 plan-matrix-requires : tie.Need-plan-matrix-requires
 plan-matrix-requires c κs =
     let b = c .before .before .before in
-    (subst (Matrix-ok (b .args .n) (b .args .root)) (sym (c .before .before .kept-matrix .ensures)) (kept-ok (b .args .m .now) (b .args .tails .now) (b .args .n) (b .args .root) (b .pre .0)), refl)
+    (subst (Matrix-ok (b .args .n) (b .args .root)) (sym (c .before .before .admissible-matrix .ensures)) (admissible-ok (b .args .m .now) (b .args .tails .now) (b .args .n) (b .args .root) (b .pre .0)), refl)
 
 returns : tie.Need-returns
 returns c =
@@ -40,7 +40,7 @@ returns c =
     record {
       places = planned (c .before .before .before) .parents-size;
       tree = λ e. absurd (not-both false e refl);
-      kept = λ e. absurd (not-both false e refl);
+      admissible = λ e. absurd (not-both false e refl);
       none = λ _. plan-none (a .m .now) (a .tails .now) (a .n) (a .root) (a .total) (b .pre .0) (b .pre .2) _ _ _ (c .before .before .before .plan-matrix .result) (planned (c .before .before .before)) f;
     }
 
@@ -55,9 +55,9 @@ returns-2 c =
     record {
       places = p .parents-size;
       tree = λ e. plan-of-total (a .m .now) (a .tails .now) (a .n) (a .root) (a .total) (b .pre .0) (b .pre .2) _ _ _ r p f (eqb-true (r .total) (a .total) e);
-      kept = λ e. plan-kept (a .m .now) (a .tails .now) (a .n) (a .root) (a .total) (b .pre .0) (b .pre .2) _ _ _ r p f;
+      admissible = λ e. plan-admissible (a .m .now) (a .tails .now) (a .n) (a .root) (a .total) (b .pre .0) (b .pre .2) _ _ _ r p f;
       none = λ e. plan-dearer (a .m .now) (a .tails .now) (a .n) (a .root) (a .total) (b .pre .0) (b .pre .2) _ _ _ r p f (eqb-false (r .total) (a .total) e);
     }
 
-pub plan-kept-spec : {M : Type 1} → statement M
-plan-kept-spec = tie.close (tie.spec kept-matrix-requires plan-matrix-requires returns returns-2)
+pub plan-admissible-spec : {M : Type 1} → statement M
+plan-admissible-spec = tie.close (tie.spec admissible-matrix-requires plan-matrix-requires returns returns-2)

@@ -4,12 +4,12 @@ use mathlib.Core.Logic.{⊎-elim}
 use Prim.Native.Nat.{_-_, _≤_}
 use native.Mathlib.Omega.{arith}
 use Rattle.instance.specs.Limits.{cells}
-use Rattle.first_tree.proofs.AttemptLaws.{Kept-cells, cells-none, cells-store, cells-pass, cells-all}
-use Rattle.first_tree.proofs.attempt.kept_matrix.Statement.{statement}
-use Rattle.first_tree.proofs.attempt.kept_matrix.Tie as tie
+use Rattle.first_tree.proofs.AttemptLaws.{Admissible-cells, cells-none, cells-store, cells-pass, cells-all}
+use Rattle.first_tree.proofs.attempt.admissible_matrix.Statement.{statement}
+use Rattle.first_tree.proofs.attempt.admissible_matrix.Tie as tie
 
 abbrev Inv-loop : tie.InvT-loop
-Inv-loop m tails n root w₀ i₀ w i = (i ≤ cells) × Kept-cells m tails n root w i
+Inv-loop m tails n root w₀ i₀ w i = (i ≤ cells) × Admissible-cells m tails n root w i
 
 abbrev μ-loop : tie.MeasureT-loop
 μ-loop m tails n root w₀ i₀ w i = cells - i
@@ -65,8 +65,8 @@ returns c =
     let e : l .i ≡ cells = omega arith in
     cells-all (a .m .now) (a .tails .now) (a .n) (a .root) (l .w) (rw e at (l .inv .1))
 
-pub kept-matrix-spec : {M : Type 1} → statement M
-kept-matrix-spec =
+pub admissible-matrix-spec : {M : Type 1} → statement M
+admissible-matrix-spec =
     tie.close
     (tie.spec
     Inv-loop

@@ -1,17 +1,17 @@
--- `reference::walk::next_feeder` is safe and ends.
+-- `reference::walk::next_tail` is safe and ends.
 use Prim.Native.Nat.{_-_}
 use borrow.Author.Needs.{needs}
-use Rattle.reference.proofs.walk.next_feeder.Statement.{statement}
-use Rattle.reference.proofs.walk.next_feeder.Tie as tie
+use Rattle.reference.proofs.walk.next_tail.Statement.{statement}
+use Rattle.reference.proofs.walk.next_tail.Tie as tie
 
 abbrev Inv-loop : tie.InvT-loop
-Inv-loop table n position present from feeder₀ feeder = Unit
+Inv-loop table n position present from tail₀ tail = Unit
 
 abbrev μ-loop : tie.MeasureT-loop
-μ-loop table n position present from feeder₀ feeder = n - feeder
+μ-loop table n position present from tail₀ tail = n - tail
 
-pub next-feeder-spec : {M : Type 1} → statement M
-next-feeder-spec =
+pub next-tail-spec : {M : Type 1} → statement M
+next-tail-spec =
     tie.close
     (tie.spec
     Inv-loop

@@ -10,8 +10,8 @@ use Rattle.base.proofs.BoolLaws.{not-both}
 use Rattle.instance.specs.Limits.{max-vertices, no-parent}
 use Rattle.instance.specs.Matrix.{unmarked}
 use Rattle.first_tree.proofs.SearchLaws.{none-cheaper, grown-short, grown-matrix, grown-passes}
-use Rattle.first_tree.proofs.attempt.tree_kept.Statement.{statement}
-use Rattle.first_tree.proofs.attempt.tree_kept.Tie as tie
+use Rattle.first_tree.proofs.attempt.tree_admissible.Statement.{statement}
+use Rattle.first_tree.proofs.attempt.tree_admissible.Tie as tie
 
 grow-requires : tie.Need-grow-requires
 grow-requires c κs = let k = c .pre .0 in (k .matrix-ok .small, k .matrix-ok .root-below, omega arith, k .few, c .pre .1 .size)
@@ -28,7 +28,7 @@ returns c =
     record {
       places = length-replicate {A = ℕ} max-vertices no-parent;
       tree = λ e. absurd (not-both false e refl);
-      kept = λ e. absurd (not-both false e refl);
+      admissible = λ e. absurd (not-both false e refl);
       none = λ _. grown-short (a .m .now) (a .cuts .now) (a .n) (a .root) (a .total) (a .from .0) (a .count) (b .pre .0) (a .tails .now) (b .pre .1) (a .count) _ _ (g .ensures) refl
           (sym (c .before .all-reached .ensures) ∙ not-true _ (c .if1 .taken));
     }
@@ -57,21 +57,21 @@ returns-2 c =
     record {
       places = g .places;
       tree = λ _. record { arborescence = t .arborescence; attained = sym (c .before .tree-total .ensures) ∙ c .if3 .taken };
-      kept = λ _. grown-passes (a .m .now) (a .cuts .now) (a .n) (a .root) (a .total) (a .from .0) (a .count) (b .pre .0) (a .tails .now) (b .pre .1) (a .from .0) _ _ g all;
+      admissible = λ _. grown-passes (a .m .now) (a .cuts .now) (a .n) (a .root) (a .total) (a .from .0) (a .count) (b .pre .0) (a .tails .now) (b .pre .1) (a .from .0) _ _ g all;
       none = λ e. absurd (not-both true refl e);
     }
 
-plan-kept-requires : tie.Need-plan-kept-requires
-plan-kept-requires c κs =
+plan-admissible-requires : tie.Need-plan-admissible-requires
+plan-admissible-requires c κs =
     let b = c .before .before .before .before .before .before in
     let a = b .args in
     (b .pre .0 .matrix-ok, b .pre .1, none-cheaper (a .m .now) (a .cuts .now) (a .n) (a .root) (a .total) (a .from .0) (a .count) (b .pre .0))
 
 returns-3 : tie.Need-returns-3
-returns-3 c = c .plan-kept .ensures
+returns-3 c = c .plan-admissible .ensures
 
-pub tree-kept-spec : {M : Type 1} → statement M
-tree-kept-spec =
+pub tree-admissible-spec : {M : Type 1} → statement M
+tree-admissible-spec =
     tie.close
     (tie.spec
     grow-requires
@@ -81,5 +81,5 @@ tree-kept-spec =
     all-reached-requires-2
     tree-total-requires
     returns-2
-    plan-kept-requires
+    plan-admissible-requires
     returns-3)

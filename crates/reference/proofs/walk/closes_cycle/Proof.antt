@@ -1,17 +1,17 @@
--- `reference::walk::closes_ring` is safe and ends.
+-- `reference::walk::closes_cycle` is safe and ends.
 use Prim.Native.Nat.{_-_}
 use borrow.Author.Needs.{needs}
-use Rattle.reference.proofs.walk.closes_ring.Statement.{statement}
-use Rattle.reference.proofs.walk.closes_ring.Tie as tie
+use Rattle.reference.proofs.walk.closes_cycle.Statement.{statement}
+use Rattle.reference.proofs.walk.closes_cycle.Tie as tie
 
 abbrev Inv-loop : tie.InvT-loop
-Inv-loop feeders position at₀ step₀ at step = Unit
+Inv-loop parents position at₀ step₀ at step = Unit
 
 abbrev μ-loop : tie.MeasureT-loop
-μ-loop feeders position at₀ step₀ at step = 32 - step
+μ-loop parents position at₀ step₀ at step = 32 - step
 
-pub closes-ring-spec : {M : Type 1} → statement M
-closes-ring-spec =
+pub closes-cycle-spec : {M : Type 1} → statement M
+closes-cycle-spec =
     tie.close
     (tie.spec
     Inv-loop
