@@ -7,10 +7,9 @@ use Prim.Native.Nat.{ℕ, _≤_}
 use native.Mathlib.Omega.{arith}
 use lib.ListN.{length, set}
 use borrow.Author.Tests.{eq-eqb, ne-eqb}
-use Rattle.instance.specs.Instance.{Instance}
 use Rattle.commands.specs.Model.{Model, Replaced}
 use Rattle.commands.specs.Valid.{valid}
-use Rattle.commands.specs.Commands.{Command, undo, Result, refused, accepted, applied, answered}
+use Rattle.commands.specs.Commands.{Command, undo, Result, refused, answered}
 use Rattle.commands.specs.Changes.{is-undo, Changes-only-named}
 use Rattle.commands.proofs.ChangeLaws.{answered-changes}
 use Rattle.commands.proofs.CommandLaws.{command-recorded}
@@ -18,9 +17,8 @@ use Rattle.commands.proofs.AnsweredLaws.{answered-applied, answered-valid, acce
 use Rattle.board.specs.declared.Board.{Board}
 use Rattle.board.specs.declared.Answered.{Answered}
 use Rattle.board.specs.declared.UndoRecord.{UndoRecord}
-use Rattle.board.specs.declared.Replaced as declared-replaced
-use Rattle.board.specs.ModelOf.{replaced-of, model-of, instance-of, history-of, result-of}
-use Rattle.board.specs.Calls.{record-of, records-after, Answers, Records}
+use Rattle.board.specs.ModelOf.{model-of, history-of, result-of}
+use Rattle.board.specs.Calls.{record-of, records-after, Answers}
 use Rattle.board.proofs.ModelOfLaws.{length-history}
 
 -- THE RECORD PLACES that are left: one more record sets the place at the count, any other history sets none
@@ -34,7 +32,7 @@ unfolding records-after
 records-left rs k [] l = refl
 records-left rs k (o ∷ os) l = rw (ne-eqb (length os) k (λ e. omega arith))
 
--- REFUSED, and accepted with one record more
+-- REFUSED
 pub answers-refused : (k : ℕ) (d : Result) (b : Board) → d ≡ refused k (model-of b) → Answers d b (record { answer = k; board = b })
 unfolding refused
 answers-refused k d b e =
@@ -44,26 +42,6 @@ answers-refused k d b e =
       records = sym (records-left (b .records) (b .count) (history-of (b .count) (b .records)) (omega (arith, length-history (b .count) (b .records))));
       unchanged = λ _. refl;
     })
-
--- the record is the one that stands for what it means: a program could leave anything at a head that is not in the set
-module _ (o : declared-replaced.Replaced) (b g : Board) (k : Records b o g) (made : record-of (replaced-of o) ≡ record { replaced = o }) where
-  pub answers-accepted :
-      (s : Instance) (d : Result) (r : Board) → d ≡ accepted (replaced-of o) s (model-of b) → instance-of r ≡ s → r .records ≡ g .records → r .count ≡ g .count →
-      Answers d b (record { answer = 0; board = r })
-  unfolding accepted
-  answers-accepted s d r e i rs c =
-      let h : history-of (r .count) (r .records) ≡ replaced-of o ∷ history-of (b .count) (b .records) = rw (rs, c) (k .history) in
-      rw e
-      (record {
-        result = λ j. record { answer = 0; board = record { instance = i j; history = h j } };
-        records = rs ∙ k .records ∙ ap (set (b .records) (b .count)) (sym made) ∙ sym (records-added b (replaced-of o));
-        unchanged = λ z. absurd (z refl);
-      })
-
--- what a command gives on a valid board is what the call answers
-pub answers-valid :
-    (c : Command) (b : Board) (r : Answered) → valid (model-of b) ≡ true → Answers (applied c (model-of b)) b r → Answers (answered c (model-of b)) b r
-answers-valid c b r v a = rw (answered-applied c (model-of b) v) a
 
 module _ (c : Command) (b : Board) (r : Answered) (a : Answers (answered c (model-of b)) b r) where
   -- the board that is left, in the model's terms

@@ -2,6 +2,7 @@
 pub mod ModelOfLaws
 pub mod SetMarksLaws
 pub mod CallLaws
+pub mod ChangeOfLaws
 pub mod ContentsLaws
 pub mod RunLaws
 pub mod CreateLaws

@@ -11,7 +11,7 @@ use Rattle.base.specs.Digits.{from-digits, digit}
 use Rattle.base.proofs.BoolLaws.{and-right}
 use Rattle.instance.specs.Limits.{max-vertices, free, banned, max-records}
 use Rattle.instance.specs.Marks.{mark-number}
-use Rattle.instance.specs.Instance.{cell, mark, is-arc}
+use Rattle.instance.specs.Instance.{cell, weight, mark, is-arc}
 use Rattle.instance.specs.Cuts.{inside}
 use Rattle.instance.specs.Matrix.{unmarked}
 use Rattle.instance.specs.declared.Mark.{Mark}
@@ -30,17 +30,23 @@ use Rattle.board.specs.Calls.{record-of}
 use Rattle.board.proofs.ModelOfLaws.{length-history}
 use Rattle.heads.proofs.RecordMarksLaws.{old-at, record-marks-is, record-marks-made, every-head, each-digit}
 
+-- the mark of an arc of a valid board is in range
+pub arc-mark-low :
+    (b : Board) → valid (model-of b) ≡ true → (t h : ℕ) → is-arc (unmarked (b .n) (b .root) (b .weights)) t h ≡ true →
+    getD (b .marks) (cell t h) free ≤ banned
+unfolding mark is-arc weight unmarked
+arc-mark-low b ok t h a =
+    let v = valid-parts (model-of b) ok in
+    leb-true (mark (instance-of b) t h) banned (arc-in-range (instance-of b) t h (v .n-high) (v .cells-ok) a .mark-most)
+
 module _ (b : Board) (ok : valid (model-of b) ≡ true) (t c : ℕ) where
   abbrev pub named : ℕ → Bool
   named = names-arc (instance-of b) t c
 
   -- a mark that is replaced is one of an arc
   pub marks-low : (h : ℕ) → h < max-vertices → named h ≡ true → mark (instance-of b) t h ≤ banned
-  unfolding names-arc
-  marks-low h l e =
-      let v = valid-parts (model-of b) ok in
-      let a = and-right (inside c h) (is-arc (instance-of b) t h) e in
-      leb-true (mark (instance-of b) t h) banned (arc-in-range (instance-of b) t h (v .n-high) (v .cells-ok) a .mark-most)
+  unfolding names-arc mark is-arc weight unmarked
+  marks-low h l e = arc-mark-low b ok t h (and-right (inside c h) (is-arc (instance-of b) t h) e)
 
   module _ (arcs : ℕ) (a : arcs ≡ heads-of (names-arc (unmarked (b .n) (b .root) (b .weights)) t c)) where
     arcs-are : arcs ≡ heads-of named

@@ -8,14 +8,13 @@ use lib.Dec.{eqb}
 use lib.ListN.{length, getD, set}
 use Rattle.base.specs.Digits.{from-digits}
 use Rattle.instance.specs.Limits.{max-vertices, free}
-use Rattle.commands.specs.Model.{Replaced, old-mark, old-marks, old-budget, restored}
+use Rattle.commands.specs.Model.{Replaced, old-mark, old-marks, old-budget}
 use Rattle.commands.specs.Commands.{Result}
 use Rattle.board.specs.declared.Board.{Board}
 use Rattle.board.specs.declared.Answered.{Answered}
 use Rattle.board.specs.declared.UndoRecord.{UndoRecord}
-use Rattle.board.specs.declared.Replaced as declared-replaced
 use Rattle.board.specs.declared.Replaced.the-variants.{OldMark, OldBudget, OldMarks}
-use Rattle.board.specs.ModelOf.{instance-of, replaced-of, history-of, result-of}
+use Rattle.board.specs.ModelOf.{result-of}
 
 -- the record of what was replaced, as the program stores it
 abbrev pub record-of : Replaced → UndoRecord
@@ -36,15 +35,3 @@ pub record Answers (d : Result) (b : Board) (r : Answered) : Type 0 where
   pub result : result-of r ≡ d
   pub records : r .board .records ≡ records-after (b .records) (b .count) (d .board .history)
   pub unchanged : (r .answer ≡ 0 → ⊥) → r .board ≡ b
-
--- one record more, and nothing else
-pub record Records (b : Board) (o : declared-replaced.Replaced) (r : Board) : Type 0 where
-  pub instance : instance-of r ≡ instance-of b
-  pub records : r .records ≡ set (b .records) (b .count) (record { replaced = o })
-  pub history : history-of (r .count) (r .records) ≡ replaced-of o ∷ history-of (b .count) (b .records)
-
--- what putting back leaves: the record itself is still counted
-pub record Restores (b : Board) (o : Replaced) (r : Board) : Type 0 where
-  pub instance : instance-of r ≡ restored o (instance-of b)
-  pub records : r .records ≡ b .records
-  pub count : r .count ≡ b .count

@@ -3,6 +3,7 @@
 // before anything else is judged. Everything is held against the model of the crate `commands`, by the definitions of
 // specs/ModelOf.antt and specs/Calls.antt.
 pub mod valid; // valid.rt: whether a board is valid
+pub mod changes; // changes.rt: what a command comes to on a board
 pub mod calls; // calls.rt: the commands and undo
 pub mod create; // create.rt: a new board, and the blank one
 

@@ -19,7 +19,7 @@ use Rattle.survey.specs.declared.Survey.{Survey}
 use Rattle.survey.specs.Survey.{Surveys}
 use Rattle.planner.specs.declared.View.{View}
 use Rattle.planner.specs.declared.View.the-variants.{Shown, Refused}
-use Rattle.planner.specs.Looking.{Buffers, too-short, short-for, Shows, Looks-at, Looks}
+use Rattle.planner.specs.Looking.{Buffers, too-short, short-for, Shows, Looks-at, Looks-valid, Looks}
 use Rattle.planner.specs.Displaying.{Displays}
 
 -- THE LOOK SHOWS WHAT WAS FOUND
@@ -42,13 +42,17 @@ pub looks-invalid : (b : Board) (x : Buffers) → valid (model-of b) ≡ false �
 unfolding Looks Looks-at
 looks-invalid b x e = rw e (record { result = refl; buffers = refl })
 
-pub looks-short : (b : Board) (x : Buffers) → valid (model-of b) ≡ true → short-for (b .n) x ≡ true → Looks b x x (Refused buffer-short)
-unfolding Looks Looks-at
-looks-short b x e t = rw (e, t) (record { result = refl; buffers = refl })
+pub looks-by-parts : (b : Board) (v : View) (old new : Buffers) → valid (model-of b) ≡ true → Looks-valid (instance-of b) old new v → Looks b old new v
+unfolding Looks
+looks-by-parts b v old new e l = rw e l
 
-pub looks-shown : (b : Board) (v : View) (old new : Buffers) → valid (model-of b) ≡ true → short-for (b .n) old ≡ false → Shows (instance-of b) old new v → Looks b old new v
-unfolding Looks Looks-at
-looks-shown b v old new e t x = rw (e, t) x
+pub valid-short : (s : Instance) (x : Buffers) → short-for (s .n) x ≡ true → Looks-valid s x x (Refused buffer-short)
+unfolding Looks-at
+valid-short s x t = rw t (record { result = refl; buffers = refl })
+
+pub valid-shown : (s : Instance) (v : View) (old new : Buffers) → short-for (s .n) old ≡ false → Shows s old new v → Looks-valid s old new v
+unfolding Looks-at
+valid-shown s v old new t x = rw t x
 
 -- buffers that are long enough
 pub record Rooms (n parents states cuts : ℕ) : Type 0 where

@@ -1,22 +1,23 @@
 -- The ways of every call that stores a card: refused by what is wrong with the board or the card; by a buffer that is
 -- too short (14), which is looked at last, so that an empty one changes no other refusal; or the card in front of the
 -- buffer. And the writes of a board by them: 15, 14. Assumes nothing.
-use mathlib.Core.Path.{_≡_, refl, ap}
+use mathlib.Core.Path.{_≡_, refl, ap, _∙_}
 use mathlib.Core.Bool.{Bool, true, false, cond}
 use mathlib.Core.List.{List}
 use Prim.Native.Nat.{ℕ, _≤_, _<_}
 use native.Mathlib.Omega.{arith}
 use lib.Dec.{ltb, eqb}
 use lib.ListN.{length}
-use borrow.Author.Tests.{eqb-true, eqb-false, ltb-true, ltb-false}
+use borrow.Author.Tests.{eqb-true, eqb-false, ltb-true, ltb-false, le-ltb}
 use Rattle.base.specs.Lists.{in-front}
+use Rattle.instance.specs.Limits.{max-vertices}
+use Rattle.instance.specs.Instance.{Instance}
 use Rattle.instance.specs.Refusals.{buffer-short, invalid-board}
 use Rattle.card_format.specs.Card.{bytes-needed, max-card, card-of}
 use Rattle.card_format.proofs.LengthLaws.{longest-card, length-card-of}
 use Rattle.card.specs.Write.{written-to, buffer-after}
 use Rattle.card.specs.declared.write.Written.{Written}
 use Rattle.commands.specs.Valid.{valid}
-use Rattle.commands.proofs.ValidLaws.{valid-parts}
 use Rattle.board.specs.ModelOf.{model-of, instance-of}
 use Rattle.board.specs.declared.Board.{Board}
 use Rattle.history_format.specs.HistoryCard.{history-bytes, history-card-of}
@@ -71,15 +72,10 @@ history-write-cases b r out out′ w =
     let m = model-of b in
     board-by (valid m) (history-bytes m) (history-card-of m) out out′ r (length-history-card m) (w .result) (w .buffer)
 
--- a write into room for the longest card is refused by nothing but 15
-pub write-answer : (b : Board) (r : Written) (out out′ : List ℕ) → max-card ≤ length out → Writes b out out′ r → r .answer ≡ board-refusal b
-write-answer b r out out′ h w = go (valid (model-of b)) refl (write-cases b r out out′ w)
-  where
-    go : (v : Bool) → valid (model-of b) ≡ v → Store-case (cond v 0 invalid-board) (card-of (instance-of b)) out out′ r → r .answer ≡ cond v 0 invalid-board
-    go v e (refused-by n p q) = ap (λ (x : Written). x .answer) p
-    go true e (no-room z l p q) =
-        let m = longest-card (b .n) (valid-parts (model-of b) e .n-high) in
-        absurd (omega (arith, length-card-of (instance-of b)))
-    go false e (no-room z l p q) = absurd (omega (arith, z))
-    go true e (put z l p q) = ap (λ (x : Written). x .answer) p
-    go false e (put z l p q) = absurd (omega (arith, z))
+-- a write of an instance in range into room for the longest card is refused by nothing
+pub written-answer : (s : Instance) (r : Written) (out : List ℕ) → s .n ≤ max-vertices → max-card ≤ length out → r ≡ written-to s out → r .answer ≡ 0
+unfolding written-to
+written-answer s r out l h e =
+    let m = longest-card (s .n) l in
+    let q : written-to s out ≡ wrote-with 0 (bytes-needed (s .n)) = rw (le-ltb (length out) (bytes-needed (s .n)) (omega arith)) in
+    ap (λ (x : Written). x .answer) (e ∙ q)

@@ -66,5 +66,9 @@ Looks-at false short s old new r = Untouched invalid-board old new r
 Looks-at true true s old new r = Untouched buffer-short old new r
 Looks-at true false s old new r = Shows s old new r
 
+-- at a valid board with this instance
+abbrev pub Looks-valid : Instance → (old new : Buffers) → View → Type 0
+Looks-valid s old new r = Looks-at true (short-for (s .n) old) s old new r
+
 unfoldable pub Looks : Board → (old new : Buffers) → View → Type 0
 Looks b old new r = Looks-at (valid (model-of b)) (short-for (b .n) old) (instance-of b) old new r

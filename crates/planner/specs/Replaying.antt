@@ -1,19 +1,20 @@
 -- Demand 3 in one definition: the card, the list of calls and the log; the board's own record is not named. Assumes
 -- nothing: these are definitions.
 use mathlib.Core.Path.{_≡_}
-use mathlib.Core.Bool.{Bool, true, false, _||_, cond}
+use mathlib.Core.Bool.{Bool, true, false, _||_, not, cond}
 use mathlib.Core.List.{List, [], _∷_}
 use Prim.Native.Nat.{ℕ, zero, suc}
 use lib.Dec.{ltb, eqb}
 use lib.ListN.{length}
 use Rattle.base.specs.Lists.{in-front}
 use Rattle.instance.specs.Refusals.{buffer-short, invalid-board}
+use Rattle.instance.specs.Instance.{Instance}
 use Rattle.instance.specs.declared.Mark.the-variants.{Free, Pinned, Banned}
 use Rattle.commands.specs.Commands.{Command, set-mark, set-marks, set-budget, undo, answered}
 use Rattle.commands.specs.Valid.{valid}
 use Rattle.commands.specs.Log.{Log, new-log, Noted, unnoted, note}
 use Rattle.commands.specs.Effective.{effective}
-use Rattle.board.specs.ModelOf.{model-of}
+use Rattle.board.specs.ModelOf.{model-of, instance-of}
 use Rattle.board.specs.Calls.{Answers}
 use Rattle.board.specs.declared.Board.{Board}
 use Rattle.board.specs.declared.Answered.{Answered}
@@ -47,6 +48,10 @@ call (suc (suc (suc (suc (suc (suc (suc (suc (suc (suc k)))))))))) a b = write
 unfoldable pub write-kind : (kind : ℕ) → Bool
 write-kind k = eqb k 6 || ltb 9 k
 
+-- any other number gives a command
+unfoldable pub command-kind : (kind : ℕ) → Bool
+command-kind k = cond (eqb k 5) false (not (write-kind k))
+
 unfoldable pub calls : (kinds firsts seconds : List ℕ) → List Call
 calls [] as′ bs = []
 calls (k ∷ ks) [] bs = []
@@ -73,6 +78,11 @@ unfoldable pub Makes : Board → Call → (old new : Buffers) → Answered → T
 Makes b (command c) old new r = Answers (answered c (model-of b)) b r × (new ≡ old)
 Makes b look old new r = (v : View) × (r .answer ≡ answer-of v) × (r .board ≡ b) × Looks b old new v
 Makes b write old new r = (r .answer ≡ cond (valid (model-of b)) 0 invalid-board) × (r .board ≡ b) × (new ≡ old)
+
+-- a look or a write at any valid board with this instance: the board stays
+unfoldable pub Makes-on : Instance → (kind : ℕ) → (old new : Buffers) → (answer : ℕ) → Type 0
+Makes-on s k old new a =
+    (b : Board) → instance-of b ≡ s → valid (model-of b) ≡ true → (first second : ℕ) → Makes b (call k first second) old new (record { answer = a; board = b })
 
 -- THE WHOLE LIST on a freshly opened card, and a look at the end
 -- fewer numbers than kinds, or no room for the answers

@@ -1,25 +1,26 @@
 // A whole list of calls on a freshly opened card, and a look at the end: demand 3 of document 01 as one function.
 ghost use mathlib.Core.Path.{_≡_};
-ghost use mathlib.Core.Bool.{false, cond};
+ghost use mathlib.Core.Bool.{true, false};
 ghost use mathlib.Core.Logic.{_≢_};
-ghost use Rattle.instance.specs.Refusals.{invalid-board};
-ghost use Rattle.commands.specs.Valid.{valid};
-ghost use Rattle.board.specs.ModelOf.{model-of, command-of};
+ghost use lib.ListN.{length};
+ghost use Rattle.instance.specs.Limits.{cells};
+ghost use Rattle.instance.specs.Instance.{instance-with};
+ghost use Rattle.instance.specs.Valid.{valid-instance};
+ghost use Rattle.board.specs.ModelOf.{command-of};
 ghost use Rattle.planner.specs.Looking.{buffers, answer-of};
-ghost use Rattle.planner.specs.Replaying.{write-kind, call, Makes, lists-short, Replays};
+ghost use Rattle.planner.specs.Replaying.{write-kind, command-kind, call, Makes-on, lists-short, Replays};
 ghost use Rattle.planner.specs.Replaying as calls;
 use crate::View;
 use crate::looking::is_too_short;
-use crate::looking::look;
+use crate::looking::look_valid;
 use crate::opening::open_card;
-use crate::writing::write_card;
-use board::Answered;
-use board::Board;
 use board::Command;
 use board::calls::execute;
 use card::MAX_CARD;
+use card::write::write_instance;
 use instance::Mark;
 use instance::Vertex;
+use instance::limits::CELLS;
 use instance::refusals::BUFFER_SHORT;
 
 // The kinds of a call; every number above the last of them writes too.
@@ -91,38 +92,53 @@ fn command_at(kind: u8, first: u32, second: u32) -> Command
     Command::SetMarks(Mark::Free, Vertex(first), second)
 }
 
-// A write whose card is not wanted: what it answers.
-fn write_away(b: Board) -> u32
-    ensures { λ r. ⌜ r ≡ cond (valid (model-of b)) 0 invalid-board ⌝ }
+// Whether a kind is neither a look's nor a write's.
+fn is_command(kind: u8) -> bool
+    ensures { λ r. ⌜ r ≡ command-kind kind ⌝ }
+{
+    if kind == LOOK {
+        return false;
+    }
+    !is_write(kind)
+}
+
+// A write whose card is not wanted, of the valid board that the lists and numbers are of: what it answers.
+fn write_away<'a>(
+    weights: &'a [u32; CELLS],
+    marks: &'a [u8; CELLS],
+    n: u32,
+    root: u32,
+    budget: u32,
+) -> u32
+    requires { ⌜ (valid-instance (instance-with n root budget (now weights) (now marks)) ≡ true) × (length (now weights) ≡ cells) × (length (now marks) ≡ cells) ⌝ }
+    ensures { λ r. ⌜ r ≡ 0 ⌝ }
 {
     let mut out = [0u8; MAX_CARD];
-    let written = write_card(b, &mut out);
+    let written = write_instance(weights, marks, n, root, budget, &mut out);
     written.answer
 }
 
-// One call of the list, on the board that the call before left.
-fn make_call(
-    b: Board,
+// A look or a write of the list, at the valid board that the lists and numbers are of: what it answers. The board
+// stays, so none is handed over.
+fn answer_call<'a>(
     kind: u8, // what is called
-    first: u32, // a tail or a budget
-    second: u32, // a head or a set of heads
+    weights: &'a [u32; CELLS], // these five are the board's
+    marks: &'a [u8; CELLS],
+    n: u32,
+    root: u32,
+    budget: u32,
     parents: &mut [u8], // these three are a look's buffers
     states: &mut [u8],
     cuts: &mut [u32],
-) -> Answered
-    ensures { λ r. ⌜ Makes b (call kind first second) (buffers (now (parents .entry)) (now (states .entry)) (now (cuts .entry))) (buffers (now (parents .exit)) (now (states .exit)) (now (cuts .exit))) r ⌝ }
+) -> u32
+    requires { ⌜ (valid-instance (instance-with n root budget (now weights) (now marks)) ≡ true) × (length (now weights) ≡ cells) × (length (now marks) ≡ cells) × (command-kind kind ≡ false) ⌝ }
+    ensures { λ r. ⌜ Makes-on (instance-with n root budget (now (weights .entry)) (now (marks .entry))) kind (buffers (now (parents .entry)) (now (states .entry)) (now (cuts .entry))) (buffers (now (parents .exit)) (now (states .exit)) (now (cuts .exit))) r ⌝ }
 {
     if kind == LOOK {
-        let view = look(b, parents, states, cuts);
-        let answer = view_answer(view);
-        return Answered { answer, board: b };
+        let view = look_valid(weights, marks, n, root, budget, parents, states, cuts);
+        return view_answer(view);
     }
-    if is_write(kind) {
-        let answer = write_away(b);
-        return Answered { answer, board: b };
-    }
-    let command = command_at(kind, first, second);
-    execute(b, command)
+    write_away(weights, marks, n, root, budget)
 }
 
 fn are_lists_short(kinds: usize, firsts: usize, seconds: usize, answers: usize) -> bool
@@ -154,25 +170,39 @@ pub fn replay(
 ) -> View
     ensures { λ r. ⌜ Replays (now (bytes .entry)) (now (kinds .entry)) (now (firsts .entry)) (now (seconds .entry)) (now (answers .entry)) (now (answers .exit)) (buffers (now (parents .entry)) (now (states .entry)) (now (cuts .entry))) (buffers (now (parents .exit)) (now (states .exit)) (now (cuts .exit))) r ⌝ }
 {
-    let opened = open_card(bytes);
-    let answer = opened.answer;
+    let mut made = open_card(bytes);
+    let answer = made.answer;
     if answer != 0 {
         return View::Refused(answer);
     }
     if are_lists_short(kinds.len(), firsts.len(), seconds.len(), answers.len()) {
         return View::Refused(BUFFER_SHORT);
     }
-    let mut b = opened.board;
+    let mut b = made.board;
     let n = b.n;
     if is_too_short(n, parents.len(), states.len(), cuts.len()) {
         return View::Refused(BUFFER_SHORT);
     }
     let mut i: usize = 0;
     while i < kinds.len() {
-        let made = make_call(b, kinds[i], firsts[i], seconds[i], parents, states, cuts);
-        answers[i] = made.answer;
-        b = made.board;
+        let kind = kinds[i];
+        if is_command(kind) {
+            let command = command_at(kind, firsts[i], seconds[i]);
+            made = execute(b, command);
+            answers[i] = made.answer;
+            b = made.board;
+            i += 1;
+            continue;
+        }
+        let m = b.n;
+        let r = b.root;
+        let v = b.budget;
+        let a = answer_call(kind, &b.weights, &b.marks, m, r, v, parents, states, cuts);
+        answers[i] = a;
         i += 1;
     }
-    look(b, parents, states, cuts)
+    let n = b.n;
+    let root = b.root;
+    let budget = b.budget;
+    look_valid(&b.weights, &b.marks, n, root, budget, parents, states, cuts)
 }

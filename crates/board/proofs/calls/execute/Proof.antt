@@ -1,96 +1,118 @@
--- `execute` answers 15 on an invalid board, and on a valid one what the command gives. Assumes nothing.
-use mathlib.Core.Path.{_≡_, sym, _∙_}
-use mathlib.Core.Bool.{true}
-use borrow.Author.Tests.{not-true, not-false}
+-- `execute` puts what the command comes to on the board, and that is what the model gives. Assumes nothing.
+use mathlib.Core.Path.{subst}
+use native.Mathlib.Omega.{arith}
 use borrow.Author.Needs.{needs}
-use Rattle.instance.specs.Refusals.{invalid-board}
-use Rattle.commands.specs.Valid.{valid}
-use Rattle.commands.specs.Commands.{set-mark, set-marks, set-budget, undo, applied, answered}
-use Rattle.board.specs.ModelOf.{model-of}
-use Rattle.commands.proofs.ValidLaws.{valid-parts}
-use Rattle.board.proofs.CallLaws.{answers-refused, answers-valid}
+use Rattle.commands.specs.Commands.{Result, answered}
+use Rattle.board.specs.declared.Board.{Board}
+use Rattle.board.specs.declared.changes.Change.{Change}
+use Rattle.board.specs.ModelOf.{model-of, command-of}
+use Rattle.board.specs.Changes.{Recorded, Taken-back, Gives}
+use Rattle.board.proofs.ModelOfLaws.{Known, known}
+use Rattle.board.proofs.CallLaws.{answers-refused}
+use Rattle.board.proofs.ChangeOfLaws.{answers-recorded, answers-taken-back}
 use Rattle.board.proofs.calls.execute.Statement.{statement}
 use Rattle.board.proofs.calls.execute.Tie as tie
 
-board-valid : (c : tie.Else1) → valid (model-of (c .before .before .args .b)) ≡ true
-board-valid c = sym (c .before .is-valid .ensures) ∙ not-false _ (c .if1 .left)
+-- THE BOARD, and what the model gives
+abbrev start-of : tie.After-judged-change → tie.Start
+start-of c = c .before .before .before .before .before
 
-is-valid-requires : tie.Need-is-valid-requires
-is-valid-requires c κs = search needs
+abbrev board-of : tie.After-judged-change → Board
+board-of c = start-of c .args .b
+
+abbrev result-in : tie.After-judged-change → Result
+result-in c = answered (command-of (start-of c .args .command)) (model-of (board-of c))
+
+arrays : (c : tie.After-judged-change) → Known (board-of c)
+arrays c = known (board-of c) _ (start-of c .good .0)
+
+-- WHAT THE COMMAND COMES TO
+recorded : (c : tie.After-change2) → let v = c .change2 .given in Recorded (result-in (c .before .before)) (board-of (c .before .before)) (v .0 .0) (v .0 .1 .0)
+unfolding Gives
+recorded c =
+    let e = c .before .before in
+    subst (λ (x : Change). Gives (result-in e) (board-of e) x) (c .change2 .given .1) (e .judged-change .ensures)
+
+taken-back : (c : tie.After-change3) → Taken-back (result-in (c .before .before)) (board-of (c .before .before)) (c .change3 .given .0 .0)
+unfolding Gives
+taken-back c =
+    let e = c .before .before in
+    subst (λ (x : Change). Gives (result-in e) (board-of e) x) (c .change3 .given .1) (e .judged-change .ensures)
+
+judged-change-requires : tie.Need-judged-change-requires
+judged-change-requires c κs = search needs
+
+enum-known-change : tie.Need-enum-known-change
+enum-known-change c = search needs
+
+enum-known-change-2 : tie.Need-enum-known-change-2
+enum-known-change-2 c = search needs
+
+mul-t19 : tie.Need-mul-t19
+mul-t19 c = record { fits = omega (arith, recorded (c .before) .few) }
+
+element-set-from-put : tie.Need-element-set-from-put
+element-set-from-put c = omega (arith, recorded (c .before) .few)
+
+add-put : tie.Need-add-put
+add-put c = record { fits = omega (arith, recorded (c .before) .few) }
+
+put-budget-requires : tie.Need-put-budget-requires
+put-budget-requires c κs = search needs
+
+put-new-marks-requires : tie.Need-put-new-marks-requires
+put-new-marks-requires c κs =
+    let k = c .before .before .before in (recorded k .within, arrays (k .before .before) .marks-long)
+
+enum-known-change-3 : tie.Need-enum-known-change-3
+enum-known-change-3 c = search needs
+
+sub-put : tie.Need-sub-put
+sub-put c = omega (arith, taken-back (c .before) .some)
+
+put-budget-requires-2 : tie.Need-put-budget-requires-2
+put-budget-requires-2 c κs = search needs
+
+put-new-marks-requires-2 : tie.Need-put-new-marks-requires-2
+put-new-marks-requires-2 c κs =
+    let k = c .before .before .before in (taken-back k .within, arrays (k .before .before) .marks-long)
 
 returns : tie.Need-returns
-unfolding answered
-returns c = answers-refused invalid-board _ _ (simp (← c .before .is-valid .ensures, not-true (c .before .is-valid .result) (c .if1 .taken)))
-
-enum-known-command : tie.Need-enum-known-command
-enum-known-command c = search needs
-
-set-mark-requires : tie.Need-set-mark-requires
-set-mark-requires c κs = valid-parts _ (board-valid (c .before .before .before)) .n-high
-
-enum-known-command-2 : tie.Need-enum-known-command-2
-enum-known-command-2 c = search needs
-
-set-marks-requires : tie.Need-set-marks-requires
-set-marks-requires c κs = board-valid (c .before .before .before)
-
-enum-known-command-3 : tie.Need-enum-known-command-3
-enum-known-command-3 c = search needs
-
-change-budget-requires : tie.Need-change-budget-requires
-change-budget-requires c κs = search needs
-
-enum-told : tie.Need-enum-told
-enum-told c = search needs
-
-undo-latest-requires : tie.Need-undo-latest-requires
-undo-latest-requires c κs = board-valid (c .before .before)
+unfolding Gives
+returns c =
+    let k = c .before in
+    let e = k .before .before in
+    answers-refused _ _ _ (subst (λ (x : Change). Gives (result-in e) (board-of e) x) (k .change .given .1) (e .judged-change .ensures))
 
 returns-2 : tie.Need-returns-2
-unfolding applied
 returns-2 c =
-    let e = c .before .before .before .before in
-    let v = c .before .before .command .given in
-    rw (v .1)
-    (answers-valid (set-mark (v .0 .0) (v .0 .1 .0 .0) (v .0 .1 .1 .0 .0)) (e .before .before .args .b) (c .set-mark .result) (board-valid e) (c .set-mark .ensures))
+    let p = c .before .before in
+    let k = p .before .before in
+    let e = k .before .before in
+    answers-recorded _ (board-of e) _ _ _ (p .put-budget .ensures) (c .put-new-marks .ensures) _ (arrays e .records-long) (recorded k)
 
 returns-3 : tie.Need-returns-3
-unfolding applied
 returns-3 c =
-    let e = c .before .before .before .before in
-    let v = c .before .before .command2 .given in
-    rw (v .1)
-    (answers-valid (set-marks (v .0 .0) (v .0 .1 .0 .0) (v .0 .1 .1 .0)) (e .before .before .args .b) (c .set-marks .result) (board-valid e) (c .set-marks .ensures))
-
-returns-4 : tie.Need-returns-4
-unfolding applied
-returns-4 c =
-    let e = c .before .before .before .before in
-    let v = c .before .before .command3 .given in
-    rw (v .1) (answers-valid (set-budget (v .0 .0)) (e .before .before .args .b) (c .change-budget .result) (board-valid e) (c .change-budget .ensures))
-
-returns-5 : tie.Need-returns-5
-unfolding applied
-returns-5 c =
-    let e = c .before .before .before in
-    rw (c .before .enum-told .given .1)
-    (answers-valid undo (e .before .before .args .b) (c .undo-latest .result) (board-valid e) (c .undo-latest .ensures))
+    let p = c .before .before in
+    let k = p .before .before in
+    answers-taken-back _ (board-of (k .before .before)) _ _ _ (p .put-budget2 .ensures) (c .put-new-marks2 .ensures) (taken-back k)
 
 pub execute-spec : {M : Type 1} → statement M
 execute-spec =
     tie.close
     (tie.spec
-    is-valid-requires
+    judged-change-requires
+    enum-known-change
+    enum-known-change-2
+    mul-t19
+    element-set-from-put
+    add-put
+    put-budget-requires
+    put-new-marks-requires
+    enum-known-change-3
+    sub-put
+    put-budget-requires-2
+    put-new-marks-requires-2
     returns
-    enum-known-command
-    set-mark-requires
-    enum-known-command-2
-    set-marks-requires
-    enum-known-command-3
-    change-budget-requires
-    enum-told
-    undo-latest-requires
     returns-2
-    returns-3
-    returns-4
-    returns-5)
+    returns-3)

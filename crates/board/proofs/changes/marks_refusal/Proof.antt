@@ -3,8 +3,8 @@ use borrow.Author.Tests.{lt-ltb, le-ltb, not-true, not-false}
 use borrow.Author.Needs.{needs}
 use Rattle.commands.specs.Heads.{heads-below}
 use Rattle.commands.specs.Commands.{arc-refusal}
-use Rattle.board.proofs.calls.marks_refusal.Statement.{statement}
-use Rattle.board.proofs.calls.marks_refusal.Tie as tie
+use Rattle.board.proofs.changes.marks_refusal.Statement.{statement}
+use Rattle.board.proofs.changes.marks_refusal.Tie as tie
 
 returns : tie.Need-returns
 unfolding arc-refusal

@@ -1,8 +1,8 @@
 -- `arc_refusal` is the definition, test by test. Assumes nothing.
 use borrow.Author.Tests.{le-leb, lt-leb}
 use Rattle.commands.specs.Commands.{arc-refusal}
-use Rattle.board.proofs.calls.arc_refusal.Statement.{statement}
-use Rattle.board.proofs.calls.arc_refusal.Tie as tie
+use Rattle.board.proofs.changes.arc_refusal.Statement.{statement}
+use Rattle.board.proofs.changes.arc_refusal.Tie as tie
 
 returns : tie.Need-returns
 unfolding arc-refusal

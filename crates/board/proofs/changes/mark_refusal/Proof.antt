@@ -3,8 +3,8 @@ use borrow.Author.Tests.{lt-ltb, le-ltb}
 use borrow.Author.Needs.{needs}
 use Rattle.instance.specs.Matrix.{unmarked}
 use Rattle.commands.specs.Commands.{arc-refusal, mark-refusal}
-use Rattle.board.proofs.calls.mark_refusal.Statement.{statement}
-use Rattle.board.proofs.calls.mark_refusal.Tie as tie
+use Rattle.board.proofs.changes.mark_refusal.Statement.{statement}
+use Rattle.board.proofs.changes.mark_refusal.Tie as tie
 
 is-arc-requires : tie.Need-is-arc-requires
 is-arc-requires c κs = search needs
