@@ -5,9 +5,11 @@
 // against BEFORE] [valgrind]. A time is that of a whole process, its start included (but for those of an answer, of a
 // listing and of a price list): the least of several runs, since other processes only add to it. Under valgrind it also
 // prints what no clock shows: plannings, the deepest stack, and the instructions of a process after its start.
+mod card_rows;
 mod cards;
 
-use cards::{FAMILIES, FURTHER, Family, Instance, MAX_BUDGET, MAX_WEIGHT, NONE, Random, dense, equal, nested, sparse};
+use card_rows::{NAMES, Row, all_rows, below, with_budget};
+use cards::{Instance, MAX_BUDGET, MAX_WEIGHT, Random, dense, equal, nested, sparse};
 use std::fs::{self, File};
 use std::io::{Read, Write};
 use std::process::{Command, Stdio};
@@ -15,9 +17,6 @@ use std::thread::sleep;
 use std::time::{Duration, Instant};
 
 const CARD: &str = "target/bench/card";
-
-// The head over the names of rows.
-const NAMES: &str = "family            budget      n";
 
 // How often each program answers each card when looks are compared.
 const ANSWERS: usize = 60;
@@ -49,9 +48,14 @@ fn fixed(text: &str) -> Vec<&str> {
     text.lines().filter(|l| !l.starts_with("feed ")).collect()
 }
 
-fn cheapest(text: &str) -> Option<u32> {
-    let line = text.lines().nth(1)?;
-    line.strip_prefix("plan ").or(line.strip_prefix("over "))?.parse().ok()
+// The cheapest total of an instance, by the baseline.
+fn cheapest(base: &str) -> impl Fn(&Instance) -> Option<u32> + '_ {
+    move |instance| {
+        fs::write(CARD, instance.card()).unwrap();
+        let text = run(base, CARD);
+        let line = text.lines().nth(1)?;
+        line.strip_prefix("plan ").or(line.strip_prefix("over "))?.parse().ok()
+    }
 }
 
 fn valgrind(tool: &[&str], program: &str, card: &str) {
@@ -112,85 +116,6 @@ fn times(base: &str, ours: &str) -> (f64, f64) {
         q = q.min(time(ours, CARD));
     }
     (p, q)
-}
-
-// With a budget of the cheapest total, a tenth more, or the largest.
-fn with_budget(mut instance: Instance, budget: &str, base: &str) -> Instance {
-    fs::write(CARD, instance.card()).unwrap();
-    if let Some(v) = cheapest(&run(base, CARD)) {
-        instance.budget = match budget {
-            "tight" => v,
-            "middling" => (v + v / 10).min(MAX_BUDGET),
-            _ => MAX_BUDGET,
-        };
-    }
-    instance
-}
-
-// A card whose budget is its cheapest total, with a budget one below. No budget is below 0: where 0 is the cheapest
-// total, every price is raised by 1 first, which changes no state, since every tree has as many links.
-fn below(tight: &Instance) -> Instance {
-    let mut s = tight.clone();
-    if s.budget == 0 {
-        for w in s.weight.iter_mut().filter(|w| **w != NONE) {
-            assert!(*w < MAX_WEIGHT);
-            *w += 1;
-        }
-        s.budget = s.n as u32 - 1;
-    }
-    s.budget -= 1;
-    s
-}
-
-fn is_over(instance: &Instance, base: &str) -> bool {
-    fs::write(CARD, instance.card()).unwrap();
-    run(base, CARD).lines().nth(1).is_some_and(|l| l.starts_with("over "))
-}
-
-// Five cards of a family with one kind of budget, for one line of a table.
-struct Row {
-    family: &'static str,
-    is_shuffled: bool,
-    budget: &'static str,
-    n: usize,
-    instances: [Instance; 5],
-}
-
-impl Row {
-    fn new(family: &Family, budget: &'static str, n: usize, instances: [Instance; 5]) -> Row {
-        Row { family: family.name, is_shuffled: family.is_shuffled, budget, n, instances }
-    }
-
-    fn name(&self) -> String {
-        let order = if self.is_shuffled { "shuffled" } else { "" };
-        format!("{:<8} {order:<8} {:<10} {:>2}", self.family, self.budget, self.n)
-    }
-}
-
-fn rows(families: &[Family], sizes: &[usize], base: &str, r: &mut Random) -> Vec<Row> {
-    let mut rows = Vec::new();
-    for family in families {
-        for budget in ["tight", "middling", "unlimited"] {
-            for &n in sizes {
-                let instances = std::array::from_fn(|_| with_budget(family.draw(r, n), budget, base));
-                // the same cards again, so that nothing more is drawn and every other row keeps its cards
-                let over = (budget == "tight").then(|| instances.each_ref().map(below));
-                rows.push(Row::new(family, budget, n, instances));
-                if let Some(instances) = over {
-                    assert!(instances.iter().all(|s| is_over(s, base)), "a card is not over its budget");
-                    rows.push(Row::new(family, "over", n, instances));
-                }
-            }
-        }
-    }
-    rows
-}
-
-// For the further families the drawing starts again from the seed, so that the other rows keep their cards.
-fn all_rows(base: &str, r: &mut Random) -> Vec<Row> {
-    let mut all = rows(&FAMILIES, &[8, 16, 32], base, r);
-    all.extend(rows(&FURTHER, &[32], base, &mut Random::seeded()));
-    all
 }
 
 // The columns of a row: means of the times of five cards; under valgrind also the most plannings, the deepest stack and
@@ -325,7 +250,7 @@ fn listings(ours: &str, base: &str, deep: bool, r: &mut Random) {
         [("dense", dense), ("sparse", sparse), ("equal", equal)];
     for (name, make) in families {
         for n in [8, 16, 32] {
-            let instance = below(&with_budget(make(r, n), "tight", base));
+            let instance = below(&with_budget(make(r, n), "tight", &cheapest(base)));
             println!("{name:<8} {:<10} {n:>2} {}", "below", listing_row(ours, &walks, deep, &instance));
         }
     }
@@ -451,7 +376,7 @@ fn looks_head(deep: bool) {
 fn against(before: &str, after: &str, base: &str, deep: bool) {
     looks_head(deep);
     let mut largest = [[0.0; 3]; 2];
-    for row in all_rows(base, &mut Random::seeded()).iter().filter(|row| row.n == 32) {
+    for row in all_rows(&cheapest(base), &mut Random::seeded()).iter().filter(|row| row.n == 32) {
         let looks = looks([before, after], deep, row);
         println!("{} {}", row.name(), looks_line(&looks, deep));
         for (most, ratio) in largest[usize::from(row.is_shuffled)].iter_mut().zip(ratios(&looks)) {
@@ -470,7 +395,7 @@ fn table(ours: &str, base: &str, deep: bool, r: &mut Random) {
     println!("one vertex, that is the start of the process: baseline {p:.2} ms, print_plan {q:.2} ms");
     let more = if deep { "  plannings  stack bytes  instructions" } else { "" };
     println!("{NAMES}  baseline ms  print_plan ms  ratio{more}");
-    for row in all_rows(base, r) {
+    for row in all_rows(&cheapest(base), r) {
         println!("{} {}", row.name(), columns(ours, base, deep, &row.instances));
     }
 }

@@ -4,15 +4,16 @@
 # PRICE LISTS: into cards and back. The programs are up to date, so that an rt that does nothing will do, and each of
 # the many starts takes no second.
 mkdir "$room/quiet"
-ln -s "$(command -v true)" "$room/quiet/rt"
+ln -s "$(type -P true)" "$room/quiet/rt"
 PATH=$room/quiet:$PATH
 
 # lists EXPECTED SAID COMMAND..: the command writes that list, exit status 0, and says so on standard error
 lists() {
-    local expected=$1 words=$2
+    local expected=$1 words=$2 status
     shift 2
     "$@" > "$room/list" 2> "$room/said" && cmp -s "$room/list" "$expected" && [ "$(cat "$room/said")" = "$words" ]
-    tried "$*: '$(cat "$room/said")'" $?
+    status=$?
+    tried "$*: '$(cat "$room/said")'" "$status"
 }
 left_out="prices: the card has marks or records, which are not in a price list"
 

@@ -1,6 +1,7 @@
-# Sourced by `plan` and `prices`: the file that a user named as standard input, and a program built where it is not up
-# to date. That is shown on standard error: on a terminal by a line for each crate that is proved, elsewhere by the
-# first line only. The script has set $tool, its name, $usage and $repository, and has `fail MESSAGE`, which ends it.
+# Sourced by `plan`, `prices` and `library`: the file that a user named as standard input, and a crate built where it is
+# not up to date. That is shown on standard error: on a terminal by a line for each crate that is proved, elsewhere by
+# the first line only. The script has set $tool, its name, $usage and $repository, and has `fail MESSAGE`, which ends
+# it.
 
 # check_file FILE KIND: that there is such a file
 check_file() {
@@ -47,7 +48,7 @@ progress() {
     done
 }
 
-# build PROGRAM: it is target/bin/PROGRAM then
+# build CRATE: a program is target/bin/CRATE then
 build() {
     local line log=$repository/target/$tool.log
     command -v rt > /dev/null || fail "the Rattle toolchain's rt is not on the PATH"
@@ -60,6 +61,6 @@ build() {
     count "$1"
     set -o pipefail
     (cd "$repository" && exec rt check "$1") < /dev/null 2>&1 | tee "$log" | progress ||
-        fail "the program could not be built: see $log"
+        fail "$1 could not be built: see $log"
     set +o pipefail
 }

@@ -66,6 +66,25 @@ unfolding Looks-at
 shown-parents true s v old new l e = absurd (true≢false e)
 shown-parents false s v old new x e = tree-front s v old new x
 
+-- from the answers and the look itself, whoever made them
+pub shown-as-demanded :
+    (ws : List ℕ) (is : List Input) (xs : List ℕ) (old new : Buffers) (v : View) → xs ≡ input-answers is (log-in ws) →
+    effective (input-after is (log-in ws)) .n ≡ model-in ws .instance .n →
+    Looks-at true (short-for (model-in ws .instance .n) old) (effective (input-after is (log-in ws))) old new v → Demand-3 ws is xs old new v
+shown-as-demanded ws is xs old new v answers n looks =
+    let t = short-for (model-in ws .instance .n) old in
+    let k = input-after is (log-in ws) in
+    let first : t ≡ false → take (model-in ws .instance .n) (new .parents) ≡ first-tree (effective k) =
+    λ e. subst (λ (m : ℕ). take m (new .parents) ≡ first-tree (effective k)) n (shown-parents t (effective k) v old new looks e) in
+    record {
+      answers = answers;
+      last-look = looks;
+      states-shown = λ e. subst (λ (m : ℕ). States-read (effective k) (take (m * m) (new .states))) n (shown-states t (effective k) v old new looks e);
+      parents-shown = first;
+      parents-read = λ e ps a. subst (First-reads (effective k)) (sym (first e)) (first-reads (effective k) ps a);
+      no-parents = λ e z. first e ∙ first-none (effective k) z;
+    }
+
 pub demand-3 :
     (ws : List ℕ) (is : List Input) (o : Answered) (xs : List ℕ) (last : Board) (v : View) (old new : Buffers) → open-refusal ws ≡ 0 →
     Opened-by ws o → Run is (o .board) xs last → Looked last old new v → Demand-3 ws is xs old new v
@@ -80,13 +99,4 @@ demand-3 ws is o xs last v old new z p run l =
     subst (λ (i : Instance). Looks-at true t i old new v) same
     (subst (λ (n : ℕ). Looks-at true (short-for n old) (instance-of last) old new v) (r .same-n ∙ s .same-n) shown) in
     let n : effective k .n ≡ model-in ws .instance .n = sym (ap (λ (i : Instance). i .n) same) ∙ r .same-n ∙ s .same-n in
-    let first : t ≡ false → take (model-in ws .instance .n) (new .parents) ≡ first-tree (effective k) =
-    λ e. subst (λ (m : ℕ). take m (new .parents) ≡ first-tree (effective k)) n (shown-parents t (effective k) v old new looks e) in
-    record {
-      answers = r .same-answers;
-      last-look = looks;
-      states-shown = λ e. subst (λ (m : ℕ). States-read (effective k) (take (m * m) (new .states))) n (shown-states t (effective k) v old new looks e);
-      parents-shown = first;
-      parents-read = λ e ps a. subst (First-reads (effective k)) (sym (first e)) (first-reads (effective k) ps a);
-      no-parents = λ e z. first e ∙ first-none (effective k) z;
-    }
+    shown-as-demanded ws is xs old new v (r .same-answers) n looks

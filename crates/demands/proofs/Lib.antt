@@ -20,3 +20,6 @@ pub mod OwnPrices
 pub mod PassiveResults
 pub mod PassiveStates
 pub mod PassiveRuns
+pub mod CardSteps
+pub mod Chains
+pub mod LibraryRefusals

@@ -27,13 +27,13 @@ call-past : (j k a b : ℕ) → k ≡ suc (suc (suc (suc (suc (suc (suc (suc (su
 unfolding call
 call-past j k a b e = rw e
 
-call-write : (k a b : ℕ) → write-kind k ≡ true → call k a b ≡ write
+pub call-write : (k a b : ℕ) → write-kind k ≡ true → call k a b ≡ write
 unfolding write-kind
 call-write k a b h =
     ⊎-elim (λ (e : eqb k 6 ≡ true). call-six k a b (eqb-true k 6 e))
     (λ (e : ltb 9 k ≡ true). let l = ltb-true 9 k e in call-past (k - 10) k a b (omega arith)) (or-cases (eqb k 6) (ltb 9 k) h)
 
-call-look : (k a b : ℕ) → k ≡ 5 → call k a b ≡ look
+pub call-look : (k a b : ℕ) → k ≡ 5 → call k a b ≡ look
 unfolding call
 call-look k a b e = rw e
 

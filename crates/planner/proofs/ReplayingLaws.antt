@@ -39,7 +39,7 @@ use Rattle.planner.specs.Replaying.{Call, call, calls, log-in, log-call,
 use Rattle.planner.proofs.CallSteps.{Since, since-same, since-then, words-long, looks-long, Call-step, call-step}
 
 -- the calls from place i on
-abbrev from : (ks fs gs : List ℕ) → (i : ℕ) → List Call
+abbrev pub from : (ks fs gs : List ℕ) → (i : ℕ) → List Call
 from ks fs gs i = calls (drop i ks) (drop i fs) (drop i gs)
 
 pub record Calls-made (ws ks fs gs xs₀ : List ℕ) (old : Buffers) (b : Board) (i : ℕ) (xs : List ℕ) (new : Buffers) : Type 0 where
@@ -66,7 +66,7 @@ pub record Calls-made (ws ks fs gs xs₀ : List ℕ) (old : Buffers) (b : Board)
 same-short : (n : ℕ) (old new : Buffers) → Since n old new → short-for n new ≡ short-for n old
 same-short n old new s = rw (s .parents-long, s .states-long, s .cuts-long)
 
-split : (ks fs gs : List ℕ) (i : ℕ) → i < length ks → length ks ≤ length fs → length ks ≤ length gs →
+pub split : (ks fs gs : List ℕ) (i : ℕ) → i < length ks → length ks ≤ length fs → length ks ≤ length gs →
     from ks fs gs i ≡ call (getD ks i 0) (getD fs i 0) (getD gs i 0) ∷ from ks fs gs (suc i)
 unfolding calls
 split ks fs gs i h p q = rw (drop-cons ks i 0 h, drop-cons fs i 0 (omega arith), drop-cons gs i 0 (omega arith))

@@ -10,7 +10,7 @@ mod enumerating; // enumerating.rt: all plans of a board
 mod looking; // looking.rt: a look at a board
 mod moving; // moving.rt: a card moved from one kind to the other
 mod opening; // opening.rt: a board from a card
-mod replaying; // replaying.rt: a list of calls, one after the other
+pub mod replaying; // replaying.rt: a list of calls, one after the other; and what a kind of call stands for
 mod writing; // writing.rt: a board written as a card
 
 pub use board::Answered;

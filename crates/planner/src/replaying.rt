@@ -64,7 +64,7 @@ fn is_write(kind: u8) -> bool
 }
 
 // The command of a kind that is neither a look's nor a write's.
-fn command_at(kind: u8, first: u32, second: u32) -> Command
+pub fn command_at(kind: u8, first: u32, second: u32) -> Command
     requires { ⌜ (write-kind kind ≡ false) × (kind ≢ 5) ⌝ }
     ensures { λ r. ⌜ calls.command (command-of r) ≡ call kind first second ⌝ }
 {
@@ -93,7 +93,7 @@ fn command_at(kind: u8, first: u32, second: u32) -> Command
 }
 
 // Whether a kind is neither a look's nor a write's.
-fn is_command(kind: u8) -> bool
+pub fn is_command(kind: u8) -> bool
     ensures { λ r. ⌜ r ≡ command-kind kind ⌝ }
 {
     if kind == LOOK {

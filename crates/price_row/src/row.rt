@@ -17,7 +17,7 @@ use instance::refusals::NO_VERTEX;
 use instance::refusals::OUT_OF_RANGE;
 
 // Whether a number of the row is not "no link".
-fn has_price(row: &[u32]) -> bool
+pub fn has_price(row: &[u32]) -> bool
     ensures { λ r. ⌜ r ≡ has-price (now (row .entry)) ⌝ }
 {
     let mut i = 0;
