@@ -1,6 +1,6 @@
 # Sourced by examples/check, with its functions and its $room: the library for C and Rust as a user would install and
-# link it, the consoles in both languages, the test of every function, and the limits on size and stack. What needs a
-# compiler that is not there is not tried, and a line says so.
+# link it, the consoles in both languages, the cases and the test of every function, and the limits on size and stack.
+# What needs a compiler that is not there is not tried, and a line says so.
 
 # untried TOOL WHAT: says what is left out
 untried() {
@@ -43,6 +43,27 @@ sed -n '/^enum feed_answer/,/^}/s/^ *\(FEED_[A-Z_]*\) = \([1-9][0-9]*\).*/| \2 |
     cmp -s - <(grep -o '^| [0-9]* | `FEED_[A-Z_]*` |' README.md)
 tried "README's table has the names of the header" $?
 
+# Lines 'function answer': by the comments of the header, and by library_calls.h, which the test of every function uses
+answers_of_header() {
+    awk '/^enum feed_answer/, /^}/ { is_answer[$1] = 1 }
+        /^\/\/ Answers:/ { text = "" }
+        /^\/\// { text = text substr($0, 3) }
+        /^uint32_t feed_/ {
+            sub(/\(.*/, "", $2)
+            if ($2 == "feed_judge") card = plain = text
+            gsub(/FEED_BAD_RECORD/, "", plain)
+            if (text ~ /THE LINE.S ANSWERS:/) line = substr(text, index(text, "THE LINE"))
+            named = text " FEED_ACCEPTED"
+            gsub(/the card.s answers/, card, named); gsub(/a plain card.s answers/, plain, named)
+            gsub(/the line.s answers/, line, named)
+            for (k = split(named, words, /[^A-Z_]+/); k > 0; k--) if (words[k] in is_answer) print $2, words[k]
+        }' include/feed_planner.h | sort -u
+}
+answers_of_calls() {
+    cc -E -P -I include examples/library_calls.h | tr '\n{' ' \n' | awk -F '"' '$2 == "feed_" {
+        for (k = split($0, words, /[^A-Z_]+/); k > 0; k--) if (words[k] ~ /^FEED_/) print $2 $4, words[k] }' | sort -u
+}
+
 # LIMITS
 if command -v size > /dev/null; then
     read -r code data bss < <(size -t "$library/lib/libfeed_planner.a" | awk 'END { print $1, $2, $3 }')
@@ -65,11 +86,20 @@ counts() {
     "$room/$1" examples/*.card > "$room/counts" && [ "$(wc -l < "$room/counts")" -eq 1 ]
     tried "the test of every function, $1" $?
 }
+# cases NAME: every case agrees, and a line says how many
+cases() {
+    "$room/$1" > "$room/cases" && grep -qx '[1-9][0-9]* cases agree' "$room/cases"
+    tried "the cases of every function, $1" $?
+}
 if command -v cc > /dev/null; then
     builds console examples/console.c
     plans examples/console.txt "$room/console" examples/p1.card
     builds first examples/first.c
     plans examples/p9.txt "$room/first"
+    builds library_cases examples/library_cases.c
+    cases library_cases
+    [ -n "$(answers_of_header)" ] && [ "$(answers_of_header)" = "$(answers_of_calls)" ]
+    tried "examples/library_calls.h has the answers of the header" $?
     builds library_test examples/library_test.c
     counts library_test
     builds stack bench/stack.c
@@ -81,10 +111,12 @@ if command -v cc > /dev/null; then
     if echo 'int main(void) { return 0; }' | cc $sane -x c -o "$room/sane" - 2> /dev/null && "$room/sane"; then
         builds console_sane examples/console.c $sane
         plans examples/console.txt "$room/console_sane" examples/p1.card
+        builds library_cases_sane examples/library_cases.c $sane
+        cases library_cases_sane
         builds library_test_sane examples/library_test.c $sane
         counts library_test_sane
     else
-        untried "cc -fsanitize=address,undefined" "the console and the test under sanitizers"
+        untried "cc -fsanitize=address,undefined" "the console, the cases and the test under sanitizers"
     fi
 else
     untried cc "the library from C"

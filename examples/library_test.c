@@ -3,8 +3,9 @@
 // as it was, but for the words that say where a price list is faulty; after acceptance all but what the header names.
 // What is lent lies at a page that can be neither read nor written, by turns behind it and in front of it, with a zone
 // of known bytes on its other side. Each call is made twice, in buffers of different lengths and contents, and must
-// write the same. Every answer that the header names for a function must be met, and no other. Then changes are planted
-// after calls, and each must be noticed.
+// write the same. Every answer that the header names for a function must be met, and no other (check_library.sh holds
+// the answers of library_calls.h to the header). Then, for each function, a change of each kind is planted in each
+// thing that it was lent, and must be noticed.
 //
 // Arguments: example cards, each with its text beside it as NAME.txt. Prints one line, and exits with 1 where something
 // is not as it should be.
@@ -13,10 +14,12 @@
 
 #include <signal.h>
 
-enum { ROUNDS = 500, PLANTED_ROUNDS = 6 };
+enum { ROUNDS = 500, PLANTED_ROUNDS = 500, TURN = 60 };
 
-// What is changed after a call, to see that it is noticed: nothing, the zone, behind what is written, or within it.
-enum plant { NOTHING, IN_ZONE, BEHIND, WITHIN };
+// What is changed after a call, to see that it is noticed: nothing, the zone in front or at the end, or a byte behind
+// what is written or within it.
+enum plant { NOTHING, IN_FRONT, AT_END, BEHIND, WITHIN };
+static const char *const PLANTS[] = {"", "in front", "at the end", "behind what is written", "within it"};
 
 // What a function wrote with room enough.
 static struct {
@@ -27,15 +30,19 @@ static struct {
 
 static enum plant planted;
 static size_t planted_at;
-static int is_planted;
+static int is_planted, is_noticed;
 static unsigned faults, calls, accepted;
 static uint64_t seen[FUNCTION_COUNT];
 
 static const char *called = "";
 
 static void fault(const struct function *f, const char *what, size_t k) {
+    if (is_planted) {
+        is_noticed = 1;
+        return;
+    }
     faults++;
-    if (planted == NOTHING) fprintf(stderr, "%s: %s: %zu of '%s'\n", f->name, what, k, f->lent);
+    fprintf(stderr, "%s: %s: %zu of '%s'\n", f->name, what, k, f->lent);
 }
 
 static void stop(int signal) {
@@ -93,7 +100,8 @@ static int is_again(const struct function *f, const struct call *c, uint32_t ans
 static void plant_change(const struct function *f, const struct call *c, uint32_t answer) {
     size_t k = planted_at, changed = written(f, c, answer, k);
     uint8_t *byte = NULL;
-    if (planted == IN_ZONE) byte = is_at_end ? c->at[k] - 1 : c->at[k] + c->bytes[k];
+    if (planted == IN_FRONT && is_at_end) byte = c->at[k] - 1;
+    if (planted == AT_END && !is_at_end) byte = c->at[k] + c->bytes[k];
     if (planted == BEHIND && changed < c->bytes[k]) byte = c->at[k] + changed;
     if (planted == WITHIN && changed > 0 && is_again(f, c, answer)) byte = c->at[k];
     is_planted = byte != NULL;
@@ -208,25 +216,42 @@ static void make_tight(const struct function *f, size_t round) {
     }
 }
 
+// Each length of each of up to four buffers has its turn at one end of the memory, then at the other.
 static void try_function(const struct function *f, size_t round) {
+    is_at_end = round / TURN % 2 != 0;
     draw(f);
     make_roomy(f);
     make_tight(f, round);
 }
 
-// Plants a change in each thing that is lent, where there is a place for it: one that is not noticed is a fault.
-static unsigned plant_all(const struct function *f, size_t round) {
-    unsigned noticed = 0, earlier = faults;
+// Nothing is written within what is only read, and the words that every call writes have nothing behind that.
+static int can_be_planted(char letter) {
+    if (planted == WITHIN) return !is_read(letter);
+    return planted != BEHIND || !strchr("WZ", letter);
+}
+
+// Calls a function until there was a place for the change, which must then be noticed. Whether there is one goes by
+// what was drawn and written.
+static int is_plant_noticed(const struct function *f) {
+    is_noticed = 0;
+    for (size_t round = 0; round < PLANTED_ROUNDS && !is_planted; round++) try_function(f, round * (TURN + 1));
+    if (!is_noticed) {
+        faults++;
+        fprintf(stderr, "%s: a change %s, %zu of '%s', %s\n", f->name, PLANTS[planted], planted_at, f->lent,
+                is_planted ? "was not noticed" : "could not be planted");
+    }
+    is_planted = 0;
+    return is_noticed;
+}
+
+static unsigned plant_all(const struct function *f) {
+    unsigned noticed = 0;
     for (planted_at = 0; f->lent[planted_at]; planted_at++) {
-        for (planted = IN_ZONE; planted <= WITHIN; planted++) {
-            faults = 0;
-            try_function(f, round);
-            noticed += is_planted && faults > 0;
-            earlier += is_planted && faults == 0;
+        for (planted = IN_FRONT; planted <= WITHIN; planted++) {
+            if (can_be_planted(f->lent[planted_at])) noticed += (unsigned)is_plant_noticed(f);
         }
     }
     planted = NOTHING;
-    faults = earlier;
     return noticed;
 }
 
@@ -270,9 +295,9 @@ int main(int count, char **names) {
             fprintf(stderr, "%s: answer %u was never met\n", FUNCTIONS[k].name, answer);
             faults++;
         }
-        for (size_t round = 0; round < PLANTED_ROUNDS; round++) noticed += plant_all(&FUNCTIONS[k], round);
+        noticed += plant_all(&FUNCTIONS[k]);
     }
     printf("%d functions, %u calls: %u accepted, %u refused; %u answers met; %u planted changes noticed\n",
            FUNCTION_COUNT, made, taken, made - taken, answers, noticed);
-    return faults == 0 && noticed > 0 ? 0 : 1;
+    return faults == 0 ? 0 : 1;
 }

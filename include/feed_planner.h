@@ -1,5 +1,5 @@
-// The feed planner as a library for C, C++ and Rust: libfeed_planner.a, for x86-64. It keeps nothing between calls,
-// takes no memory from a heap, has no writable data and calls memcpy and memset alone.
+// The feed planner as a library for C, C++ and Rust: libfeed_planner.a, for x86-64 with the System V ABI (ELF). It
+// keeps nothing between calls, takes no memory from a heap, has no writable data and calls memcpy and memset alone.
 //
 // A card is the state. A plain card holds prices, marks and the budget; a history card holds the recorded presses too.
 // A press reads a card of either kind from one buffer and writes the next card, a history card, into another; a look, a
@@ -12,7 +12,8 @@
 //
 // WHAT THE CALLER HAS TO KEEP, since no proof can see it:
 // - A list or buffer is a pointer and the number of its elements, bytes or words of 32 bits. So many are really there,
-//   at an address that suits their type, and they take no more than PTRDIFF_MAX bytes.
+//   at an address that suits their type, and they take no more than PTRDIFF_MAX bytes. A single word (uint32_t or
+//   size_t) is there too, at an address that suits its type.
 // - No pointer is NULL, not even of an empty list.
 // - What a call writes (buffers and single words) overlaps nothing else that the same call is lent. What it only reads
 //   may overlap. So the next card goes into another buffer than the card.
@@ -73,13 +74,15 @@ enum feed_answer {
     FEED_NO_FEED_TREE = 21, // a plan made elsewhere: the feeders are no feed tree
     FEED_WRONG_TOTAL = 22, // its total is wrong
     FEED_BAD_CUT = 23, // a cut is empty, holds the console or a position that is not there; or there are more than 61
-    FEED_OVERCHARGED = 24, // a link is charged above its price
+    FEED_OVERCHARGED = 24, // a remaining link (see feed_look) is charged above its price
     FEED_WRONG_AMOUNTS = 25, // the amounts do not add to the total
     FEED_BAD_TRY_LIMIT = 26, // the try limit is not 1 to FEED_MAX_TRIES
     FEED_BAD_RECORD = 27, // a history card has a faulty record, or more than FEED_MAX_RECORDS
     FEED_HAS_RECORDS = 28, // a card with records cannot be moved to a plain one
     FEED_COUNT_OUT_OF_RANGE = 29, // passive runs, row of prices: the number of positions is not 1 to 32
-    FEED_OUT_OF_RANGE = 30, // passive runs: a price or mark is out of range, or a mark is on no run; row: no price
+    // passive runs: a price or mark is out of range, or a mark is on no run; row of prices: a number that is neither a
+    // price nor FEED_NO_LINK
+    FEED_OUT_OF_RANGE = 30,
     FEED_UNEQUAL_PAIR = 31, // passive runs: a price or mark is not equal both ways
     FEED_NO_SUCH_PRESS = 32 // in `stopped` of feed_press_list alone: a kind that presses nothing
 };
@@ -124,9 +127,10 @@ enum feed_kind {
 
 // CARDS
 // Whether a card opens. It touches nothing.
-// Answers: 0, or for a plain card FEED_CARD_SHORT, FEED_BAD_COUNT, FEED_BAD_LENGTH, FEED_BAD_CONSOLE,
-// FEED_BAD_CARD_BUDGET, FEED_BAD_MARK, FEED_BAD_FILLING; for a history card the same, with FEED_BAD_LENGTH and
-// FEED_BAD_RECORD by the first faulty record before FEED_BAD_FILLING. Below these are THE CARD'S ANSWERS.
+// Answers: 0, or A PLAIN CARD'S ANSWERS: FEED_CARD_SHORT, FEED_BAD_COUNT, FEED_BAD_LENGTH, FEED_BAD_CONSOLE,
+// FEED_BAD_CARD_BUDGET, FEED_BAD_MARK, FEED_BAD_FILLING; for a history card the same, and before FEED_BAD_FILLING, in
+// this order: FEED_BAD_LENGTH and FEED_BAD_RECORD by the number of records, the same two by the first faulty record,
+// FEED_BAD_LENGTH for whole bytes left over after them. Those of both kinds are THE CARD'S ANSWERS.
 uint32_t feed_judge(const uint8_t *card, size_t card_length);
 
 // The plain card of a card's present marks and budget; its records are left out.
@@ -135,8 +139,8 @@ uint32_t feed_judge(const uint8_t *card, size_t card_length);
 uint32_t feed_write_card(const uint8_t *card, size_t card_length, uint8_t *out, size_t out_length, size_t *length);
 
 // A plain card as a history card with no record.
-// Writes the first *length bytes of `out`, and `length`.
-// Answers: the card's answers (FEED_BAD_COUNT for a history card), FEED_BUFFER_SHORT.
+// Writes the first *length bytes of `out`, and `length`; FEED_MAX_CARD bytes are room enough.
+// Answers: a plain card's answers (FEED_BAD_COUNT for a history card), FEED_BUFFER_SHORT.
 uint32_t feed_to_history_card(const uint8_t *card, size_t card_length, uint8_t *out, size_t out_length, size_t *length);
 
 // A history card that has no record as a plain card.
@@ -202,7 +206,8 @@ uint32_t feed_press_list(const uint8_t *card, size_t card_length, const uint8_t 
 // for the console, and for all where there is no tree); the first n * n bytes of `states` (enum feed_state), feeder by
 // feeder; the first FEED_CUT_WORDS words of `cuts`, pairs of a set (bit k for position k) and an amount, then zeros;
 // and the words `outcome` (enum feed_outcome), `total` and `pairs`, how many pairs there are. The cuts prove that no
-// feed tree is cheaper; where there is none, the one pair is a set of positions that no link enters, and 0.
+// feed tree is cheaper; where there is none, the one pair is a set of positions without the console that no remaining
+// link enters (one that is not banned, and no other link into its end is pinned), and 0.
 // Answers: the card's answers, FEED_BUFFER_SHORT (n bytes, n * n bytes, FEED_CUT_WORDS words).
 uint32_t feed_look(const uint8_t *card, size_t card_length, uint8_t *feeders, size_t feeders_length, uint8_t *states,
                    size_t states_length, uint32_t *cuts, size_t cuts_length, uint32_t *outcome, uint32_t *total,
@@ -239,8 +244,9 @@ uint32_t feed_list_plans(const uint8_t *card, size_t card_length, uint32_t limit
                          uint32_t *ended, uint32_t *trees, uint32_t *tries);
 
 // PRICE LISTS
-// A price list is text, a line for each link: feeder, space, fed position, space, pence, line feed, as in "0 1 10". The
-// word `line` is always written: the number of the faulty line, from 1, or 0 where no line is at fault.
+// A price list is text, a line for each link: feeder, space, fed position, space, pence, line feed, as in "0 1 10"; the
+// numbers are decimal, with no needless leading zero. The word `line` is always written: the number of the faulty line,
+// from 1, or 0 where no line is at fault.
 
 // Reads a list for n = `positions` positions.
 // Writes the first n * n words of `prices`, feeder by feeder, FEED_NO_LINK where no line names a link; and `line`.
@@ -249,7 +255,8 @@ uint32_t feed_list_plans(const uint8_t *card, size_t card_length, uint32_t limit
 uint32_t feed_read_prices(const uint8_t *text, size_t text_length, uint32_t positions, uint32_t console,
                           uint32_t *prices, size_t prices_length, size_t *line);
 
-// The list of n * n prices, by feeder, then fed position; places that can never be a link are passed over.
+// The list of n * n prices, by feeder, then fed position; places that can never be a link, whatever they hold, and
+// those with FEED_NO_LINK are passed over.
 // Writes the first *length bytes of `out`, with no 0 behind them, and `length`.
 // Answers: FEED_BAD_COUNT, FEED_BAD_CONSOLE, FEED_BUFFER_SHORT (n * n prices), FEED_PRICE_TOO_HIGH, FEED_BUFFER_SHORT.
 uint32_t feed_write_prices(const uint32_t *prices, size_t prices_length, uint32_t positions, uint32_t console,
@@ -261,7 +268,7 @@ uint32_t feed_write_prices(const uint32_t *prices, size_t prices_length, uint32_
 uint32_t feed_card_from_prices(const uint8_t *text, size_t text_length, uint32_t positions, uint32_t console,
                                uint32_t budget, uint8_t *out, size_t out_length, size_t *length, size_t *line);
 
-// The price list of a card, which has no marks and no records.
+// The price list of a card. Marks and records are not in it.
 // Writes the first *length bytes of `out`, with no 0 behind them, and `length`.
 // Answers: the card's answers, FEED_BUFFER_SHORT.
 uint32_t feed_prices_from_card(const uint8_t *card, size_t card_length, uint8_t *out, size_t out_length,

@@ -1,14 +1,15 @@
 -- ONE PRESS ON A CARD, for the library's chains: the model that a press leaves follows the log, and the card that is
 -- written of it opens as that very model, so a card can stand for the board. Assumes nothing.
 use mathlib.Core.Path.{_≡_, refl, sym, ap, _∙_, subst}
-use mathlib.Core.Bool.{Bool, true, false}
+use mathlib.Core.Bool.{Bool, true, false, cond}
 use mathlib.Core.List.{List, [], _∷_, map}
 use mathlib.Core.Logic.{_≢_}
 use Prim.Native.Nat.{ℕ, zero, suc, _≤_}
-use lib.Dec.{eqb}
+use lib.Dec.{ltb, eqb}
 use lib.ListN.{length, take}
-use borrow.Author.Tests.{eq-eqb, ne-eqb, eqb-true, eqb-false, le-ltb}
+use borrow.Author.Tests.{eq-eqb, ne-eqb, eqb-true, eqb-false}
 use Rattle.base.proofs.FrontLaws.{front-take}
+use Rattle.instance.specs.Refusals.{buffer-short}
 use Rattle.commands.specs.Model.{Model, Replaced}
 use Rattle.commands.specs.Valid.{valid}
 use Rattle.commands.specs.Commands.{Command, set-mark, set-marks, set-budget, undo, Result, refused, accepted, decided, marked, several-marked, budgeted, undone, applied, answered}
@@ -20,11 +21,10 @@ use Rattle.commands.proofs.ChangeLaws.{answered-changes}
 use Rattle.commands.proofs.LogLaws.{Tied, step-tied, opened-tied}
 use Rattle.commands.proofs.LogListsLaws.{input-commands, input-after-commands}
 use Rattle.commands.proofs.ValidLaws.{valid-parts}
-use Rattle.history_format.specs.HistoryCard.{open-refusal, model-in, history-card-of, max-history-card}
+use Rattle.history_format.specs.HistoryCard.{open-refusal, model-in, history-card-of}
 use Rattle.history_format.proofs.HistoryAgain.{model-in-valid, model-in-shaped, model-in-long, model-of-history}
 use Rattle.history_format.proofs.HistoryBits.{history-kind-again}
 use Rattle.history_format.proofs.HistoryLaws.{All-shaped}
-use Rattle.history_format.proofs.Longest.{longest-history}
 use Rattle.history_format.proofs.ModelAgain.{As-read, history-opens-again, model-back}
 use Rattle.history_format.proofs.Moves.{history-card-opens}
 use Rattle.history_format.proofs.ShapedLaws.{answered-shaped}
@@ -58,12 +58,12 @@ pub record Step-follows (m : Model) (d : Model) (k : Log) : Type 0 where
   pub tied : Tied d k
   pub same-n : d .instance .n ≡ m .instance .n
 
-module _ (m : Model) (v : valid m ≡ true) (s : All-shaped (m .history)) where
+module _ (m : Model) (v : valid m ≡ true) where
   pub press-answer : (c : Command) (k : Log) → Tied m k → answered c m .answer ≡ note c k .answer
   press-answer c k t = ap (λ (d : Result). d .answer) (answered-applied c m v) ∙ step-tied c m k t .same-answer
 
-  pub press-follows : (c : Command) (k : Log) → Tied m k → Step-follows m (answered c m .board) (note c k .log)
-  press-follows c k t =
+  pub press-follows : All-shaped (m .history) → (c : Command) (k : Log) → Tied m k → Step-follows m (answered c m .board) (note c k .log)
+  press-follows s c k t =
       record {
         good = answered-valid c m v;
         shaped = answered-shaped c m s;
@@ -94,7 +94,7 @@ list-follows (c ∷ cs) m v s k t =
     go : (b : Bool) → eqb (answered c m .answer) 0 ≡ b → List-follows (answered c m .board) (list-pressed (map command cs) (answered c m .board)) (note-list cs (note c k .log))
         → List-follows m (list-pressed (map command (c ∷ cs)) m) (note-list (c ∷ cs) k)
     go true e r =
-        let z = sym (press-answer m v s c k t) ∙ eqb-true (answered c m .answer) 0 e in
+        let z = sym (press-answer m v c k t) ∙ eqb-true (answered c m .answer) 0 e in
         rw (e, eq-eqb (note c k .answer) 0 z)
         (record {
           same-applied = ap suc (r .same-applied);
@@ -102,7 +102,7 @@ list-follows (c ∷ cs) m v s k t =
           step = record { good = r .step .good; shaped = r .step .shaped; tied = r .step .tied; same-n = r .step .same-n ∙ press-follows m v s c k t .same-n };
         })
     go false e r =
-        let a = press-answer m v s c k t in
+        let a = press-answer m v c k t in
         rw (e, ne-eqb (note c k .answer) 0 (λ z. eqb-false (answered c m .answer) 0 e (a ∙ z)))
         (record { same-applied = refl; same-answer = a; step = record { good = v; shaped = s; tied = t; same-n = refl } })
 
@@ -147,18 +147,14 @@ module _ (ws : List ℕ) (z : open-refusal ws ≡ 0) where
         same-n = ap (λ (x : Model). x .instance .n) e ∙ f .same-n ∙ c .same-n;
       }
 
-  -- it has room
-  pub written-short : (i : Input) (k : Log) → Tied (model-in ws) k → length (history-card-of (model-after i (model-in ws))) ≤ max-history-card
-  written-short i k t =
-      let f = input-follows i (model-in ws) good (model-in-shaped ws) k t in
-      longest-history (model-after i (model-in ws)) (f .good)
+-- WHAT IS STORED, where the answer is not that of too little room: the bytes, or the refusal
+pub stored-answer : (k m : ℕ) (card out out′ : List ℕ) (n n′ a : ℕ) → Stores k m card out out′ n n′ a → a ≢ buffer-short → a ≡ k
+stored-answer k m card out out′ n n′ a s f = go (eqb k 0) refl (ltb (length out) m) (s .number)
+  where
+    go : (x : Bool) → eqb k 0 ≡ x → (y : Bool) → a ≡ cond x (cond y buffer-short 0) k → a ≡ k
+    go true e true q = absurd (f q)
+    go true e false q = q ∙ sym (eqb-true k 0 e)
+    go false e y q = q
 
--- WHAT IS STORED, where nothing refuses it and there is room
-pub stored-whole : (k : ℕ) (card out out′ : List ℕ) (n n′ a : ℕ) → Stores k (length card) card out out′ n n′ a → k ≡ 0 → length card ≤ length out
-    → (a ≡ 0) × (take n′ out′ ≡ card)
-stored-whole k card out out′ n n′ a s z l =
-    let e : a ≡ 0 = s .number ∙ rw (eq-eqb k 0 z, le-ltb (length out) (length card) l) in
-    (e, rw (s .word, s .buffer, e) (front-take card out (length card) refl))
-
-pub stored-refused : (k m : ℕ) (card out out′ : List ℕ) (n n′ a : ℕ) → Stores k m card out out′ n n′ a → k ≢ 0 → a ≡ k
-stored-refused k m card out out′ n n′ a s z = s .number ∙ rw (ne-eqb k 0 z)
+pub stored-card : (k m : ℕ) (card out out′ : List ℕ) (n n′ a : ℕ) → Stores k m card out out′ n n′ a → a ≡ 0 → take n′ out′ ≡ card
+stored-card k m card out out′ n n′ a s e = rw (s .word, s .buffer, e) (front-take card out (length card) refl)

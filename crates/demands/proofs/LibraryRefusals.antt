@@ -1,12 +1,13 @@
 -- DEMAND 1 OF THE LIBRARY, "refused, every lent buffer is as it was": of each promise that an exported function makes,
--- an answer other than 0 leaves every buffer and every word. The answer itself is by equation that of the call which is
--- passed on, whose numbers are in DemandOne; 14 is added where a card is written. Assumes nothing.
-use mathlib.Core.Path.{_≡_, refl, sym, ap, _∙_}
+-- an answer other than 0 leaves every buffer, and every word but those that say which line of which price list is
+-- faulty. These are laws of the promises; that the functions make them is what their own proofs say. The answer itself
+-- is by equation that of the call which is passed on, whose numbers are in DemandOne; 14 is added where a card is
+-- written. Assumes nothing.
+use mathlib.Core.Path.{_≡_, refl, _∙_}
 use mathlib.Core.Bool.{true}
 use mathlib.Core.List.{List}
 use mathlib.Core.Logic.{_≢_}
 use Prim.Native.Nat.{ℕ, zero, suc}
-use lib.ListN.{length}
 use borrow.Author.Tests.{ne-eqb}
 use Rattle.spanning.specs.Graph.{Graph}
 use Rattle.runs.specs.declared.planning.RunsView as runs
@@ -14,18 +15,20 @@ use Rattle.runs.specs.Planning.{view-number}
 use Rattle.history_format.specs.HistoryCard.{open-refusal, model-in}
 use Rattle.planner.specs.declared.View as view
 use Rattle.planner.specs.declared.Listing as listing
-use Rattle.planner.specs.Looking.{Buffers, answer-of, short-for, Looks-at}
+use Rattle.planner.specs.Looking.{Buffers, answer-of, short-for}
 use Rattle.planner.specs.Replaying.{calls, log-in, Replays}
 use Rattle.planner.specs.Enumerating.{list-answer}
+use Rattle.price_list.specs.declared.read.PricesRead.{PricesRead}
+use Rattle.price_list.specs.Reads.{Reads}
 use Rattle.feed_planner.specs.Store.{Tells}
 use Rattle.feed_planner.specs.Sheets.{Sheet, Reads-sheet}
 use Rattle.feed_planner.specs.PressLists.{Presses-list}
 use Rattle.feed_planner.specs.Words.{Words, view-words, listing-words, runs-words}
 use Rattle.feed_planner.specs.Looking.{Views, Looks-on, Looks-at-card, Replays-card}
-use Rattle.feed_planner.specs.Plans.{listing-of, Lists-card}
-use Rattle.feed_planner.specs.Prices.{Makes-card, Merges}
+use Rattle.feed_planner.specs.Plans.{listing-of, Stores-listing}
+use Rattle.feed_planner.specs.Prices.{Stores-made, Stores-merged}
 use Rattle.feed_planner.specs.Rows.{Tells-row}
-use Rattle.feed_planner.specs.PassiveRuns.{Plans-hall}
+use Rattle.feed_planner.specs.PassiveRuns.{Tells-runs}
 use Rattle.demands.proofs.CallNumbers.{looks-at-as-before, replays-as-before}
 use Rattle.demands.proofs.PassiveNumbers.{runs-before}
 
@@ -41,10 +44,10 @@ press-list-refused {a = a} l z =
     let t = tells-refused (l .stored) z in
     (t .0, t .1, l .applied-word ∙ rw e, l .stopped-word ∙ rw e)
 
-pub made-refused : {t : List ℕ} {n r b : ℕ} {out out′ : List ℕ} {w w′ line a : ℕ} → Makes-card t n r b out out′ w w′ line a → a ≢ 0 → (out′ ≡ out) × (w′ ≡ w)
+pub made-refused : {t : List ℕ} {n r b : ℕ} {out out′ : List ℕ} {w w′ line a : ℕ} → Stores-made t n r b out out′ w w′ line a → a ≢ 0 → (out′ ≡ out) × (w′ ≡ w)
 made-refused m z = tells-refused (m .stored) z
 
-pub merged-refused : {x y : List ℕ} {n r : ℕ} {out out′ : List ℕ} {w w′ i line a : ℕ} → Merges x y n r out out′ w w′ i line a → a ≢ 0 → (out′ ≡ out) × (w′ ≡ w)
+pub merged-refused : {x y : List ℕ} {n r : ℕ} {out out′ : List ℕ} {w w′ i line a : ℕ} → Stores-merged x y n r out out′ w w′ i line a → a ≢ 0 → (out′ ≡ out) × (w′ ≡ w)
 merged-refused m z = tells-refused (m .stored) z
 
 pub sheet-refused : {ws : List ℕ} {old new : Sheet} {a : ℕ} → Reads-sheet ws old new a → a ≢ 0 → new ≡ old
@@ -52,6 +55,10 @@ sheet-refused {a = a} r z = r .shown ∙ rw (ne-eqb a 0 z)
 
 pub row-refused : {x y : List ℕ} {n t own own′ place place′ a : ℕ} → Tells-row x y n t own own′ place place′ a → a ≢ 0 → (own′ ≡ own) × (place′ ≡ place)
 row-refused {a = a} r z = let e = ne-eqb a 0 z in (r .list ∙ rw e, r .start ∙ rw e)
+
+-- a price list that is read
+pub reading-refused : {t : List ℕ} {n r : ℕ} {ps ps′ : List ℕ} {d : PricesRead} → Reads t n r ps ps′ d → d .answer ≢ 0 → ps′ ≡ ps
+reading-refused {d = d} x z = x .buffer ∙ rw (ne-eqb (d .answer) 0 z)
 
 -- LOOKS
 words-kept : (v : view.View) (w : Words) → answer-of v ≢ 0 → view-words v w ≡ w
@@ -66,8 +73,8 @@ unfolding Looks-on
 looks-on-before zero ws old new v l n = looks-at-as-before (model-in ws .instance) v old new true (short-for (model-in ws .instance .n) old) l n
 looks-on-before (suc k) ws old new v l n = l .buffers
 
-pub look-refused : {ws : List ℕ} {old new : Buffers} {w w′ : Words} {a : ℕ} → Looks-at-card ws old new w w′ a → a ≢ 0 → (new ≡ old) × (w′ ≡ w)
-look-refused {ws} {old} {new} l z =
+pub looking-refused : {ws : List ℕ} {old new : Buffers} {w w′ : Words} {a : ℕ} → Looks-at-card ws old new w w′ a → a ≢ 0 → (new ≡ old) × (w′ ≡ w)
+looking-refused {ws} {old} {new} l z =
     (looks-on-before (open-refusal ws) ws old new (l .view) (l .looks) (λ y. z (l .told .number ∙ y)), views-refused (l .told) z)
 
 pub replay-refused : {ws ks fs gs xs xs′ : List ℕ} {old new : Buffers} {w w′ : Words} {a : ℕ} → Replays-card ws ks fs gs xs xs′ old new w w′ a → a ≢ 0
@@ -82,8 +89,8 @@ listing-kept : (r : listing.Listing) (w : Words) → list-answer r ≢ 0 → lis
 listing-kept (listing.the-variants.Listed e k t) w n = absurd (n refl)
 listing-kept (listing.the-variants.Refused a) w n = refl
 
-pub list-refused : {ws : List ℕ} {limit : ℕ} {out out′ : List ℕ} {w w′ : Words} {a : ℕ} → Lists-card ws limit out out′ w w′ a → a ≢ 0 → (out′ ≡ out) × (w′ ≡ w)
-list-refused {ws} {limit} {out} {w = w} {a = a} l z =
+pub listing-refused : {ws : List ℕ} {limit : ℕ} {out out′ : List ℕ} {w w′ : Words} {a : ℕ} → Stores-listing ws limit out out′ w w′ a → a ≢ 0 → (out′ ≡ out) × (w′ ≡ w)
+listing-refused {ws} {limit} {out} {w = w} {a = a} l z =
     (l .buffer ∙ rw (ne-eqb a 0 z), l .words ∙ listing-kept (listing-of ws limit out) w (λ y. z (l .number ∙ y)))
 
 runs-kept : (r : runs.RunsView) (w : Words) → view-number r ≢ 0 → runs-words r w ≡ w
@@ -91,7 +98,7 @@ unfolding view-number
 runs-kept (runs.the-variants.Shown o) w n = absurd (n refl)
 runs-kept (runs.the-variants.Refused a) w n = refl
 
-pub runs-refused : {g : Graph} {budget : ℕ} {ss ss′ cs cs′ : List ℕ} {w w′ : Words} {a : ℕ} → Plans-hall g budget ss ss′ cs cs′ w w′ a → a ≢ 0
+pub runs-refused : {g : Graph} {budget : ℕ} {ss ss′ cs cs′ : List ℕ} {w w′ : Words} {a : ℕ} → Tells-runs g budget ss ss′ cs cs′ w w′ a → a ≢ 0
     → (ss′ ≡ ss) × (cs′ ≡ cs) × (w′ ≡ w)
 runs-refused {g} {budget} {ss} {ss′} {cs} {cs′} {w = w} p z =
     let n : view-number (p .view) ≢ 0 = λ y. z (p .number ∙ y) in

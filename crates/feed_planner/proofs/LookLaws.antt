@@ -1,27 +1,25 @@
 -- A look at a card is the look at the board that it opens as; every card has a text. Assumes nothing.
-use mathlib.Core.Path.{_≡_, refl, sym, ap, _∙_, subst}
+use mathlib.Core.Path.{_≡_, refl, sym, subst}
 use mathlib.Core.Bool.{Bool, true, false}
 use mathlib.Core.List.{List}
 use mathlib.Core.Logic.{_≢_}
 use Prim.Native.Nat.{ℕ, zero, suc, _≤_, _<_}
-use lib.Dec.{ltb, eqb}
+use lib.Dec.{eqb}
 use lib.ListN.{length}
 use borrow.Author.Tests.{lt-ltb, le-ltb}
 use Rattle.instance.specs.Instance.{Instance}
 use Rattle.instance.specs.Refusals.{buffer-short}
-use Rattle.text.specs.Buffer.{Filled}
 use Rattle.report_text.specs.Whole.{max-text}
 use Rattle.report.specs.declared.Reported.{Reported}
 use Rattle.report.specs.Reports.{Reports, Reports-by}
 use Rattle.board.specs.declared.Answered.{Answered}
-use Rattle.history_format.specs.HistoryCard.{open-refusal, model-in}
+use Rattle.history_format.specs.HistoryCard.{open-refusal}
 use Rattle.planner.specs.declared.View.{View}
 use Rattle.planner.specs.declared.View.the-variants.{Refused}
-use Rattle.planner.specs.Looking.{Buffers, short-for, Untouched, Looks-at, Looks}
+use Rattle.planner.specs.Looking.{Buffers, short-for, Looks-at, Looks}
 use Rattle.planner.specs.Opening.{opened-from}
 use Rattle.planner.proofs.CallSteps.{looks-valid}
 use Rattle.planner.proofs.OpeningLaws.{opened-answer}
-use Rattle.feed_planner.specs.Store.{Stores}
 use Rattle.feed_planner.specs.Words.{Words}
 use Rattle.feed_planner.specs.Looking.{Views, Looks-on, Looks-at-card, card-text, Prints}
 use Rattle.feed_planner.proofs.CardLaws.{not-opened, opens, open-valid, open-instance}

@@ -1,5 +1,5 @@
 -- A prepared list on a card: refused, or made, and the card after it written. Assumes nothing.
-use mathlib.Core.Path.{_≡_, refl, sym, ap, _∙_, subst}
+use mathlib.Core.Path.{_≡_, sym, ap, _∙_, subst}
 use mathlib.Core.Bool.{_||_}
 use mathlib.Core.List.{List}
 use mathlib.Core.Logic.{_≢_}
@@ -13,7 +13,7 @@ use Rattle.commands.specs.Model.{Model}
 use Rattle.board.specs.ModelOf.{model-of}
 use Rattle.board.specs.declared.Answered.{Answered}
 use Rattle.command_list.specs.declared.ListAnswered.{ListAnswered}
-use Rattle.history_format.specs.HistoryCard.{open-refusal, model-in, history-card-of}
+use Rattle.history_format.specs.HistoryCard.{open-refusal, history-card-of}
 use Rattle.history_card.specs.Write.{History-written}
 use Rattle.planner.specs.Opening.{opened-from}
 use Rattle.planner.specs.Replaying.{calls}
@@ -31,8 +31,8 @@ list-numbers-enough k f g e =
     (ltb-false f k (or-false-left (ltb f k) (ltb g k) s), ltb-false g k (or-false-right (ltb f k) (ltb g k) s))
 
 -- a refusal leaves everything
-list-refused : (ws ks fs gs out : List ℕ) (n p q k : ℕ) → list-refusal ws ks fs gs ≡ k → k ≢ 0 → Presses-list ws ks fs gs out out n n p p q q k
-list-refused ws ks fs gs out n p q k e z =
+all-refused : (ws ks fs gs out : List ℕ) (n p q k : ℕ) → list-refusal ws ks fs gs ≡ k → k ≢ 0 → Presses-list ws ks fs gs out out n n p p q q k
+all-refused ws ks fs gs out n p q k e z =
     let c = history-card-of (pressed-on ws ks fs gs .board) in
     let f = ne-eqb k 0 z in
     record {
@@ -45,7 +45,7 @@ module _ (ws ks fs gs : List ℕ) (o : Answered) (e : o ≡ opened-from ws) wher
   pub list-card-refused : (out : List ℕ) (n p q : ℕ) → o .answer ≢ 0 → Presses-list ws ks fs gs out out n n p p q q (o .answer)
   unfolding list-refusal
   list-card-refused out n p q z =
-      list-refused ws ks fs gs out n p q (o .answer) (rw (ne-eqb (open-refusal ws) 0 (not-opened ws o e z)) (sym (opened-answer ws o e))) z
+      all-refused ws ks fs gs out n p q (o .answer) (rw (ne-eqb (open-refusal ws) 0 (not-opened ws o e z)) (sym (opened-answer ws o e))) z
 
   module _ (z : o .answer ≡ 0) where
     numbers-left : list-refusal ws ks fs gs ≡ numbers-short (length ks) (length fs) (length gs)
@@ -54,7 +54,7 @@ module _ (ws ks fs gs : List ℕ) (o : Answered) (e : o ≡ opened-from ws) wher
 
     pub list-numbers-refused : (out : List ℕ) (n p q k : ℕ) → k ≡ numbers-short (length ks) (length fs) (length gs) → k ≢ 0
         → Presses-list ws ks fs gs out out n n p p q q k
-    list-numbers-refused out n p q k s y = list-refused ws ks fs gs out n p q k (numbers-left ∙ sym s) y
+    list-numbers-refused out n p q k s y = all-refused ws ks fs gs out n p q k (numbers-left ∙ sym s) y
 
     pub list-stored : (d : ListAnswered) (out out′ : List ℕ) (n p q : ℕ) (w : Written) → 0 ≡ numbers-short (length ks) (length fs) (length gs)
         → list-left d ≡ list-pressed (calls ks fs gs) (model-of (o .board)) → History-written (model-of (d .board)) out out′ w

@@ -1,15 +1,14 @@
 -- The loop that makes a prepared list of presses, and the card after it. What was made so far and what the rest of the
 -- list would give are together the whole list. Assumes nothing.
-use mathlib.Core.Path.{_≡_, refl, sym, ap, _∙_, subst}
-use mathlib.Core.Bool.{Bool, true, false}
-use mathlib.Core.List.{List, [], _∷_}
+use mathlib.Core.Path.{_≡_, refl, sym, ap, _∙_}
+use mathlib.Core.Bool.{Bool, true, false, cond}
+use mathlib.Core.List.{List, [], _∷_, map}
 use mathlib.Core.Logic.{_≢_}
 use Prim.Native.Nat.{ℕ, suc, _+_, _≤_, _<_}
 use native.Mathlib.Omega.{arith}
 use lib.Dec.{eqb}
 use lib.ListN.{length, getD, drop-of-length-le}
 use borrow.Author.Tests.{eq-eqb, ne-eqb, eqb-true, eqb-false}
-use Rattle.card.specs.declared.write.Written.{Written}
 use Rattle.commands.specs.Model.{Model}
 use Rattle.commands.specs.Commands.{Command, answered}
 use Rattle.commands.specs.Valid.{valid}
@@ -17,7 +16,10 @@ use Rattle.board.specs.ModelOf.{model-of}
 use Rattle.board.specs.Calls.{Answers}
 use Rattle.board.specs.declared.Board.{Board}
 use Rattle.board.specs.declared.Answered.{Answered}
+use Rattle.board.specs.Contents.{Contents, contents-after}
 use Rattle.board.proofs.CallLaws.{call-board, call-answer, call-valid}
+use Rattle.command_list.specs.CommandList.{ListResult, none-applied, list-applied}
+use Rattle.command_list.specs.CommandList as lists
 use Rattle.planner.specs.Replaying.{Call, command, call, calls, command-kind}
 use Rattle.planner.proofs.CallKinds.{call-look, call-write, not-command}
 use Rattle.planner.proofs.ReplayingLaws.{from, split}
@@ -104,3 +106,18 @@ module _ (ks fs gs : List ℕ) (m : Model) (p : length ks ≤ length fs) (q : le
     where
       past : from ks fs gs i ≡ []
       past = rw (drop-of-length-le ks {i = i} h)
+
+-- A LIST OF PRESSES gives what `press_list` gives: the same numbers, and the model of the board that it leaves
+abbrev model-result : ListResult → List-pressed
+model-result r = record { applied = r .applied; answer = r .answer; board = r .board .model }
+
+pub pressed-as-applied : (cs : List Command) (w : Contents) → list-pressed (map command cs) (w .model) ≡ model-result (list-applied cs w)
+unfolding list-pressed list-applied none-applied lists.one-more contents-after
+pressed-as-applied [] w = refl
+pressed-as-applied (c ∷ cs) w = go (eqb (answered c (w .model) .answer) 0) (pressed-as-applied cs (contents-after c w))
+  where
+    go : (b : Bool) → list-pressed (map command cs) (contents-after c w .model) ≡ model-result (list-applied cs (contents-after c w))
+        → cond b (one-more (list-pressed (map command cs) (answered c (w .model) .board))) (none-pressed (answered c (w .model) .answer) (w .model))
+        ≡ model-result (cond b (lists.one-more (list-applied cs (contents-after c w))) (none-applied (answered c (w .model) .answer) w))
+    go true e = ap one-more e
+    go false e = refl

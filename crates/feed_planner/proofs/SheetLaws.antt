@@ -11,11 +11,10 @@ use Rattle.base.specs.Lists.{in-front}
 use Rattle.base.proofs.BoolLaws.{or-false-left, or-false-right}
 use Rattle.instance.specs.Refusals.{buffer-short}
 use Rattle.commands.specs.Model.{Model}
-use Rattle.board.specs.ModelOf.{model-of}
 use Rattle.board.specs.declared.Answered.{Answered}
 use Rattle.board.proofs.ModelOfLaws.{length-history}
 use Rattle.price_list.specs.Reads.{dense}
-use Rattle.history_format.specs.HistoryCard.{open-refusal, model-in}
+use Rattle.history_format.specs.HistoryCard.{open-refusal}
 use Rattle.planner.specs.Opening.{opened-from}
 use Rattle.planner.proofs.OpeningLaws.{opened-answer}
 use Rattle.feed_planner.specs.Sheets.{Sheet, sheet, sheet-short, sheet-refusal, sheet-of, Reads-sheet}

@@ -1,14 +1,14 @@
 -- A look at a card, a list of calls with a look at the end, and the printed text. Assumes nothing: these are
 -- definitions.
 use mathlib.Core.Path.{_≡_}
-use mathlib.Core.Bool.{true, cond}
+use mathlib.Core.Bool.{cond}
 use mathlib.Core.List.{List}
 use Prim.Native.Nat.{ℕ, zero, suc}
 use lib.Dec.{eqb}
 use Rattle.history_format.specs.HistoryCard.{open-refusal, model-in}
 use Rattle.report_text.specs.Whole.{report-text, refused-text, max-text}
 use Rattle.planner.specs.declared.View.{View}
-use Rattle.planner.specs.Looking.{Buffers, answer-of, short-for, Untouched, Looks-at}
+use Rattle.planner.specs.Looking.{Buffers, answer-of, Untouched, Looks-valid}
 use Rattle.planner.specs.Replaying.{Replays}
 use Rattle.feed_planner.specs.Store.{Stores}
 use Rattle.feed_planner.specs.Words.{Words, view-words}
@@ -21,7 +21,7 @@ pub record Views (v : View) (old new : Words) (answer : ℕ) : Type 0 where
 -- the look at a card: refused, or the look at the board that it opens as, which is valid
 unfoldable pub Looks-on : (refusal : ℕ) → (card : List ℕ) → (old new : Buffers) → View → Type 0
 Looks-on (suc a) ws old new v = Untouched (suc a) old new v
-Looks-on zero ws old new v = Looks-at true (short-for (model-in ws .instance .n) old) (model-in ws .instance) old new v
+Looks-on zero ws old new v = Looks-valid (model-in ws .instance) old new v
 
 pub record Looks-at-card (ws : List ℕ) (old new : Buffers) (words words′ : Words) (answer : ℕ) : Type 0 where
   pub view : View

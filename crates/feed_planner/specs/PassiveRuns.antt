@@ -8,7 +8,7 @@ use Rattle.runs.specs.declared.planning.RunsView.{RunsView}
 use Rattle.runs.specs.Planning.{view-number, Plans-runs}
 use Rattle.feed_planner.specs.Words.{Words, runs-words}
 
-pub record Plans-hall (g : Graph) (budget : ℕ) (states₀ states costs₀ costs : List ℕ) (old new : Words) (answer : ℕ) : Type 0 where
+pub record Tells-runs (g : Graph) (budget : ℕ) (states₀ states costs₀ costs : List ℕ) (old new : Words) (answer : ℕ) : Type 0 where
   pub view : RunsView
   pub plans : Plans-runs g budget states₀ states costs₀ costs view
   pub number : answer ≡ view-number view

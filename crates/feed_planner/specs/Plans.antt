@@ -20,15 +20,15 @@ abbrev pub check-number : (card parents : List ℕ) → (total count : ℕ) → 
 check-number ws ps v k cs = cond (eqb (open-refusal ws) 0) (certificate-refusal (model-in ws .instance) ps v k cs) (open-refusal ws)
 
 -- the walk of a card with this limit, in a buffer with so much room
-abbrev pub walked-on : (card : List ℕ) → (limit : ℕ) → (out : List ℕ) → Walked
-walked-on ws limit out = walked (model-in ws .instance) limit (length out)
+abbrev pub card-walked : (card : List ℕ) → (limit : ℕ) → (out : List ℕ) → Walked
+card-walked ws limit out = walked (model-in ws .instance) limit (length out)
 
 -- the card's refusal, then 26, then what the walk gave
 abbrev pub listing-of : (card : List ℕ) → (limit : ℕ) → (out : List ℕ) → Listing
 listing-of ws limit out =
-    cond (eqb (open-refusal ws) 0) (cond (limit-refused limit) (Refused bad-try-limit) (listed-as (walked-on ws limit out))) (Refused (open-refusal ws))
+    cond (eqb (open-refusal ws) 0) (cond (limit-refused limit) (Refused bad-try-limit) (listed-as (card-walked ws limit out))) (Refused (open-refusal ws))
 
-pub record Lists-card (ws : List ℕ) (limit : ℕ) (out out′ : List ℕ) (old new : Words) (answer : ℕ) : Type 0 where
+pub record Stores-listing (ws : List ℕ) (limit : ℕ) (out out′ : List ℕ) (old new : Words) (answer : ℕ) : Type 0 where
   pub number : answer ≡ list-answer (listing-of ws limit out)
-  pub buffer : out′ ≡ cond (eqb answer 0) (in-front (joined (walked-on ws limit out .trees)) out) out
+  pub buffer : out′ ≡ cond (eqb answer 0) (in-front (joined (card-walked ws limit out .trees)) out) out
   pub words : new ≡ listing-words (listing-of ws limit out) old

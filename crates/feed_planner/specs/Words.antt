@@ -1,6 +1,5 @@
--- Results of the planner's calls as words: an outcome by its kind and its total. Assumes nothing: these are definitions.
-use mathlib.Core.Path.{_≡_}
-use mathlib.Core.List.{List}
+-- Results of the planner's calls as words: an outcome by its kind and its total. Assumes nothing: these are
+-- definitions.
 use Prim.Native.Nat.{ℕ}
 use Rattle.instance.specs.declared.Outcome.{Outcome}
 use Rattle.instance.specs.declared.Outcome.the-variants.{Plan, Over, NoTree}

@@ -1,7 +1,7 @@
 // A card judged, written again as a plain card, and moved from one kind to the other.
 ghost use mathlib.Core.Path.{_≡_};
 ghost use Rattle.history_format.specs.HistoryCard.{open-refusal};
-ghost use Rattle.feed_planner.specs.Cards.{Writes-plain, Moves-to-history, Moves-to-plain};
+ghost use Rattle.feed_planner.specs.Cards.{Stores-plain, Stores-to-history, Stores-to-plain};
 use crate::words::keep_length;
 use card::write::write_instance;
 use planner::open_card;
@@ -20,7 +20,7 @@ pub extern "C" fn feed_judge(card: &[u8]) -> u32
 // The board that a card opens as is valid, so it is written without being judged again.
 #[no_mangle]
 pub extern "C" fn feed_write_card(card: &[u8], out: &mut [u8], length: &mut usize) -> u32
-    ensures { λ r. ⌜ Writes-plain (now (card .entry)) (now (out .entry)) (now (out .exit)) (now (length .entry)) (now (length .exit)) r ⌝ }
+    ensures { λ r. ⌜ Stores-plain (now (card .entry)) (now (out .entry)) (now (out .exit)) (now (length .entry)) (now (length .exit)) r ⌝ }
 {
     let opened = open_card(card);
     let refusal = opened.answer;
@@ -37,7 +37,7 @@ pub extern "C" fn feed_write_card(card: &[u8], out: &mut [u8], length: &mut usiz
 
 #[no_mangle]
 pub extern "C" fn feed_to_history_card(card: &[u8], out: &mut [u8], length: &mut usize) -> u32
-    ensures { λ r. ⌜ Moves-to-history (now (card .entry)) (now (out .entry)) (now (out .exit)) (now (length .entry)) (now (length .exit)) r ⌝ }
+    ensures { λ r. ⌜ Stores-to-history (now (card .entry)) (now (out .entry)) (now (out .exit)) (now (length .entry)) (now (length .exit)) r ⌝ }
 {
     let moved = to_history_card(card, out);
     keep_length(moved.answer, moved.length, length)
@@ -45,7 +45,7 @@ pub extern "C" fn feed_to_history_card(card: &[u8], out: &mut [u8], length: &mut
 
 #[no_mangle]
 pub extern "C" fn feed_to_plain_card(card: &[u8], out: &mut [u8], length: &mut usize) -> u32
-    ensures { λ r. ⌜ Moves-to-plain (now (card .entry)) (now (out .entry)) (now (out .exit)) (now (length .entry)) (now (length .exit)) r ⌝ }
+    ensures { λ r. ⌜ Stores-to-plain (now (card .entry)) (now (out .entry)) (now (out .exit)) (now (length .entry)) (now (length .exit)) r ⌝ }
 {
     let moved = to_plain_card(card, out);
     keep_length(moved.answer, moved.length, length)

@@ -2,7 +2,6 @@
 ghost use Rattle.planner.specs.Looking.{buffers};
 ghost use Rattle.feed_planner.specs.Words.{words};
 ghost use Rattle.feed_planner.specs.Looking.{Looks-at-card, Replays-card, Prints};
-use crate::words::keep_length;
 use crate::words::keep_view;
 use instance::refusals::BUFFER_SHORT;
 use planner::look;

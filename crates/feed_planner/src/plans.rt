@@ -1,7 +1,7 @@
 // A plan made elsewhere, checked for a card; and all plans of a card.
 ghost use mathlib.Core.Path.{_≡_};
 ghost use Rattle.feed_planner.specs.Words.{words};
-ghost use Rattle.feed_planner.specs.Plans.{check-number, Lists-card};
+ghost use Rattle.feed_planner.specs.Plans.{check-number, Stores-listing};
 use crate::words::keep_listing;
 use planner::check_plan;
 use planner::list_plans;
@@ -37,7 +37,7 @@ pub extern "C" fn feed_list_plans(
     trees: &mut u32,
     tries: &mut u32,
 ) -> u32
-    ensures { λ r. ⌜ Lists-card (now (card .entry)) limit (now (out .entry)) (now (out .exit))
+    ensures { λ r. ⌜ Stores-listing (now (card .entry)) limit (now (out .entry)) (now (out .exit))
         (words (now (ended .entry)) (now (trees .entry)) (now (tries .entry))) (words (now (ended .exit)) (now (trees .exit)) (now (tries .exit))) r ⌝ }
 {
     let opened = open_card(card);

@@ -8,7 +8,6 @@ ghost use Rattle.commands.specs.Valid.{valid};
 ghost use Rattle.board.specs.ModelOf.{model-of};
 ghost use Rattle.planner.specs.Replaying.{calls};
 ghost use Rattle.feed_planner.specs.PressLists.{list-pressed, list-left, numbers-short, Presses-list};
-use crate::words::keep_length;
 use board::Board;
 use board::calls::execute;
 use command_list::ListAnswered;

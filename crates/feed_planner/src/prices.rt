@@ -1,7 +1,7 @@
 // Price lists as text: read, written, merged, made into cards and made of cards. The word `line` is set by every call
 // that has it, since it tells which line a refused list is refused by; 0 where none is.
 ghost use Rattle.price_list.specs.Reads.{Reads};
-ghost use Rattle.feed_planner.specs.Prices.{Writes-list, Lists-prices, Makes-card, Merges};
+ghost use Rattle.feed_planner.specs.Prices.{Stores-list, Stores-prices, Stores-made, Stores-merged};
 use crate::words::keep_length;
 use instance::Vertex;
 use planner::read_prices;
@@ -33,7 +33,7 @@ pub extern "C" fn feed_write_prices(
     out: &mut [u8],
     length: &mut usize,
 ) -> u32
-    ensures { λ r. ⌜ Writes-list (now (prices .entry)) n root (now (out .entry)) (now (out .exit)) (now (length .entry)) (now (length .exit)) r ⌝ }
+    ensures { λ r. ⌜ Stores-list (now (prices .entry)) n root (now (out .entry)) (now (out .exit)) (now (length .entry)) (now (length .exit)) r ⌝ }
 {
     let written = write_prices(prices, n, Vertex(root), out);
     keep_length(written.answer, written.length, length)
@@ -49,7 +49,7 @@ pub extern "C" fn feed_card_from_prices(
     length: &mut usize,
     line: &mut usize,
 ) -> u32
-    ensures { λ r. ⌜ Makes-card (now (text .entry)) n root budget (now (out .entry)) (now (out .exit)) (now (length .entry)) (now (length .exit)) (now (line .exit)) r ⌝ }
+    ensures { λ r. ⌜ Stores-made (now (text .entry)) n root budget (now (out .entry)) (now (out .exit)) (now (length .entry)) (now (length .exit)) (now (line .exit)) r ⌝ }
 {
     let made = card_from_prices(text, n, Vertex(root), budget, out);
     *line = made.line;
@@ -58,7 +58,7 @@ pub extern "C" fn feed_card_from_prices(
 
 #[no_mangle]
 pub extern "C" fn feed_prices_from_card(card: &[u8], out: &mut [u8], length: &mut usize) -> u32
-    ensures { λ r. ⌜ Lists-prices (now (card .entry)) (now (out .entry)) (now (out .exit)) (now (length .entry)) (now (length .exit)) r ⌝ }
+    ensures { λ r. ⌜ Stores-prices (now (card .entry)) (now (out .entry)) (now (out .exit)) (now (length .entry)) (now (length .exit)) r ⌝ }
 {
     let listed = prices_from_card(card, out);
     keep_length(listed.answer, listed.length, length)
@@ -75,7 +75,7 @@ pub extern "C" fn feed_merge_lists(
     list: &mut u32,
     line: &mut usize,
 ) -> u32
-    ensures { λ r. ⌜ Merges (now (school .entry)) (now (shipped .entry)) n root (now (out .entry)) (now (out .exit)) (now (length .entry)) (now (length .exit)) (now (list .exit)) (now (line .exit)) r ⌝ }
+    ensures { λ r. ⌜ Stores-merged (now (school .entry)) (now (shipped .entry)) n root (now (out .entry)) (now (out .exit)) (now (length .entry)) (now (length .exit)) (now (list .exit)) (now (line .exit)) r ⌝ }
 {
     let merged = merge_lists(school, shipped, n, Vertex(root), out);
     *list = merged.list;

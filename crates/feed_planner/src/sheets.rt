@@ -1,5 +1,5 @@
-// What a card says, for whoever draws it: count, root, budget, how many presses are recorded, and the price and the mark
-// of every pair.
+// What a card says, for whoever draws it: count, root, budget, how many presses are recorded, and the price and the
+// mark of every pair.
 ghost use mathlib.Core.Path.{_≡_};
 ghost use Prim.Native.Nat.{_*_, _≤_};
 ghost use lib.ListN.{length};
