@@ -1,4 +1,6 @@
 // The arguments of a program as numbers.
+#![tactic(auto)]
+
 ghost use Rattle.arguments.specs.Word.{ReadsWord, ReadsSome};
 
 use price_list::numbers::scan_digits;
@@ -7,7 +9,7 @@ use price_list::numbers::scan_digits;
 const MAX_WORD: usize = 64;
 
 // A word of the arguments: whether it is a number, and which, up to that of `scan_digits` for all larger ones.
-#[derive(Drop)]
+#[derive(Clone, Copy)]
 pub struct Word {
     pub good: bool,
     pub value: u32,

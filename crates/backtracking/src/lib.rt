@@ -1,6 +1,8 @@
 // Lists every arborescence of an instance within its budget, by backtracking: the vertices get their parents upwards,
 // each remaining arc into the next one is tried in turn, and an arc that closes a cycle is dropped. No card and no
 // board can be seen from here.
+#![tactic(auto)]
+
 mod cycle; // cycle.rt: whether an arc closes a cycle
 mod store; // store.rt: a tree put into the caller's buffer
 mod walk; // walk.rt: the walk, two functions that call each other
@@ -17,7 +19,7 @@ use remaining::remaining_matrix;
 use walk::settle;
 
 // How far a walk is: the tries that are left, the trees in the buffer, and what ended it, if anything did.
-#[derive(Drop)]
+#[derive(Clone, Copy)]
 pub struct Progress {
     pub left: u32,
     pub trees: u32,

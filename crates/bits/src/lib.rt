@@ -1,4 +1,6 @@
 // Bit fields in bytes, the most significant bit first: read at any place, and written one behind the other.
+#![tactic(auto)]
+
 ghost use Rattle.std.specs.Prelude.{◌≡◌, ◌+◌, ◌*◌, ◌≤◌, ◌<◌, length, replicate};
 ghost use Rattle.bits.specs.Bits.{bits_of, bits_in, field};
 ghost use Rattle.bits.specs.Writer.{filling, Ready, Put};
@@ -29,7 +31,7 @@ pub fn read_bits(bytes: &[u8], at: usize, width: usize) -> u32
 }
 
 // Where the next bit goes: `count` bits of the byte at `at` are not stored yet, and stand in `partial`.
-#[derive(Drop)]
+#[derive(Clone, Copy)]
 pub struct BitWriter {
     pub at: usize,
     pub partial: u8,

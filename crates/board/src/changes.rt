@@ -24,7 +24,7 @@ use instance::{Mark, mark_number};
 
 // A refusal's number; or what is recorded, as it was, and what is put in its place; or what undo puts back. What is put
 // has the form of a record: of one arc, of several or of the budget.
-#[derive(Drop)]
+#[derive(Clone, Copy)]
 pub enum Change {
     Refuses(u32),
     Records(Replaced, Replaced),

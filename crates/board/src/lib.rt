@@ -2,6 +2,8 @@
 // mark, several or the budget and record what they replaced, undo restores it; a board that is invalid is refused
 // before anything else is judged. Everything is held against the model of the crate `commands`, by the definitions of
 // specs/ModelOf.antt and specs/Calls.antt.
+#![tactic(auto)]
+
 pub mod valid; // valid.rt: whether a board is valid
 pub mod changes; // changes.rt: what a command comes to on a board
 pub mod setters; // setters.rt: the record that set a mark
@@ -14,21 +16,21 @@ use instance::{Mark, Vertex};
 // What a command replaced: tail, head and mark of an arc; or the budget; or tail, heads and marks of several arcs, the
 // heads as a set and their marks two bits a head, head h at bits 2h and 2h + 1. Small, since a board holds 200 of them:
 // tail and head are below 32 where it is written. What a record means has one name in the specs, `replaced_of`.
-#[derive(Drop)]
+#[derive(Clone, Copy)]
 pub enum Replaced {
     OldMark(u8, u8, u8),
     OldBudget(u32),
     OldMarks(u8, u32, u64),
 }
 
-#[derive(Drop)]
+#[derive(Clone, Copy)]
 pub struct UndoRecord {
     pub replaced: Replaced,
 }
 
 // Weights and marks have a stride of 32. The first `count` records are the history, the latest last; the places after
 // them decide nothing, and neither does a cell where no arc can be.
-#[derive(Drop)]
+#[derive(Clone, Copy)]
 pub struct Board {
     pub n: u32,
     pub root: u32,
@@ -40,14 +42,14 @@ pub struct Board {
 }
 
 // What a command gives, and what opening a card gives: 0 or the number of the refusal, and the board that is left.
-#[derive(Drop)]
+#[derive(Clone, Copy)]
 pub struct Answered {
     pub answer: u32,
     pub board: Board,
 }
 
 // A command as a value, for lists of commands.
-#[derive(Drop)]
+#[derive(Clone, Copy)]
 pub enum Command {
     SetMark(Mark, Vertex, Vertex),
     SetMarks(Mark, Vertex, u32),

@@ -21,7 +21,7 @@ pub fn on_card(n: u32, root: u32, i: usize) -> bool
 }
 
 // A cell of a card, and where the next one begins.
-#[derive(Drop)]
+#[derive(Clone, Copy)]
 pub struct Cell {
     pub weight: u32,
     pub mark: u8,
@@ -72,7 +72,7 @@ fn judge_cell(weight: u32, mark: u8) -> u32
 }
 
 // What the cells say: a refusal, or 0 with the weights, the marks and where the bits of the last cell end.
-#[derive(Drop)]
+#[derive(Clone, Copy)]
 pub struct Cells {
     pub answer: u32,
     pub weights: [u32; CELLS],

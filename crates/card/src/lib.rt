@@ -1,4 +1,5 @@
 // The rig card: reading and writing.
+#![tactic(auto)]
 
 pub mod widths; // widths.rt: the widths of a card's fields
 pub mod lengths; // lengths.rt: how many bits and bytes a card has

@@ -13,7 +13,7 @@ use instance::refusals::{
 };
 
 // A refusal and nothing else, or 0 and the fields before the cells.
-#[derive(Drop)]
+#[derive(Clone, Copy)]
 pub struct Header {
     pub answer: u32,
     pub n: u32,
@@ -74,7 +74,7 @@ fn read_header(card: &[u8]) -> Header
 }
 
 // What a card says: a refusal and nothing else, or 0 and an instance.
-#[derive(Drop)]
+#[derive(Clone, Copy)]
 pub struct Contents {
     pub answer: u32,
     pub n: u32,

@@ -84,7 +84,7 @@ pub fn put_instance<'a>(
 }
 
 // 14 if the buffer is too short, else 0 and the length of the card.
-#[derive(Drop)]
+#[derive(Clone, Copy)]
 pub struct Written {
     pub answer: u32,
     pub length: usize,

@@ -1,1 +1,2 @@
 // A computed proof alone: there is no code here.
+#![tactic(auto)]

@@ -22,7 +22,7 @@ fn put_cut(c: CutIndex, set: u32, value: u32, cuts: &mut [u32; CUT_WORDS])
 }
 
 // The arc that a charged group chose, and the place of the next cut; or, where no arc enters, the group's vertices.
-#[derive(Drop)]
+#[derive(Clone, Copy)]
 pub struct Charged {
     pub found: bool,
     pub tail: Vertex,

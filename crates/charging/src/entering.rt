@@ -13,7 +13,7 @@ use instance::limits::{CELLS, NO_ARC, NO_PARENT, VERTICES};
 pub const NO_END: u32 = NO_PARENT as u32;
 
 // An arc into a group; the weight is NO_ARC where there is none.
-#[derive(Drop)]
+#[derive(Clone, Copy)]
 pub struct Entering {
     pub tail: Vertex,
     pub head: Vertex,

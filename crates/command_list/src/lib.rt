@@ -1,6 +1,8 @@
 // A list of presses (02, A1): each is copied from the caller's slice and made by the single command; the first refused
 // one stops the list. The borrow checker has no plan for a slice of structs, so `press_list` is proved by hand: it
 // only walks, and all that it decides stands in the three functions before it.
+#![tactic(auto)]
+
 ghost use Rattle.std.specs.Prelude.{◌≡◌, [], ◌∷◌, ◌<◌, ◌^◌, ◌+◌};
 ghost use Rattle.board.specs.ModelOf.{command_of};
 ghost use Rattle.board.specs.Contents.{contents_of};
@@ -12,13 +14,13 @@ use board::{Board, Command};
 use instance::refusals::INVALID_BOARD;
 
 // One press of a list: any command, a take-back too.
-#[derive(Drop)]
+#[derive(Clone, Copy)]
 pub struct Press {
     pub command: Command,
 }
 
 // How many presses were applied, 0 or the number of the refusal that stopped the list, and the board that is left.
-#[derive(Drop)]
+#[derive(Clone, Copy)]
 pub struct ListAnswered {
     pub applied: usize,
     pub answer: u32,

@@ -7,7 +7,7 @@ use instance::Vertex;
 use instance::limits::VERTICES;
 
 // A group on the cycle, and the stamps: the groups of the cycle are those stamped no earlier than it.
-#[derive(Drop)]
+#[derive(Clone, Copy)]
 pub struct Walked {
     pub found: bool,
     pub at: Vertex,

@@ -1,6 +1,8 @@
 // Detours: what it costs to make a cheapest tree use an arc. An arc whose tail is no descendant of its head can replace
 // the arc into the head. Otherwise it closes a cycle down the path from head to tail, and some vertex on that path has
 // to take a parent that is no descendant of the head.
+#![tactic(auto)]
+
 pub mod descendants; // descendants.rt: the descendants of a vertex
 mod increases; // increases.rt: what it costs to give a vertex another parent
 

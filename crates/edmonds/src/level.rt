@@ -14,7 +14,7 @@ use instance::{CutIndex, Vertex};
 
 // A tree of the groups by its parents, with the place of the next cut; or, where there is none, a set that no arc
 // enters.
-#[derive(Drop)]
+#[derive(Clone, Copy)]
 pub struct GroupTree {
     pub found: bool,
     pub parents: [u8; VERTICES],

@@ -1,6 +1,7 @@
 // Minimum weight arborescences by Edmonds' algorithm (Algorithm 1 of document 000), on the caller's weight matrix,
 // which is lowered in place: afterwards it holds the reduced costs. Vertices keep their numbers through every
 // contraction; a label for each vertex tells its group.
+#![tactic(auto)]
 
 ghost use Rattle.std.specs.Prelude.{◌≡◌, true, ◌+◌, ◌-◌, ◌≤◌, ◌<◌, length};
 ghost use Rattle.instance.specs.Limits.{max_vertices, cut_words, max_cuts, word_limit};
@@ -18,7 +19,7 @@ use level::{GroupTree, plan_groups};
 
 // An arborescence by its parents, with its total and the number of cuts; or, where there is none, a set that no arc
 // enters.
-#[derive(Drop)]
+#[derive(Clone, Copy)]
 pub struct Planned {
     pub found: bool,
     pub parents: [u8; VERTICES],

@@ -1,4 +1,5 @@
 // Expansion: "opening the ring again drops exactly one of its links". And the arcs where there is no cycle to expand.
+#![tactic(auto)]
 
 ghost use Rattle.std.specs.Prelude.{◌≡◌, ◌≤◌, ◌<◌, length};
 ghost use Rattle.instance.specs.Limits.{max_vertices};

@@ -3,6 +3,8 @@
 // global and no allocation. Every function has the contract of the call that it passes on, said of cards, and none
 // requires anything; refused, all that was lent is as it was, but for the words that say which line of which price list
 // is faulty.
+#![tactic(auto)]
+
 mod words; // words.rt: second results, into the caller's words
 mod cards; // cards.rt: a card judged, written and moved from one kind to the other
 mod sheets; // sheets.rt: what a card says

@@ -18,7 +18,7 @@ use instance::limits::{CELLS, CUT_WORDS, NO_ARC, NO_PARENT, VERTICES};
 use instance::{CutIndex, Vertex};
 
 // An arborescence, or that there is none.
-#[derive(Drop)]
+#[derive(Clone, Copy)]
 pub struct Attempt {
     pub found: bool,
     pub parents: [u8; VERTICES],

@@ -13,7 +13,7 @@ use instance::CutIndex;
 use instance::limits::{CUT_WORDS, NO_PARENT, VERTICES};
 
 // The vertices that are reached, as a set, and the parents of those.
-#[derive(Drop)]
+#[derive(Clone, Copy)]
 pub struct Growth {
     pub reached: u32,
     pub parents: [u8; VERTICES],

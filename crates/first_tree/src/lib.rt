@@ -4,6 +4,8 @@
 // the vertices are settled upwards, each with its least tail that can be had, and what cannot stand beside the arcs
 // settled so far goes out of the sets. Few tails are left to be tried below those of the tree at hand, and nearly all
 // of them are decided without planning.
+#![tactic(auto)]
+
 mod attempt; // attempt.rt: whether a tail can be had
 mod fixing; // fixing.rt: an arc fixed, and what cannot stand beside it taken out
 mod growth; // growth.rt: a tree grown from the root

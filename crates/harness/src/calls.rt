@@ -13,7 +13,7 @@ pub const REFUSED: u32 = 3;
 
 // What a look gave: its kind; the answer, 0 where it was not refused; the total, 0 where there is no tree; the number
 // of pairs; and the buffers.
-#[derive(Drop)]
+#[derive(Clone, Copy)]
 pub struct Shown {
     pub kind: u32,
     pub answer: u32,
@@ -25,7 +25,7 @@ pub struct Shown {
 }
 
 // The view's part of it.
-#[derive(Drop)]
+#[derive(Clone, Copy)]
 struct Summary {
     kind: u32,
     answer: u32,
@@ -110,7 +110,7 @@ pub fn look(b: Board) -> Shown {
 }
 
 // What a write gave: the answer, the length and the buffer.
-#[derive(Drop)]
+#[derive(Clone, Copy)]
 pub struct CardOut {
     pub answer: u32,
     pub length: usize,

@@ -15,7 +15,7 @@ const RECORDS_FROM: u32 = 15;
 
 const SOUND_FROM: u32 = 21;
 
-#[derive(Drop)]
+#[derive(Clone, Copy)]
 pub struct Damaged {
     pub is_damaged: bool,
     pub board: Board,
@@ -29,7 +29,7 @@ fn other_vertex(g: Random, n: u32, v: u32) -> u32 {
     access::plus(v, access::plus(random::below(g, n - 1), 1)) % n
 }
 
-#[derive(Drop)]
+#[derive(Clone, Copy)]
 pub struct Arc {
     pub tail: u32,
     pub head: u32,

@@ -19,7 +19,7 @@ const SOUND_FROM: u32 = 8;
 const PAST_THE_COUNT: u32 = 10;
 
 // A record by its parts.
-#[derive(Drop)]
+#[derive(Clone, Copy)]
 pub struct GroupRecord {
     pub tail: u32,
     pub heads: u32,

@@ -1,5 +1,7 @@
 // What the test programs share, and the one place that sees both the planner and the reference: the planner's calls on
 // lent buffers that are longer than needed, boards beside the reference's instances, changed boards, and comparisons.
+#![tactic(auto)]
+
 pub mod boards; // boards.rt: boards and the reference's instances
 pub mod buffers; // buffers.rt: what stands in a buffer before a call
 pub mod calls; // calls.rt: the planner's calls

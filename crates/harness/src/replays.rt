@@ -8,7 +8,7 @@ use reference::card::Card;
 pub const CALLS: usize = 300;
 
 // Their kinds, and the two numbers of each.
-#[derive(Drop)]
+#[derive(Clone, Copy)]
 pub struct Calls {
     pub kinds: [u8; CALLS],
     pub firsts: [u32; CALLS],
@@ -16,7 +16,7 @@ pub struct Calls {
 }
 
 // How much is lent of each list and each buffer.
-#[derive(Drop)]
+#[derive(Clone, Copy)]
 pub struct Rooms {
     pub firsts: u32,
     pub seconds: u32,
@@ -38,7 +38,7 @@ pub fn whole() -> Rooms {
     }
 }
 
-#[derive(Drop)]
+#[derive(Clone, Copy)]
 pub struct Replayed {
     pub shown: Shown,
     pub answers: [u32; CALLS],

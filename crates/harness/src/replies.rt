@@ -4,7 +4,7 @@ use board::{Answered, Board};
 use reference::card::CARD_ROOM;
 use reference::certificate;
 
-#[derive(Drop)]
+#[derive(Clone, Copy)]
 pub struct Reply {
     pub answer: u32,
     pub untouched: bool,

@@ -10,14 +10,14 @@ use reference::log::Log;
 use reference::problem::Problem;
 use reference::{access, history, history_card, log};
 
-#[derive(Drop)]
+#[derive(Clone, Copy)]
 pub struct Session {
     pub board: Board,
     pub log: Log,
 }
 
 // What a call gave: the board's reply, the log's answer, and where the session has come to.
-#[derive(Drop)]
+#[derive(Clone, Copy)]
 pub struct Called {
     pub reply: Reply,
     pub log_answer: u32,

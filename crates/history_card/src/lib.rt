@@ -1,5 +1,7 @@
 // History cards (02, A8: new cards), read and written: the bits of a plain card and a board's history. They are held
 // against the definitions of the crate `history_format`.
+#![tactic(auto)]
+
 mod marks; // marks.rt: the marks of a record of several arcs, read and put
 pub mod open; // open.rt: a card of any bytes opened as a board, or refused
 mod record; // record.rt: one record, read and judged

@@ -28,7 +28,7 @@ pub fn runs_past(card: &[u8], end: usize) -> bool
 }
 
 // A refusal and nothing else, or 0, what the record says and where it ends.
-#[derive(Drop)]
+#[derive(Clone, Copy)]
 pub struct RecordRead {
     pub answer: u32,
     pub replaced: Replaced,

@@ -14,7 +14,7 @@ use instance::limits::{CELLS, MAX_RECORDS};
 use instance::refusals::{BAD_FILLING, BAD_LENGTH, BAD_RECORD};
 
 // What the count says: a refusal and nothing else, or 0 and how many records there are.
-#[derive(Drop)]
+#[derive(Clone, Copy)]
 pub struct Counted {
     pub answer: u32,
     pub count: usize,
@@ -42,7 +42,7 @@ pub fn read_count(card: &[u8], start: usize) -> Counted
 }
 
 // What the records say: a refusal, or 0 and a history, with every record place.
-#[derive(Drop)]
+#[derive(Clone, Copy)]
 pub struct History {
     pub answer: u32,
     pub count: usize,

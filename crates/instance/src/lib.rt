@@ -1,5 +1,7 @@
 // The problem in the program's terms: the documents' limits and refusals, vertices, cuts, marks and outcomes. What the
 // words mean is defined in specs/.
+#![tactic(auto)]
+
 pub mod limits; // limits.rt: the numbers of documents 01 and 02
 pub mod refusals; // refusals.rt: the refusals of documents 01 and 02
 pub mod states; // states.rt: the states of arcs and edges
@@ -11,15 +13,15 @@ use limits::{BANNED, FREE, PINNED};
 
 // A vertex of an instance (document 01: a position). A vertex and a cut are kept apart, so that neither can be handed
 // in where the other is meant.
-#[derive(Drop)]
+#[derive(Clone, Copy)]
 pub struct Vertex(pub u32);
 
 // The place of a cut among the cuts found, from 0.
-#[derive(Drop)]
+#[derive(Clone, Copy)]
 pub struct CutIndex(pub u32);
 
 // A mark to set. The cells of an instance hold its number.
-#[derive(Drop)]
+#[derive(Clone, Copy)]
 pub enum Mark {
     Free,
     Pinned,
@@ -28,7 +30,7 @@ pub enum Mark {
 
 // What planning an instance comes to: the total of a plan, or the cheapest total where it is over the budget, or that
 // there is no tree.
-#[derive(Drop)]
+#[derive(Clone, Copy)]
 pub enum Outcome {
     Plan(u32),
     Over(u32),

@@ -3,6 +3,8 @@
 // As in the crate `text`, a function `put_..` writes one piece from the place `at` on and returns the place after it;
 // it requires that there is room. There are as many lines as trees, so no buffer is made for all of them: one of
 // MAX_LINE bytes has room for the first two lines together, and for each line of a tree.
+#![tactic(auto)]
+
 mod heading; // heading.rt: the first two lines
 mod trees; // trees.rt: the line of a tree
 

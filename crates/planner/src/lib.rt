@@ -4,6 +4,8 @@
 // whatever is handed in gets an answer, and after a refusal the board and all buffers are as they were, but for the
 // word that takes row_used's number; of a list of presses that is said of the refused press, and what the earlier ones
 // did stands.
+#![tactic(auto)]
+
 mod checking; // checking.rt: a plan made elsewhere, checked for a board
 mod copies; // copies.rt: copies into the caller's buffers
 mod displaying; // displaying.rt: what planning found, copied there
@@ -37,7 +39,7 @@ pub use writing::{write_card, write_history_card};
 
 // What a look shows: the outcome and the number of cuts that prove it, or of the one pair that shows that there is no
 // tree; or the number of a refusal.
-#[derive(Drop)]
+#[derive(Clone, Copy)]
 pub enum View {
     Shown(Outcome, u32),
     Refused(u32),
@@ -47,7 +49,7 @@ pub enum View {
 // or by none of them, 0, and so by the card; the link from this position into the same one is pinned, by whom in the
 // same way; the outcome with the link as the only one into its position, and the number of cuts that prove it, or of
 // the one pair that shows that there is no tree; or the number of a refusal.
-#[derive(Drop)]
+#[derive(Clone, Copy)]
 pub enum Reason {
     Banned(u32),
     Rival(Vertex, u32),
@@ -57,7 +59,7 @@ pub enum Reason {
 
 // What a listing of all plans gives: how it ended, how many trees stand in the buffer and how many tries were made; or
 // the number of a refusal.
-#[derive(Drop)]
+#[derive(Clone, Copy)]
 pub enum Listing {
     Listed(Ended, u32, u32),
     Refused(u32),

@@ -15,7 +15,7 @@ use price_list::write::write_prices;
 
 // 0 with the numbers that go with the list, whether the card has something that no list says, a mark or a record, and
 // the length of the list; or the refusal, and 0 for all of them.
-#[derive(Drop)]
+#[derive(Clone, Copy)]
 pub struct CardPrices {
     pub answer: u32,
     pub n: u32,
@@ -27,7 +27,7 @@ pub struct CardPrices {
 
 // 0 and what a list is written of: the prices stand tail by tail, n times n of them; or the refusal, and nothing that
 // counts.
-#[derive(Drop)]
+#[derive(Clone, Copy)]
 pub struct CardWeights {
     pub answer: u32,
     pub n: u32,

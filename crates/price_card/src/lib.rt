@@ -1,5 +1,7 @@
 // Between price lists and cards: the card of a list with the count of positions, the root and the budget, and the list
 // of a card. Neither call requires anything of its caller.
+#![tactic(auto)]
+
 pub mod to_card; // to_card.rt: the card of a price list
 pub mod from_card; // from_card.rt: the price list of a card
 

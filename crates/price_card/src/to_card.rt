@@ -10,7 +10,7 @@ use price_list::read::read_table;
 use price_list::room::count_answer;
 
 // 0 and the length of the card; or the refusal, and of a faulty line which it is, counted from 1.
-#[derive(Drop)]
+#[derive(Clone, Copy)]
 pub struct CardMade {
     pub answer: u32,
     pub line: usize,

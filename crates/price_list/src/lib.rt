@@ -1,5 +1,7 @@
 // Price lists as text (02, A3): reading them into a caller's words, and writing them into a caller's bytes. What a list
 // says is defined in `price_format`.
+#![tactic(auto)]
+
 pub mod numbers; // numbers.rt: numbers in a text
 pub mod lines; // lines.rt: a line of a text, read and judged
 pub mod read; // read.rt: a whole list read

@@ -9,7 +9,7 @@ use instance::limits::{CELLS, MAX_WEIGHT, NO_ARC};
 use instance::refusals::{BAD_LINE, LINE_NO_ARC, LINE_NO_VERTEX, NAMED_BEFORE, WEIGHT_TOO_HIGH};
 
 // Whether a line stands at a place; if so, its numbers, each at most CAP, and the place after it.
-#[derive(Drop)]
+#[derive(Clone, Copy)]
 pub struct LineRead {
     pub good: bool,
     pub tail: u32,
@@ -19,7 +19,7 @@ pub struct LineRead {
 }
 
 // 0 and the place after a line, or what is wrong with it.
-#[derive(Drop)]
+#[derive(Clone, Copy)]
 pub struct Taken {
     pub answer: u32,
     pub next: usize,

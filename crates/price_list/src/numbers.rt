@@ -8,14 +8,14 @@ ghost use Rattle.price_list.specs.Numbers.{cap, capped, Scans, ReadsNumber};
 pub const CAP: u32 = 100_000_000;
 
 // What the digits at a place show, at most CAP, and the place after them.
-#[derive(Drop)]
+#[derive(Clone, Copy)]
 pub struct Digits {
     pub value: u32,
     pub end: usize,
 }
 
 // Whether a number and its separator stand at a place; if so, the number, at most CAP, and the place after them.
-#[derive(Drop)]
+#[derive(Clone, Copy)]
 pub struct Number {
     pub good: bool,
     pub value: u32,

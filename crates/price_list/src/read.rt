@@ -12,7 +12,7 @@ use instance::Vertex;
 use instance::limits::{CELLS, NO_ARC};
 
 // 0, or the refusal of a list; of a faulty line also which it is, counted from 1, and 0 otherwise.
-#[derive(Drop)]
+#[derive(Clone, Copy)]
 pub struct PricesRead {
     pub answer: u32,
     pub line: usize,

@@ -15,7 +15,7 @@ use text::decimal::decimal_length;
 use text::lines::put_three;
 
 // 0 and the length of the text, or the refusal and 0.
-#[derive(Drop)]
+#[derive(Clone, Copy)]
 pub struct ListWritten {
     pub answer: u32,
     pub length: usize,

@@ -8,7 +8,7 @@ use price_list::{read_prices, write_prices};
 
 // 0 and the length of the list; or the refusal, and of a faulty line which it is, counted from 1, and in which list: 1
 // the school's, 2 the shipped one. A bad count or root has list 1 and line 0, as it is met with the first list.
-#[derive(Drop)]
+#[derive(Clone, Copy)]
 pub struct ListsMerged {
     pub answer: u32,
     pub list: u32,

@@ -8,7 +8,7 @@ use crate::keys::NO_KEY;
 use instance::limits::{CELLS, NO_PARENT, VERTICES};
 
 // The parents of a tree, or that there is none.
-#[derive(Drop)]
+#[derive(Clone, Copy)]
 pub struct SpanningTree {
     pub found: bool,
     pub parents: [u8; VERTICES],

@@ -1,4 +1,6 @@
 // A cheapest spanning tree of a graph that keeps its pins and bans, by Prim's algorithm: pinned edges first.
+#![tactic(auto)]
+
 pub mod keys; // keys.rt: the keys of a graph, in a table
 pub mod growth; // growth.rt: the tree, grown edge by edge
 pub mod tree; // tree.rt: the tree with its pins, and its total

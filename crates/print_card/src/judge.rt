@@ -13,7 +13,7 @@ pub const MAX_READ: usize = 16_384;
 
 // What came of an input: as for a list; or its first whole lines are a list, and `line`, which follows them, is too
 // long for a line.
-#[derive(Drop)]
+#[derive(Clone, Copy)]
 pub struct Judged {
     pub long: bool,
     pub answer: u32,

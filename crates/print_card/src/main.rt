@@ -2,6 +2,8 @@
 // positions, the root and the budget. A refused list writes nothing there and one line on standard error: the number of
 // the refusal, and the faulty line. A wrong word, or a read or a write that fails, is named there too. The card is
 // proved in `price_card`; this program only reads and writes.
+#![tactic(auto)]
+
 mod judge; // judge.rt: an input that may be longer than a list can be
 
 use arguments::number_at;

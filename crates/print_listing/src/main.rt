@@ -1,6 +1,8 @@
 // Reads a card on standard input and prints all its plans, or the line of its refusal, on standard output; it does
 // nothing else. A read or a write that fails is named on standard error. The listing is proved in `planner` and each
 // line in `listing_text`; this program only reads, and writes the lines one after the other.
+#![tactic(auto)]
+
 ghost use Rattle.std.specs.Prelude.{◌≡◌, ◌≤◌, ◌<◌, length};
 ghost use Rattle.instance.specs.Limits.{max_vertices, max_budget, cells};
 ghost use Rattle.instance.specs.Matrix.{Weights};

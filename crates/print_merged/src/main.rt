@@ -3,6 +3,8 @@
 // refused list writes nothing there and one line on standard error: the number of the refusal, which list it is, 1 the
 // school's and 2 the shipped one, and the faulty line. A wrong word, or a read or a write that fails, is named there
 // too. The merged list is proved in `price_merge`; this program only reads and writes.
+#![tactic(auto)]
+
 use arguments::number_at;
 use card_input::{read_from, read_input};
 use instance::Vertex;

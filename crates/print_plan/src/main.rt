@@ -1,6 +1,8 @@
 // Reads a card on standard input and prints its plan, or the line of its refusal, on standard output; it does nothing
 // else. A read or a write that fails is named on standard error. What is printed is proved in `report`; this program
 // only reads and writes.
+#![tactic(auto)]
+
 use card_input::read_input;
 use libc::{STDERR_FILENO, STDOUT_FILENO};
 use report::{MAX_HISTORY_CARD, MAX_TEXT, report};

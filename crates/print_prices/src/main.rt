@@ -3,6 +3,8 @@
 // records, which a list has not. A refused card writes nothing on standard output, and its number on standard error. A
 // read or a write that fails is named there too. The list is proved in `price_card`; this program only reads and
 // writes.
+#![tactic(auto)]
+
 use card_input::read_input;
 use libc::{STDERR_FILENO, STDOUT_FILENO};
 use planner::MAX_HISTORY_CARD;

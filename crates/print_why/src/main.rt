@@ -3,6 +3,8 @@
 // that fails, is named on standard error. The answer is proved in `planner`, the state in `witness` and each line in
 // `why_text`; what the first line claims is true (`first_line_true`). This program reads, asks, and writes the lines
 // one after the other; examples/check_why.sh holds their order to the links of the example cards.
+#![tactic(auto)]
+
 mod asking; // asking.rt: what the planner answers of a card
 mod printing; // printing.rt: the lines of an answer
 

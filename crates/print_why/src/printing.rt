@@ -14,7 +14,7 @@ use why_text::{Line, MAX_LINE, first_line, outcome_total, write_line};
 use witness::state_by;
 
 // A plan as the planner shows it: its outcome, how many pairs of cuts there are, and the two buffers.
-#[derive(Drop)]
+#[derive(Clone, Copy)]
 pub struct Planned {
     pub outcome: Outcome,
     pub pairs: u32,

@@ -22,7 +22,7 @@ pub const BAN_GROUP: u32 = 8;
 pub const CLEAR_GROUP: u32 = 9;
 
 // The two vertices of a mark; or the tail of a group and the set of its heads; or a budget, in first.
-#[derive(Drop)]
+#[derive(Clone, Copy)]
 pub struct Call {
     pub kind: u32,
     pub first: u32,

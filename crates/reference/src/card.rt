@@ -13,7 +13,7 @@ use crate::refusals::{
 pub const CARD_ROOM: usize = 5200;
 
 // A card and its length in bytes.
-#[derive(Drop)]
+#[derive(Clone, Copy)]
 pub struct Card {
     pub bytes: [u8; CARD_ROOM],
     pub length: u32,
@@ -109,7 +109,7 @@ pub fn first(answer: u32, later: u32) -> u32 {
 }
 
 // What a card says: the answer, 0 where it opens, and then the instance, with 0 in the cells that can hold no arc.
-#[derive(Drop)]
+#[derive(Clone, Copy)]
 pub struct Reading {
     pub answer: u32,
     pub problem: Problem,

@@ -12,7 +12,7 @@ pub const WORD_ROOM: usize = 130;
 
 // "a feeder list, a total, a count of cuts and that many pairs of words", and how much of the list and of the words is
 // sent.
-#[derive(Drop)]
+#[derive(Clone, Copy)]
 pub struct Certificate {
     pub parents: [u8; PARENT_ROOM],
     pub total: u32,

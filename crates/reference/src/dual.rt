@@ -12,7 +12,7 @@ use crate::{certificate, shown};
 const HEADS: usize = MAX_VERTICES as usize;
 
 // What each arc still costs; after how many charges it came to cost nothing; and the pairs so far.
-#[derive(Drop)]
+#[derive(Clone, Copy)]
 struct Work {
     costs: [u32; CELLS],
     since: [u32; CELLS],

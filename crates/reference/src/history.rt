@@ -21,7 +21,7 @@ pub const HEADS: usize = MAX_VERTICES as usize;
 
 // The tail and the head of a link; or the tail of a group and the set of its heads; or a budget, in first. The replaced
 // mark of each head stands at that head's place, and 0 at every other.
-#[derive(Drop)]
+#[derive(Clone, Copy)]
 pub struct Record {
     pub kind: u32,
     pub first: u32,
@@ -128,7 +128,7 @@ pub fn restored(p: Problem, r: Record) -> Problem {
 }
 
 // Records, oldest first.
-#[derive(Drop)]
+#[derive(Clone, Copy)]
 pub struct History {
     pub count: u32,
     pub records: [Record; RECORDS],

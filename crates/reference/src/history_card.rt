@@ -157,7 +157,7 @@ fn record_at(card: &[u8], from: u32) -> Record {
 }
 
 // How far the records of a card were read: the refusal or 0, those read, and where the next one begins.
-#[derive(Drop)]
+#[derive(Clone, Copy)]
 struct Progress {
     answer: u32,
     at: u32,
@@ -235,7 +235,7 @@ fn start_answer(card: &[u8], n: u32) -> u32 {
 }
 
 // What a card with records says: the answer, 0 where it opens, and then the instance and the records.
-#[derive(Drop)]
+#[derive(Clone, Copy)]
 pub struct HistoryReading {
     pub answer: u32,
     pub problem: Problem,

@@ -105,7 +105,7 @@ pub fn nth_count(k: u32, g: Random) -> u32 {
 }
 
 // A bad record, on an instance that may lack the arc that it names.
-#[derive(Drop)]
+#[derive(Clone, Copy)]
 pub struct Bad {
     pub problem: Problem,
     pub bad: Record,

@@ -1,6 +1,8 @@
 // The reference that the test programs hold the planner to: written from documents 01 and 02 alone, in the plainest
 // way, with none of the planner's code or methods. The programs' own needs stand beside it: random numbers, counts,
 // scripts.
+#![tactic(auto)]
+
 pub mod access; // access.rt: small steps that ask nothing of their caller
 pub mod call; // call.rt: calls that change a board, and random ones
 pub mod card; // card.rt: cards, bit by bit

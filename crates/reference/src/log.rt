@@ -9,7 +9,7 @@ use crate::{call, group, history, problem};
 
 // The card, with its records, which "lie under the standing presses and set nothing"; and the effective commands,
 // oldest first.
-#[derive(Drop)]
+#[derive(Clone, Copy)]
 pub struct Log {
     pub card: Problem,
     pub below: History,
@@ -17,7 +17,7 @@ pub struct Log {
     pub calls: [Call; RECORDS],
 }
 
-#[derive(Drop)]
+#[derive(Clone, Copy)]
 pub struct Logged {
     pub answer: u32,
     pub log: Log,

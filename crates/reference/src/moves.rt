@@ -5,7 +5,7 @@ use crate::refusals::{BUFFER_SHORT, HAS_RECORDS};
 use crate::{card, history, history_card};
 
 // The answer to a move, 0 where there is room enough, and then the card that it gives.
-#[derive(Drop)]
+#[derive(Clone, Copy)]
 pub struct Moved {
     pub answer: u32,
     pub card: Card,

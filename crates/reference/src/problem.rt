@@ -9,7 +9,7 @@ pub const STRIDE: u32 = MAX_VERTICES;
 
 pub const CELLS: usize = (STRIDE * STRIDE) as usize;
 
-#[derive(Drop)]
+#[derive(Clone, Copy)]
 pub struct Problem {
     pub n: u32,
     pub root: u32,

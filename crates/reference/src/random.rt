@@ -1,5 +1,5 @@
 // Numbers that look random, the same in every run: Marsaglia's xorshift on 64 bits, by value.
-#[derive(Drop)]
+#[derive(Clone, Copy)]
 pub struct Random {
     pub state: u64,
 }

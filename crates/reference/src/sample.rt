@@ -7,7 +7,7 @@ use crate::random::Random;
 use crate::{problem, random};
 
 // How an instance is made: the kind of its weights, and of 64 cells how many are missing, pinned and banned.
-#[derive(Drop)]
+#[derive(Clone, Copy)]
 pub struct Mixture {
     pub weights: u32,
     pub missing: u32,
@@ -53,7 +53,7 @@ fn some_mark(g: Random, mix: Mixture) -> u8 {
 }
 
 // What a cell holds.
-#[derive(Drop)]
+#[derive(Clone, Copy)]
 struct Cell {
     weight: u32,
     mark: u8,

@@ -12,7 +12,7 @@ pub const SCRIPT_ROOM: usize = 16384;
 pub const NUMBERS: usize = 32;
 
 // What was read of a line: its numbers stand from place 1 on, those that it expects after the inputs.
-#[derive(Drop)]
+#[derive(Clone, Copy)]
 pub struct Line {
     pub first: u8,
     pub inputs: u32,

@@ -14,7 +14,7 @@ pub const REPORTED: u32 = 2;
 
 pub const OWN: u32 = 3;
 
-#[derive(Drop)]
+#[derive(Clone, Copy)]
 pub struct Tally {
     pub counts: [u32; COUNTS],
 }

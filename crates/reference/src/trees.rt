@@ -19,7 +19,7 @@ pub const TOTALS: usize = 2 * ARCS as usize;
 // How many trees there are, the total of the cheapest, the first and the last of the cheapest, and for each arc the
 // cheapest total of a tree that uses it and of one that does not (at place). ABSENT, and 255 everywhere, where there is
 // none.
-#[derive(Drop)]
+#[derive(Clone, Copy)]
 pub struct Listing {
     pub trees: u32,
     pub cheapest: u32,

@@ -26,7 +26,7 @@ const STEPS: u32 = 2 * MAX_TRIES + 2;
 // The refusal or 0; how the walk ended, how many trees stand in the buffer, in how many bytes, after how many tries.
 // And the beginning that it is at: how many positions beside the root are settled, and their feeders. The other
 // positions have none, but the next one has the feeder that was tried last, if it was.
-#[derive(Drop)]
+#[derive(Clone, Copy)]
 pub struct Walk {
     pub answer: u32,
     pub ended: u32,

@@ -5,7 +5,7 @@ use crate::{numerals, places};
 
 // Where a line begins, where its first two spaces stand and where its line feed does. What it lacks of them stands at
 // its end, which is that of the text if it has no line feed.
-#[derive(Drop)]
+#[derive(Clone, Copy)]
 pub struct Line {
     pub from: usize,
     pub first: usize,

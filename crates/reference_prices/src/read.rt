@@ -4,7 +4,7 @@ use crate::refusals::{BUFFER_SHORT, NO_ARC};
 use crate::{line, places, refusals};
 
 // The answer; of a faulty line also which it is, from 1, and otherwise 0.
-#[derive(Drop)]
+#[derive(Clone, Copy)]
 pub struct Reading {
     pub answer: u32,
     pub line: usize,

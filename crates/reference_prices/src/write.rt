@@ -8,7 +8,7 @@ use crate::{places, refusals};
 pub const TEXT_ROOM: usize = 14336;
 
 // The answer, and the length of the text, which is 0 with a refusal.
-#[derive(Drop)]
+#[derive(Clone, Copy)]
 pub struct Writing {
     pub answer: u32,
     pub length: usize,

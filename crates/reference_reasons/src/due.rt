@@ -22,7 +22,7 @@ pub const REFUSED: u32 = 3;
 // The kind; the number of a refusal, else 0; the rival, and the place of who set the mark; the kind of outcome, and its
 // total, ABSENT where there is no tree; and the first and the last of the cheapest trees, where they are listed. What a
 // kind does not have is 0.
-#[derive(Drop)]
+#[derive(Clone, Copy)]
 pub struct Due {
     pub kind: u32,
     pub answer: u32,

@@ -1,5 +1,6 @@
 // The row of prices that is used for a feeder, from document 02, A12, alone: every place of a list is asked whose row
 // it is in, and the row's numbers are counted by what they are.
+#![tactic(auto)]
 
 pub const BAD_COUNT: u32 = 29; // "in order 29"
 
@@ -13,7 +14,7 @@ pub const BAD_NUMBER: u32 = 30; // "30 if the chosen row has a number that is ne
 pub const NO_LINK: u32 = 1048575;
 
 // The refusal or 0; the part that is handed back: of which list, from which place on, and how many numbers.
-#[derive(Drop)]
+#[derive(Clone, Copy)]
 pub struct RowPart {
     pub answer: u32,
     pub is_school: bool,

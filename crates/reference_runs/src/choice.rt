@@ -12,7 +12,7 @@ pub const NONE: u32 = 4294967295;
 // The components that the taken edges make, as labels of the vertices, two of which are connected where they have the
 // same; how many edges there are, and their total; and whether something was taken that may not be, or left that may
 // not be.
-#[derive(Drop)]
+#[derive(Clone, Copy)]
 pub struct Choice {
     pub labels: [u32; VERTICES],
     pub count: u32,

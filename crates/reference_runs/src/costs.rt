@@ -23,7 +23,7 @@ pub const SURE: u8 = 3;
 
 // The least total or NONE, and what the first n times n places of the buffers hold: every run has its replacement cost,
 // whether or not the tree uses it.
-#[derive(Drop)]
+#[derive(Clone, Copy)]
 pub struct Costs {
     pub least: u32,
     pub states: [u8; CELLS],

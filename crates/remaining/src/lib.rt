@@ -1,5 +1,7 @@
 // The matrix of the remaining arcs. Two passes: the pins into each head are summed up once, then each cell is judged by
 // itself.
+#![tactic(auto)]
+
 pub mod pins; // pins.rt: the pins into each head
 
 ghost use Rattle.std.specs.Prelude.{◌≡◌, ◌&&◌, not, cond, ◌≤◌, eqb, length};

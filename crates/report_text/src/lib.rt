@@ -2,6 +2,8 @@
 //
 // As in the crate `text`, a function `put_..` writes one piece from the place `at` on and returns the place after it;
 // it requires that there is room.
+#![tactic(auto)]
+
 mod feeds; // feeds.rt: the feed lines
 mod heading; // heading.rt: the first two lines
 mod rows; // rows.rt: the rows of states

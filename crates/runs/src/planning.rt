@@ -15,7 +15,7 @@ use prim::keys::key_table;
 use prim::tree::{cheapest_tree, total_of};
 
 // The outcome, or the number of a refusal.
-#[derive(Drop)]
+#[derive(Clone, Copy)]
 pub enum RunsView {
     Shown(Outcome),
     Refused(u32),

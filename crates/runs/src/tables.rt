@@ -8,7 +8,7 @@ ghost use Rattle.runs.specs.Tables.{Tree, is_done, is_ready, Readied, ExtendsBel
 use instance::limits::{CELLS, VERTICES};
 
 // 1 in the row of v at its descendants; the greatest key between any two.
-#[derive(Drop)]
+#[derive(Clone, Copy)]
 pub struct Tables {
     pub below: [u8; CELLS],
     pub between: [u32; CELLS],

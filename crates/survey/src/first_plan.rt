@@ -15,7 +15,7 @@ use instance::limits::{CELLS, CUT_WORDS, NO_PARENT, VERTICES};
 use instance::{Outcome, Vertex};
 
 // The outcome, the parents of the first tree, the number of cuts, and the cuts as pairs of words.
-#[derive(Drop)]
+#[derive(Clone, Copy)]
 pub struct FirstPlan {
     pub outcome: Outcome,
     pub parents: [u8; VERTICES],

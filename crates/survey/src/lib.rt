@@ -1,6 +1,8 @@
 // Planning an instance: its remaining arcs, a minimum weight arborescence with the cuts that prove its total, the first
 // such arborescence, and the arcs that some arborescence uses within the larger of the budget and the cheapest total.
 // No card and no board can be seen from here.
+#![tactic(auto)]
+
 pub mod first_plan; // first_plan.rt: outcome, first tree and cuts of a matrix
 
 ghost use Rattle.std.specs.Prelude.{◌≡◌, true, length};
@@ -18,7 +20,7 @@ use remaining::remaining_matrix;
 use usable::usable_arcs;
 
 // What planning found: the plan, and 1 at each arc that some arborescence within the limit uses.
-#[derive(Drop)]
+#[derive(Clone, Copy)]
 pub struct Survey {
     pub plan: FirstPlan,
     pub used: [u8; CELLS],

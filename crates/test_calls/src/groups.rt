@@ -115,7 +115,7 @@ fn tried_accepted(
 }
 
 // A board that groups are pressed on one after the other, and what was counted on the way.
-#[derive(Drop)]
+#[derive(Clone, Copy)]
 struct Progress {
     board: Board,
     tally: Tally,

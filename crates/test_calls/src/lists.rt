@@ -31,7 +31,7 @@ const RECORDS_BACK: u32 = 11;
 const ANSWERS: u32 = 12;
 
 // Where a list has come to, and what was counted on the way.
-#[derive(Drop)]
+#[derive(Clone, Copy)]
 struct Progress {
     session: Session,
     tally: Tally,

@@ -1,5 +1,7 @@
 // Calls: random lists of them against the log, one by one and handed over whole; group presses against single ones, and
 // taken back; the same presses in another order; calls on damaged boards; on damaged cards.
+#![tactic(auto)]
+
 mod boards; // boards.rt: damaged boards
 mod cards; // cards.rt: random and damaged cards
 mod groups; // groups.rt: group presses against single ones

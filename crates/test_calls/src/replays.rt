@@ -78,7 +78,7 @@ fn with_other_call(list: Calls, at: u32) -> Calls {
 }
 
 // The log after a part of a list, and whether every answer was the log's; looks and writes answer 0.
-#[derive(Drop)]
+#[derive(Clone, Copy)]
 struct Reading {
     log: Log,
     right: bool,

@@ -8,7 +8,7 @@ use reference::refusals::{NO_SUCH_ARC, NO_VERTEX};
 use reference::{access, call, random, shown};
 
 // The board after single presses, and how many there were, how many of them accepted and how many refused with 9.
-#[derive(Drop)]
+#[derive(Clone, Copy)]
 pub struct Singles {
     pub board: Board,
     pub pressed: u32,

@@ -1,5 +1,7 @@
 // Instances, and what a look at them shows: the documents' own cases, random small ones against the listing of all
 // their trees, and large ones by the documents' conditions.
+#![tactic(auto)]
+
 mod buffer_lines; // buffer_lines.rt: lines of the script on cards, lent buffers and plans
 mod exact; // exact.rt: states of a large instance
 mod first; // first.rt: the first cheapest tree of a large instance

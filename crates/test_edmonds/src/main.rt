@@ -1,6 +1,7 @@
 // Plans four instances with root 0 and prints a line for each: document 01's sheet Q, cycles nested as deep as 32
 // vertices allow, entered once at the innermost and once at the outermost vertex, and the same cycles with no arc from
 // the root. The tree's weights are added here, and printed beside the total that comes with the plan.
+#![tactic(auto)]
 
 ghost use Rattle.std.specs.Prelude.{◌≡◌, ◌≤◌, ◌<◌, length};
 ghost use Rattle.instance.specs.Limits.{max_vertices, cells};

@@ -4,7 +4,7 @@ use reference::history::History;
 use reference::problem::{MAX_VERTICES, Problem};
 use reference::{card, history_card, history_sample, random, sample};
 
-#[derive(Drop)]
+#[derive(Clone, Copy)]
 pub struct Sample {
     pub problem: Problem,
     pub history: History,

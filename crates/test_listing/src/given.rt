@@ -9,7 +9,7 @@ use reference::{trees, walk};
 pub const ROOM: usize = 2048;
 
 // The answer, 0 where there was no refusal; how the walk ended, the numbers of trees and tries; and the buffer.
-#[derive(Drop)]
+#[derive(Clone, Copy)]
 pub struct Given {
     pub answer: u32,
     pub ended: u32,

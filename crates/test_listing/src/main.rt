@@ -1,5 +1,7 @@
 // All plans of a board, listed in a lent buffer (document 02, A7), beside the reference's walk: result and buffer, and
 // what the comparison says of results with a fault planted. The walk is held to the listing of all choices of feeders.
+#![tactic(auto)]
+
 mod cases; // cases.rt: the documents' own cases, small sheets, refusals
 mod faults; // faults.rt: the comparison, and results with a fault planted
 mod given; // given.rt: what a listing gave

@@ -11,7 +11,7 @@ use reference::problem::Problem;
 use reference::{access, call, log};
 
 // The log after a part of a list, up to the first refused call: how many were accepted, and the refusal or 0.
-#[derive(Drop)]
+#[derive(Clone, Copy)]
 pub struct LogResult {
     pub applied: u32,
     pub answer: u32,
@@ -47,7 +47,7 @@ fn by_log(start: Log, list: List, from: u32, count: u32) -> LogResult {
 
 // The board after single calls, up to the first refused one, and the one before the last accepted one; how many were
 // accepted, how many of these were take-backs and groups, and the refusal or 0.
-#[derive(Drop)]
+#[derive(Clone, Copy)]
 pub struct Singles {
     pub board: Board,
     pub before: Board,
@@ -96,7 +96,7 @@ fn singly(b: Board, list: List, from: u32, count: u32) -> Singles {
 }
 
 // Both, and the card's instance under what the log says then.
-#[derive(Drop)]
+#[derive(Clone, Copy)]
 pub struct Due {
     pub singles: Singles,
     pub by_log: LogResult,

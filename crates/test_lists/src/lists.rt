@@ -11,7 +11,7 @@ use reference::{access, call};
 pub const PERIOD: usize = 400;
 
 // The calls of a period, and one that stands at a place of its own.
-#[derive(Drop)]
+#[derive(Clone, Copy)]
 pub struct List {
     pub calls: [Call; PERIOD],
     pub other_at: u32,

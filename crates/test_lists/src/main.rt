@@ -1,5 +1,7 @@
 // Lists of presses lent to the planner: random ones in pieces, lists on damaged boards, and the longest ones, each held
 // to the log and to the same presses made singly.
+#![tactic(auto)]
+
 mod compared; // compared.rt: a result held to what is due
 mod damaged; // damaged.rt: lists on damaged boards
 mod dues; // dues.rt: what is due for a part of a list

@@ -16,7 +16,7 @@ pub fn nth_seed(k: u32) -> u32 {
 }
 
 // How a list is made.
-#[derive(Drop)]
+#[derive(Clone, Copy)]
 pub struct Style {
     pub presses: u32, // so many calls at the start are presses, all of them accepted
     pub back: u32, // of 16 calls after them so many are take-backs

@@ -40,7 +40,7 @@ const PIECES: u32 = 500;
 const CROWD: u32 = 190;
 
 // Where a list has come to, and what was counted on the way.
-#[derive(Drop)]
+#[derive(Clone, Copy)]
 struct Progress {
     session: Session,
     tally: Tally,

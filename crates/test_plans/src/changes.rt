@@ -9,7 +9,7 @@ use reference::shown::{NO_PARENT, PAIRS};
 use reference::{access, certificate, random, shown};
 
 // The plan, its number, and whether there was something to change.
-#[derive(Drop)]
+#[derive(Clone, Copy)]
 pub struct Change {
     pub certificate: Certificate,
     pub answer: u32,

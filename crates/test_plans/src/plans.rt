@@ -48,7 +48,7 @@ fn place_of(answer: u32) -> u32 {
 }
 
 // What the planner's check answers to a plan, and what the reference does.
-#[derive(Drop)]
+#[derive(Clone, Copy)]
 struct Replies {
     planner: u32,
     reference: u32,

@@ -1,5 +1,7 @@
 // Price lists as text (document 02, A3), read and written by the product, beside the reference's reader and writer:
 // answers, lines, lengths and whole buffers, and what the comparison says of results with a fault planted.
+#![tactic(auto)]
+
 mod buffers; // buffers.rt: the buffers that are lent
 mod cases; // cases.rt: the documents' own cases, and texts that are easily read wrong
 mod counts; // counts.rt: what is counted

@@ -11,7 +11,7 @@ pub const ROOM: usize = 16384;
 
 pub const CELLS: usize = 1024;
 
-#[derive(Drop)]
+#[derive(Clone, Copy)]
 pub struct Text {
     pub bytes: [u8; ROOM],
     pub length: usize,

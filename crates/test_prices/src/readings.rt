@@ -8,7 +8,7 @@ use reference::{access, tally};
 use reference_prices::{places, read};
 
 // The answer, the faulty line or 0, and the buffer.
-#[derive(Drop)]
+#[derive(Clone, Copy)]
 pub struct Reading {
     pub answer: u32,
     pub line: usize,

@@ -8,7 +8,7 @@ use reference::{access, tally};
 use reference_prices::{places, write};
 
 // The answer, the length of the text or 0, and the buffer.
-#[derive(Drop)]
+#[derive(Clone, Copy)]
 pub struct Writing {
     pub answer: u32,
     pub length: usize,

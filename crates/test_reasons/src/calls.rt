@@ -10,7 +10,7 @@ use reference_reasons::due;
 
 // What a call gave, with the reference's kinds; 0 for what a kind does not have, and ABSENT for the total where there
 // is no tree. Then the number of pairs, and the buffers.
-#[derive(Drop)]
+#[derive(Clone, Copy)]
 pub struct Given {
     pub kind: u32,
     pub answer: u32,
@@ -24,7 +24,7 @@ pub struct Given {
 }
 
 // Both calls on the same board and pair.
-#[derive(Drop)]
+#[derive(Clone, Copy)]
 pub struct Results {
     pub why: Given,
     pub without: Given,

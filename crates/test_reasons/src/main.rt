@@ -1,6 +1,8 @@
 // Why a link is closed, open or sure: both calls beside the reference, on the documents' sheets with results worked out
 // by hand, on small boards with every tree listed, on large boards, and where they are refused; and what the comparison
 // says of results with a fault planted.
+#![tactic(auto)]
+
 mod asked; // asked.rt: both calls on one arc, and the state that they say
 mod calls; // calls.rt: the two calls, and what they gave
 mod cases; // cases.rt: results worked out by hand, on standard input

@@ -36,7 +36,7 @@ fn count_of(answer: u32) -> u32 {
 }
 
 // A question: the two positions, and how much is lent of the buffers.
-#[derive(Drop)]
+#[derive(Clone, Copy)]
 struct Question {
     tail: u32,
     head: u32,

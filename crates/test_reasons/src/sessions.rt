@@ -23,7 +23,7 @@ const GROUPS: u32 = 7;
 const RECORDS_BACK: u32 = 8;
 
 // Where the calls have come to.
-#[derive(Drop)]
+#[derive(Clone, Copy)]
 pub struct Progress {
     pub session: Session,
     pub tally: Tally,

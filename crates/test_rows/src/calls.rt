@@ -11,7 +11,7 @@ pub const ROOM: usize = 1100;
 // More than a row has.
 pub const ROW_ROOM: usize = 40;
 
-#[derive(Drop)]
+#[derive(Clone, Copy)]
 pub struct Call {
     pub n: u32,
     pub tail: u32,
@@ -22,7 +22,7 @@ pub struct Call {
 }
 
 // The answer, the row's length and its numbers.
-#[derive(Drop)]
+#[derive(Clone, Copy)]
 pub struct Shown {
     pub answer: u32,
     pub length: usize,

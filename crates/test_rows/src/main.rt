@@ -1,5 +1,7 @@
 // The school's own prices first (document 02, A12): the product's call beside the reference, answers and rows; and what
 // the comparison says of results with a fault planted.
+#![tactic(auto)]
+
 mod calls; // calls.rt: a call, what it gave and what it should give
 mod cases; // cases.rt: rows written out, on standard input
 mod draws; // draws.rt: random calls

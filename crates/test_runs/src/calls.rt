@@ -9,7 +9,7 @@ use reference_runs::costs::{CELLS, Costs};
 use reference_runs::{answers, costs, places};
 use runs::RunsView;
 
-#[derive(Drop)]
+#[derive(Clone, Copy)]
 pub struct Call {
     pub n: u32,
     pub budget: u32,
@@ -32,7 +32,7 @@ pub const REFUSED: u32 = 3;
 
 // The refusal or 0; the outcome with its total or 0; and the buffers. In what should be given every run has its
 // replacement cost, whether or not the tree uses it.
-#[derive(Drop)]
+#[derive(Clone, Copy)]
 pub struct Shown {
     pub answer: u32,
     pub outcome: u32,

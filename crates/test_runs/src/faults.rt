@@ -67,7 +67,7 @@ fn find_run(s: Shown, c: Call, is_inside: bool, weight: u32) -> u32 {
 }
 
 // How many cells a result fills, and the runs that its faults are planted at.
-#[derive(Drop)]
+#[derive(Clone, Copy)]
 struct Runs {
     all: u32,
     inside: u32,

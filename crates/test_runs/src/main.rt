@@ -1,6 +1,8 @@
 // Passive runs (document 02, A11): the product's call beside the reference, which lists all spanning trees of a small
 // graph and plans a large one in another way. Answers, outcomes, whole buffers, the tree that was chosen; and what the
 // comparison says of results with a fault planted.
+#![tactic(auto)]
+
 mod buffers; // buffers.rt: parts of lists and buffers
 mod calls; // calls.rt: a call, what it gave and what it should give
 mod cases; // cases.rt: graphs and refusals whose results are written out, on standard input

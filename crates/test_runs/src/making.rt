@@ -8,7 +8,7 @@ use reference_runs::answers::{BANNED, FREE, NO_RUN, PINNED};
 use reference_runs::{kruskal, places};
 
 // How a graph is made: the kind of its weights, of 256 runs how many are missing, pinned and banned, and its shape.
-#[derive(Drop)]
+#[derive(Clone, Copy)]
 struct Mixture {
     weights: u32,
     missing: u32,

@@ -1,6 +1,8 @@
 // The arcs of a matrix that some arborescence within a limit uses. Each arc is judged once; most are settled by a tree
 // that is known already, by their reduced costs or by an exchange of arcs, and only the rest is planned. Every tree
 // that is found settles all its arcs.
+#![tactic(auto)]
+
 pub mod forced; // forced.rt: the cheapest tree that uses an arc, by planning
 mod judge; // judge.rt: whether an arc is usable
 mod table; // table.rt: a tree's arcs in a table

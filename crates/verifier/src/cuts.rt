@@ -46,7 +46,7 @@ pub fn are_cuts(cuts: &[u32], n: u32, root: u32, count: u32) -> bool
 }
 
 // Some of the cuts, as pairs from the front on.
-#[derive(Drop)]
+#[derive(Clone, Copy)]
 struct Selected {
     words: [u32; CUT_WORDS],
     count: u32,

@@ -1,5 +1,7 @@
 // A plan made elsewhere, judged: its tree, its total, and the cuts that are to prove that no tree is cheaper. Nothing
 // is planned: cuts that overcharge no arc and add to the total prove it by themselves, whoever found them.
+#![tactic(auto)]
+
 mod cuts; // cuts.rt: the cuts, and what they charge
 mod tree; // tree.rt: the tree and its total
 

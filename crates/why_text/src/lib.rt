@@ -3,6 +3,8 @@
 // As in the crate `text`, a function `put_..` writes one piece from the place `at` on and returns the place after it;
 // it requires that there is room. One buffer of MAX_LINE bytes has room for each line (proofs/LengthLaws.antt), so that
 // none is made for all of them.
+#![tactic(auto)]
+
 mod cut; // cut.rt: the line of a cut
 mod endings; // endings.rt: how a first line ends: who set a mark, and what the budget is
 mod grouped; // grouped.rt: numbers with commas

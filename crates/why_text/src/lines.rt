@@ -17,7 +17,7 @@ pub const MAX_LINE: usize = 145;
 
 // A line. The first is one of Banned, Rival, Excluded, ExcludedNone, Optional, Mandatory and MandatoryNone, or a
 // refusal alone; the others tell the trees and the cuts that prove it.
-#[derive(Drop)]
+#[derive(Clone, Copy)]
 pub enum Line {
     // banned: by the recorded press at this place, from 1, of so many; 0 for none
     Banned {

@@ -1,5 +1,7 @@
 // What proves the state of an arc: the pinned arc that keeps it out; the plan with this arc as the only one into its
 // head; the plan without it. No card and no board can be seen from here.
+#![tactic(auto)]
+
 ghost use Rattle.std.specs.Prelude.{◌≡◌, true, ◌≤◌, ◌<◌, length};
 ghost use Rattle.instance.specs.Limits.{max_vertices, cells};
 ghost use Rattle.instance.specs.Instance.{instance_with, without_budget};
