@@ -2,7 +2,7 @@
 # first, every refusal in words, and how ./prices is called.
 
 # PRICE LISTS: into cards and back. The programs are up to date, so that an rt that does nothing will do, and each of
-# the many starts takes no second.
+# the many starts takes less.
 mkdir "$room/quiet"
 ln -s "$(type -P true)" "$room/quiet/rt"
 PATH=$room/quiet:$PATH

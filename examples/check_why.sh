@@ -1,7 +1,7 @@
 # Sourced by examples/check, with its functions and its $room: why a link is closed, open or sure. The texts of why/,
 # the links of the cards, judged by check_why.awk, every refusal in words, and how ./why is called.
 
-# The program is up to date, so that an rt that does nothing will do, and each of the many starts takes no second.
+# The program is up to date, so that an rt that does nothing will do, and each of the many starts takes less.
 mkdir -p "$room/quiet"
 ln -sf "$(type -P true)" "$room/quiet/rt"
 PATH=$room/quiet:$PATH
