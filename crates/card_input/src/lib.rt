@@ -1,9 +1,15 @@
-// Standard input, or what a descriptor has, read into a buffer, for the programs that read cards and price lists.
+// Standard input, or any other reader, read into a buffer, for the programs that read cards and price lists.
 #![tactic(auto)]
 
-ghost use Rattle.std.specs.Prelude.{◌≤◌, length};
+ghost use Rattle.std.specs.Prelude.{◌≡◌, false, ◌≤◌, ◌<◌, length, take};
+ghost use Rattle.std.specs.Io.KnownBytes.{Consumes, IsAtEnd};
 
-use libc::STDIN_FILENO;
+use std::io::Read;
+
+// Standard output and standard error, by the numbers that `io` takes.
+pub const STDOUT: i32 = 1;
+
+pub const STDERR: i32 = 2;
 
 // What was read: how many bytes, and whether a read failed.
 #[derive(Clone, Copy)]
@@ -12,21 +18,22 @@ pub struct Input {
     pub length: usize,
 }
 
-// Reads what a descriptor has until the buffer is full or the input ends, in whatever pieces it comes. A failed read is
-// told apart from the input's end.
-pub fn read_from(fd: i32, buf: &mut [u8]) -> Input
-    ensures { result.length ≤ length buf.new }
+// Reads until the buffer is full or the input ends, in whatever pieces it comes. A failed read is told apart from the
+// input's end. Of a reader whose bytes are known, what it loses stands in the buffer; it has none left where the buffer
+// is not full, unless a read failed.
+pub fn read_from<R: Read>(input: &mut R, buf: &mut [u8]) -> Input
+    ensures bound { result.length ≤ length buf.new }
+    ensures bytes { Consumes (R.remaining input.old) (R.remaining input.new) (take result.length buf.new) }
+    ensures end { result.failed ≡ false → result.length < length buf.new → IsAtEnd (R.remaining input.new) }
 {
     let mut done = 0;
     while done < buf.len() {
-        let got = libc::read(fd, &mut buf[done..]);
-        if got < 0 {
+        let Ok(more) = input.read(&mut buf[done..]) else {
             return Input {
                 failed: true,
                 length: done,
             };
-        }
-        let more = io::count(got, &buf[done..]);
+        };
         if more == 0 {
             break;
         }
@@ -38,8 +45,8 @@ pub fn read_from(fd: i32, buf: &mut [u8]) -> Input
     }
 }
 
-pub fn read_input(buf: &mut [u8]) -> Input
+pub fn read_input(rt: &HostRuntime, buf: &mut [u8]) -> Input
     ensures { result.length ≤ length buf.new }
 {
-    read_from(STDIN_FILENO, buf)
+    read_from(&mut rt.stdin(), buf)
 }

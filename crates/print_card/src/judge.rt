@@ -1,5 +1,5 @@
 // A price list of which only the beginning was read. No accepted list has more than MAX_LIST bytes, so of a longer
-// input the whole lines at its beginning are judged: what refuses them refuses all of it (part-decides in
+// input the whole lines at its beginning are judged: what refuses them refuses all of it (part_decides in
 // proofs/PartLaws.antt). If they are accepted, the line behind them is longer than any line of a list.
 ghost use Rattle.std.specs.Prelude.{◌≡◌, cond, ◌+◌, ◌≤◌, eqb, length};
 ghost use Rattle.text.specs.Lines.{line_feed};

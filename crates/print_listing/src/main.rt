@@ -9,15 +9,14 @@ ghost use Rattle.instance.specs.Matrix.{Weights};
 ghost use Rattle.print_listing.specs.Boards.{AsOpened};
 
 use board::{Answered, Board};
-use card_input::read_input;
+use card_input::{STDERR, STDOUT, read_input};
 use enumeration::Ended;
 use instance::limits::{CELLS, MAX_TRIES};
-use libc::{STDERR_FILENO, STDOUT_FILENO};
 use listing_text::{MAX_LINE, put_heading, put_tree};
 use planner::{Listing, MAX_HISTORY_CARD, list_plans, open_card};
 use report_text::write_refusal;
 
-// One byte more than the longest card of either kind: what follows does not matter (long-by-part in
+// One byte more than the longest card of either kind: what follows does not matter (long_by_part in
 // history_format/proofs/LongHistory.antt).
 const MAX_INPUT: usize = MAX_HISTORY_CARD + 1;
 
@@ -28,7 +27,7 @@ const MAX_TREES: usize = 16_384;
 fn print_refusal(answer: u32) -> bool {
     let mut line = [0u8; MAX_LINE];
     let end = write_refusal(answer, &mut line);
-    io::write_all(STDOUT_FILENO, &line[..end])
+    io::write_all(STDOUT, &line[..end])
 }
 
 // The first two lines.
@@ -37,7 +36,7 @@ fn print_heading(n: u32, root: u32, budget: u32, ended: Ended, trees: u32, tries
 {
     let mut lines = [0u8; MAX_LINE];
     let end = put_heading(n, root, budget, ended, trees, tries, &mut lines, 0);
-    io::write_all(STDOUT_FILENO, &lines[..end])
+    io::write_all(STDOUT, &lines[..end])
 }
 
 // The line of one tree.
@@ -46,7 +45,7 @@ fn print_tree(weights: &[u32; CELLS], parents: &[u8], n: u32, root: u32) -> bool
 {
     let mut line = [0u8; MAX_LINE];
     let end = put_tree(weights, parents, n, root, &mut line, 0);
-    io::write_all(STDOUT_FILENO, &line[..end])
+    io::write_all(STDOUT, &line[..end])
 }
 
 // The lines of trees that stand one after the other, n bytes each.
@@ -101,30 +100,24 @@ fn print_card(opened: Answered) -> bool
 
 // Reads a card and opens it; says whether reading failed. The card is let go here, before trees take its place on the
 // stack.
-fn open_input(failed: &mut bool) -> Answered
+fn open_input(rt: &HostRuntime, failed: &mut bool) -> Answered
     ensures { result.answer ≡ 0 → AsOpened result.board }
 {
     let mut card = [0u8; MAX_INPUT];
-    let input = read_input(&mut card);
+    let input = read_input(rt, &mut card);
     *failed = input.failed;
     let length = input.length;
     open_card(&card[..length])
 }
 
-fn main() {
+fn main(rt: HostRuntime) {
     let mut failed = false;
-    let opened = open_input(&mut failed);
+    let opened = open_input(&rt, &mut failed);
     if failed {
-        io::write_all(
-            STDERR_FILENO,
-            b"print_listing: cannot read standard input\n",
-        );
+        io::write_all(STDERR, b"print_listing: cannot read standard input\n");
         return;
     }
     if !print_card(opened) {
-        io::write_all(
-            STDERR_FILENO,
-            b"print_listing: cannot write standard output\n",
-        );
+        io::write_all(STDERR, b"print_listing: cannot write standard output\n");
     }
 }

@@ -5,38 +5,41 @@
 // too. The merged list is proved in `price_merge`; this program only reads and writes.
 #![tactic(auto)]
 
-use arguments::number_at;
-use card_input::{read_from, read_input};
+use arguments::{argument_count, number_at};
+use card_input::{STDERR, STDOUT, read_from, read_input};
 use instance::Vertex;
-use libc::{STDERR_FILENO, STDOUT_FILENO};
 use price_list::MAX_LIST;
 use price_merge::{ListsMerged, merge_lists};
+use std::fs::File;
+use std::rt::Env;
+use std::str::from_utf8;
 
 // One byte more than the longest list, which says that there is more.
 const MAX_INPUT: usize = MAX_LIST + 1;
 
 fn say(text: &[u8]) {
-    io::write_all(STDERR_FILENO, text);
+    io::write_all(STDERR, text);
 }
 
 fn say_refusal(merged: ListsMerged) {
     say(b"refused ");
-    io::print_decimal(STDERR_FILENO, merged.answer as u64);
+    io::print_decimal(STDERR, merged.answer as u64);
     if merged.line != 0 {
         say(b" list ");
-        io::print_decimal(STDERR_FILENO, merged.list as u64);
+        io::print_decimal(STDERR, merged.list as u64);
         say(b" line ");
-        io::print_decimal(STDERR_FILENO, merged.line as u64);
+        io::print_decimal(STDERR, merged.line as u64);
     }
     say(b"\n");
 }
 
-// A descriptor of the file that an argument names, or -1. The name is let go here, before the lists take its place on
-// the stack.
-fn open_at(i: usize) -> i32 {
+// The file that an argument names, where it can be opened; a name that is no UTF-8 cannot. The name is let go here,
+// before the lists take its place on the stack.
+fn open_at(rt: &HostRuntime, i: usize) -> Option<File> {
     let mut path = io::buffer();
-    let length = os::arg(i, &mut path);
-    os::open_read(&path[..length])
+    let length = rt.arg(i, &mut path).ok()?;
+    let name = from_utf8(&path[..length]).ok()?;
+    File::open(rt, name).ok()
 }
 
 // The list of the rows that are used.
@@ -48,16 +51,16 @@ fn print_merged(school: &[u8], shipped: &[u8], n: u32, root: u32) {
         return;
     }
     let end = merged.length;
-    if !io::write_all(STDOUT_FILENO, &list[..end]) {
+    if !io::write_all(STDOUT, &list[..end]) {
         say(b"print_merged: cannot write standard output\n");
     }
 }
 
-fn read_both(fd: i32, n: u32, root: u32) {
+fn read_both(rt: &HostRuntime, mut file: File, n: u32, root: u32) {
     let mut school = [0u8; MAX_INPUT];
     let mut shipped = [0u8; MAX_INPUT];
-    let own = read_from(fd, &mut school);
-    let other = read_input(&mut shipped);
+    let own = read_from(&mut file, &mut school);
+    let other = read_input(rt, &mut shipped);
     if own.failed || other.failed {
         say(b"print_merged: cannot read a list\n");
         return;
@@ -71,21 +74,20 @@ fn read_both(fd: i32, n: u32, root: u32) {
     print_merged(&school[..first], &shipped[..second], n, root);
 }
 
-fn main() {
-    if os::arg_count() != 4 {
+fn main(rt: HostRuntime) {
+    if argument_count(&rt) != 4 {
         say(b"print_merged: usage: print_merged POSITIONS ROOT OWN-LIST < list > merged-list\n");
         return;
     }
-    let n = number_at(1);
-    let root = number_at(2);
+    let n = number_at(&rt, 1);
+    let root = number_at(&rt, 2);
     if !n.good || !root.good {
         say(b"print_merged: POSITIONS and ROOT are numbers of at most 64 digits\n");
         return;
     }
-    let fd = open_at(3);
-    if fd < 0 {
+    let Some(file) = open_at(&rt, 3) else {
         say(b"print_merged: the school's own list cannot be opened\n");
         return;
-    }
-    read_both(fd, n.value, root.value);
+    };
+    read_both(&rt, file, n.value, root.value);
 }

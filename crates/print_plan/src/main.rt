@@ -3,26 +3,25 @@
 // only reads and writes.
 #![tactic(auto)]
 
-use card_input::read_input;
-use libc::{STDERR_FILENO, STDOUT_FILENO};
+use card_input::{STDERR, STDOUT, read_input};
 use report::{MAX_HISTORY_CARD, MAX_TEXT, report};
 
-// One byte more than the longest card of either kind: what follows does not matter (first-bytes-enough in
+// One byte more than the longest card of either kind: what follows does not matter (first_bytes_enough in
 // report/proofs/LongCards.antt).
 const MAX_INPUT: usize = MAX_HISTORY_CARD + 1;
 
-fn main() {
+fn main(rt: HostRuntime) {
     let mut card = [0u8; MAX_INPUT];
-    let input = read_input(&mut card);
+    let input = read_input(&rt, &mut card);
     if input.failed {
-        io::write_all(STDERR_FILENO, b"print_plan: cannot read standard input\n");
+        io::write_all(STDERR, b"print_plan: cannot read standard input\n");
         return;
     }
     let length = input.length;
     let mut text = [0u8; MAX_TEXT];
     let reported = report(&card[..length], &mut text);
     let end = reported.length;
-    if !io::write_all(STDOUT_FILENO, &text[..end]) {
-        io::write_all(STDERR_FILENO, b"print_plan: cannot write standard output\n");
+    if !io::write_all(STDOUT, &text[..end]) {
+        io::write_all(STDERR, b"print_plan: cannot write standard output\n");
     }
 }

@@ -5,13 +5,12 @@
 // writes.
 #![tactic(auto)]
 
-use card_input::read_input;
-use libc::{STDERR_FILENO, STDOUT_FILENO};
+use card_input::{STDERR, STDOUT, read_input};
 use planner::MAX_HISTORY_CARD;
 use price_card::{CardWeights, MAX_LIST, list_weights, weights_on_card};
 use report_text::put_header;
 
-// One byte more than the longest card of either kind: what follows does not matter (long-by-part in
+// One byte more than the longest card of either kind: what follows does not matter (long_by_part in
 // history_format/proofs/LongHistory.antt).
 const MAX_INPUT: usize = MAX_HISTORY_CARD + 1;
 
@@ -19,18 +18,18 @@ const MAX_INPUT: usize = MAX_HISTORY_CARD + 1;
 const MAX_LINE: usize = 64;
 
 fn say_refusal(answer: u32) {
-    io::write_all(STDERR_FILENO, b"refused ");
-    io::print_decimal(STDERR_FILENO, answer as u64);
-    io::write_all(STDERR_FILENO, b"\n");
+    io::write_all(STDERR, b"refused ");
+    io::print_decimal(STDERR, answer as u64);
+    io::write_all(STDERR, b"\n");
 }
 
 // What goes with the list.
 fn say_numbers(n: u32, root: u32, budget: u32, marked: bool) {
     let mut line = [0u8; MAX_LINE];
     let end = put_header(n, root, budget, &mut line, 0);
-    io::write_all(STDERR_FILENO, &line[..end]);
+    io::write_all(STDERR, &line[..end]);
     if marked {
-        io::write_all(STDERR_FILENO, b"marked\n");
+        io::write_all(STDERR, b"marked\n");
     }
 }
 
@@ -44,7 +43,7 @@ fn print_list(taken: CardWeights) -> bool {
         return true;
     }
     let end = listed.length;
-    if !io::write_all(STDOUT_FILENO, &list[..end]) {
+    if !io::write_all(STDOUT, &list[..end]) {
         return false;
     }
     say_numbers(listed.n, listed.root, listed.budget, listed.marked);
@@ -53,25 +52,22 @@ fn print_list(taken: CardWeights) -> bool {
 
 // Reads a card and takes its weights; says whether reading failed. The card is let go here, before a list takes its
 // place on the stack.
-fn read_weights(failed: &mut bool) -> CardWeights {
+fn read_weights(rt: &HostRuntime, failed: &mut bool) -> CardWeights {
     let mut card = [0u8; MAX_INPUT];
-    let input = read_input(&mut card);
+    let input = read_input(rt, &mut card);
     *failed = input.failed;
     let length = input.length;
     weights_on_card(&card[..length])
 }
 
-fn main() {
+fn main(rt: HostRuntime) {
     let mut failed = false;
-    let taken = read_weights(&mut failed);
+    let taken = read_weights(&rt, &mut failed);
     if failed {
-        io::write_all(STDERR_FILENO, b"print_prices: cannot read standard input\n");
+        io::write_all(STDERR, b"print_prices: cannot read standard input\n");
         return;
     }
     if !print_list(taken) {
-        io::write_all(
-            STDERR_FILENO,
-            b"print_prices: cannot write standard output\n",
-        );
+        io::write_all(STDERR, b"print_prices: cannot write standard output\n");
     }
 }

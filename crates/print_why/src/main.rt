@@ -11,16 +11,15 @@ mod printing; // printing.rt: the lines of an answer
 ghost use Rattle.std.specs.Prelude.{◌≤◌};
 ghost use Rattle.instance.specs.Limits.{max_cuts};
 
-use arguments::number_at;
+use arguments::{argument_count, number_at};
 use asking::{explain_card, plan_card_without, record_count};
-use card_input::read_input;
+use card_input::{STDERR, read_input};
 use instance::limits::{CUT_WORDS, VERTICES};
-use libc::STDERR_FILENO;
 use planner::{MAX_HISTORY_CARD, Reason, View, open_card};
 use printing::{Planned, print_line, print_witnesses};
 use why_text::Line;
 
-// One byte more than the longest card of either kind: what follows does not matter (long-by-part in
+// One byte more than the longest card of either kind: what follows does not matter (long_by_part in
 // history_format/proofs/LongHistory.antt).
 const MAX_INPUT: usize = MAX_HISTORY_CARD + 1;
 
@@ -87,35 +86,32 @@ fn print_why(card: &[u8], tail: u32, head: u32) -> bool {
     }
 }
 
-fn print_input(tail: u32, head: u32) {
+fn print_input(rt: &HostRuntime, tail: u32, head: u32) {
     let mut card = [0u8; MAX_INPUT];
-    let input = read_input(&mut card);
+    let input = read_input(rt, &mut card);
     if input.failed {
-        io::write_all(STDERR_FILENO, b"print_why: cannot read standard input\n");
+        io::write_all(STDERR, b"print_why: cannot read standard input\n");
         return;
     }
     let length = input.length;
     if !print_why(&card[..length], tail, head) {
-        io::write_all(STDERR_FILENO, b"print_why: cannot write standard output\n");
+        io::write_all(STDERR, b"print_why: cannot write standard output\n");
     }
 }
 
-fn main() {
-    if os::arg_count() != 3 {
-        io::write_all(
-            STDERR_FILENO,
-            b"print_why: usage: print_why FEEDER FED < card\n",
-        );
+fn main(rt: HostRuntime) {
+    if argument_count(&rt) != 3 {
+        io::write_all(STDERR, b"print_why: usage: print_why FEEDER FED < card\n");
         return;
     }
-    let tail = number_at(1);
-    let head = number_at(2);
+    let tail = number_at(&rt, 1);
+    let head = number_at(&rt, 2);
     if !tail.good || !head.good {
         io::write_all(
-            STDERR_FILENO,
+            STDERR,
             b"print_why: FEEDER and FED are numbers of at most 64 digits\n",
         );
         return;
     }
-    print_input(tail.value, head.value);
+    print_input(&rt, tail.value, head.value);
 }

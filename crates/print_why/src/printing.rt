@@ -5,10 +5,10 @@ ghost use Rattle.commands.specs.Valid.{valid};
 ghost use Rattle.board.specs.ModelOf.{model_of};
 
 use board::Board;
+use card_input::STDOUT;
 use instance::Outcome;
 use instance::limits::{CELLS, CUT_WORDS, VERTICES};
 use instance::states::MANDATORY;
-use libc::STDOUT_FILENO;
 use report_text::{listed_weight, shows_tree};
 use why_text::{Line, MAX_LINE, first_line, outcome_total, write_line};
 use witness::state_by;
@@ -25,7 +25,7 @@ pub struct Planned {
 pub fn print_line(line: Line) -> bool {
     let mut text = [0u8; MAX_LINE];
     let end = write_line(line, &mut text);
-    io::write_all(STDOUT_FILENO, &text[..end])
+    io::write_all(STDOUT, &text[..end])
 }
 
 // The arc into v, unless v is the root.

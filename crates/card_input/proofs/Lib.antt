@@ -1,0 +1,2 @@
+-- Laws of a buffer that is filled part by part. Assumes nothing.
+pub mod PartLaws
