@@ -95,7 +95,7 @@ moved_to_plain (by_to_plain κs a r e l) = l
 pub data Checked : Board → (ps ps' : List ℕ) → (total count : ℕ) → (ws ws' : List ℕ) → (answer : ℕ) → Type 0 where
   by_check :
       (κs : Lfts 2) (a : Dens κs check-kinds.ps) (r : ℕ) (e : AtExit (ended_of 2 check-kinds.ps check-kinds.r) κs) → check-reads.Learnt κs a r e →
-      Checked a.0 a.1.0.now e.1.0.now a.1.1.0 a.1.1.1.0 a.1.1.1.1.0.now e.1.1.1.1.0.now r
+      Checked a.0 a.1.0.now a.1.0.now a.1.1.0 a.1.1.1.0 a.1.1.1.1.0.now a.1.1.1.1.0.now r
 
 pub checked : {b : Board} {ps ps' : List ℕ} {v k : ℕ} {ws ws' : List ℕ} {r : ℕ} → Checked b ps ps' v k ws ws' r → Checks b ps ps' v k ws ws' r
 checked (by_check κs a r e l) = l

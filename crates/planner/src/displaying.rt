@@ -32,8 +32,10 @@ pub fn display(
     requires { (n ≤ max_vertices) × (n ≤ length parents.now) × (n * n ≤ length states.now) × (cut_words ≤ length cuts.now) }
     ensures { Displays surveyed weights.entry.now n root (buffers parents.entry.now states.entry.now cuts.entry.now) (buffers parents.exit.now states.exit.now cuts.exit.now) }
 {
-    let plan = surveyed.plan;
+    let tree = surveyed.parents;
+    let words = surveyed.cuts;
     let used = surveyed.used;
-    display_plan(plan, n, parents, cuts);
+    copies::copy_bytes(&tree, n as usize, parents);
+    copies::copy_words(&words, cuts);
     states::show::write_states(&used, weights, n, root, states);
 }

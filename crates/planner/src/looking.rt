@@ -44,9 +44,8 @@ pub fn look_valid<'a>(
         return View::Refused(BUFFER_SHORT);
     }
     let surveyed = plan_instance(weights, marks, n, root, budget);
-    let plan = surveyed.plan;
-    let outcome = plan.outcome;
-    let pairs = plan.pairs;
+    let outcome = surveyed.outcome;
+    let pairs = surveyed.pairs;
     display(surveyed, weights, n, root, parents, states, cuts);
     View::Shown(outcome, pairs)
 }

@@ -27,7 +27,8 @@ use Rattle.theory.proofs.FirstLaws.{first_none, first_budget}
 use Rattle.theory.proofs.Optimality.{proved_cheapest, shut_outcome}
 use Rattle.edmonds.specs.declared.Planned.{Planned}
 use Rattle.edmonds.specs.Planned.{PlannedMatrix}
-use Rattle.survey.specs.FirstPlan.{CutsShown, PlansFirst}
+use Rattle.survey.specs.FirstPlan.{PlansFirst}
+use Rattle.survey.specs.Survey.{CutsShown}
 use Rattle.survey.proofs.WordLaws.{words_again}
 
 -- WHAT THE TEST OF THE TOTAL TELLS

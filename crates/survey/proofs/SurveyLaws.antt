@@ -21,6 +21,7 @@ use Rattle.usable.specs.Table.{UsableTable}
 use Rattle.usable.proofs.TableLaws.{shut_table}
 use Rattle.survey.specs.FirstPlan.{PlansFirst}
 use Rattle.survey.specs.Survey.{Surveys}
+use Rattle.survey.specs.declared.Survey.{Survey}
 use Rattle.survey.specs.declared.first_plan.FirstPlan.{FirstPlan}
 use Rattle.survey.proofs.FirstPlanLaws.{found_cheapest}
 use Rattle.survey.proofs.SamePlans.{same_plan}
@@ -34,6 +35,24 @@ module _ (v b : ℕ) where
   pub limit_most : (k : ℕ) → v ≤ k → b ≤ k → limit_at b (some v) ≤ k
   unfolding limit_at
   limit_most k h l = omega arith
+
+-- THE PLAN WITH THE USABLE ARCS
+abbrev pub surveyed : FirstPlan → List ℕ → Survey
+surveyed plan used = record { outcome = plan.outcome; parents = plan.parents; pairs = plan.pairs; cuts = plan.cuts; used = used }
+
+with_table : {s : Instance} {plan : FirstPlan} {used : List ℕ} → PlansFirst s plan → UsableTable (matrix_instance s.n s.root (total_limit s) (matrix s)) used →
+    Surveys s (surveyed plan used)
+with_table p table =
+    record {
+      result = p.result;
+      places = p.places;
+      parents_found = p.parents_found;
+      cut_list = p.cut_list;
+      counted = p.counted;
+      cuts_found = p.cuts_found;
+      words = p.words;
+      table = table;
+    }
 
 -- WHAT PLANNING THE MATRIX OF AN INSTANCE TELLS OF IT
 module _ (s : Instance) (small : s.n ≤ max_vertices) (reduced words : List ℕ) (r : Planned)
@@ -59,18 +78,14 @@ module _ (s : Instance) (small : s.n ≤ max_vertices) (reduced words : List ℕ
 
     pub found_survey : (plan : FirstPlan) (limit : ℕ) (used : List ℕ) → PlansFirst (matrix_instance s.n s.root s.budget (matrix s)) plan →
         limit ≡ limit_at s.budget (some r.total) → UsableTable (matrix_instance s.n s.root limit (matrix s)) used →
-        Surveys s (record { plan = plan; used = used })
+        Surveys s (surveyed plan used)
     found_survey plan limit used is e table =
-        record {
-          planned = same_plan whole s to refl plan is;
-          table = subst (λ (k : ℕ). UsableTable (matrix_instance s.n s.root k (matrix s)) used) (e ∙ sym found_limit) table;
-        }
+        with_table (same_plan whole s to refl plan is)
+        (subst (λ (k : ℕ). UsableTable (matrix_instance s.n s.root k (matrix s)) used) (e ∙ sym found_limit) table)
 
   -- no arborescence
   pub none_survey : r.found ≡ false → (plan : FirstPlan) → PlansFirst (matrix_instance s.n s.root s.budget (matrix s)) plan →
-      Surveys s (record { plan = plan; used = replicate cells 0 })
+      Surveys s (surveyed plan (replicate cells 0))
   none_survey f plan is =
-      record {
-        planned = same_plan whole s to refl plan is;
-        table = shut_table s.n s.root (total_limit s) (matrix s) small (record { set = r.set; value = 0 }) (p.no_entry f);
-      }
+      with_table (same_plan whole s to refl plan is)
+      (shut_table s.n s.root (total_limit s) (matrix s) small (record { set = r.set; value = 0 }) (p.no_entry f))

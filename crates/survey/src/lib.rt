@@ -14,16 +14,35 @@ ghost use Rattle.instance.specs.States.{limit_at as limit_by};
 ghost use Rattle.survey.specs.Survey.{Surveys};
 
 use first_plan::{FirstPlan, first_plan};
-use instance::Vertex;
-use instance::limits::{CELLS, CUT_WORDS};
+use instance::limits::{CELLS, CUT_WORDS, VERTICES};
+use instance::{Outcome, Vertex};
 use remaining::remaining_matrix;
 use usable::usable_arcs;
 
-// What planning found: the plan, and 1 at each arc that some arborescence within the limit uses.
+// What planning found: the outcome, the parents of the tree that is shown, the number of cuts, the cuts as pairs of
+// words, and 1 at each arc that some arborescence within the limit uses.
 #[derive(Clone, Copy)]
 pub struct Survey {
-    pub plan: FirstPlan,
+    pub outcome: Outcome,
+    pub parents: [u8; VERTICES],
+    pub pairs: u32,
+    pub cuts: [u32; CUT_WORDS],
     pub used: [u8; CELLS],
+}
+
+// The plan with the usable arcs.
+fn with_used(plan: FirstPlan, used: [u8; CELLS]) -> Survey
+    ensures { result ≡ record { outcome = plan.outcome; parents = plan.parents; pairs = plan.pairs; cuts = plan.cuts; used = used } }
+{
+    let parents = plan.parents;
+    let cuts = plan.cuts;
+    Survey {
+        outcome: plan.outcome,
+        parents,
+        pairs: plan.pairs,
+        cuts,
+        used,
+    }
 }
 
 // What a total may be at most for the states: the larger of the two.
@@ -52,14 +71,11 @@ pub fn plan_instance<'a>(
     let planned = edmonds::plan_matrix(&mut reduced, n as usize, Vertex(root), &mut cuts);
     let plan = first_plan(&m, &reduced, &cuts, planned, n, root, budget);
     if !planned.found {
-        return Survey {
-            plan,
-            used: [0u8; CELLS],
-        };
+        return with_used(plan, [0u8; CELLS]);
     }
     let parents = planned.parents;
     let total = planned.total;
     let limit = limit_at(budget, total);
     let used = usable_arcs(&m, &reduced, &parents, n, root, total, limit);
-    Survey { plan, used }
+    with_used(plan, used)
 }
