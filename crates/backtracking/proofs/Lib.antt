@@ -3,3 +3,4 @@ pub mod CycleLaws
 pub mod StepLaws
 pub mod SettlingLaws
 pub mod BufferLaws
+pub mod PairLaws

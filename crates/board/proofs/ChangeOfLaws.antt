@@ -10,7 +10,7 @@ use lib.ListN.{length, get_or, set}
 use borrow.Author.Tests.{eq-eqb, ne_eqb, ltb-true, leb-false}
 use Rattle.base.specs.Digits.{from_digits}
 use Rattle.base.proofs.AllOfLaws.{all_of_first}
-use Rattle.instance.specs.Limits.{max_vertices, max_budget, free, max_records, cells}
+use Rattle.instance.specs.Limits.{max_vertices, max_budget, free, max_records}
 use Rattle.instance.specs.Refusals.{bad_budget, history_full, invalid_board}
 use Rattle.instance.specs.Marks.{mark_number}
 use Rattle.instance.specs.Instance.{Instance, instance_with, cell, mark}

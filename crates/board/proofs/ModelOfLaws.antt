@@ -6,7 +6,7 @@ use mathlib.Core.List.{List, [], ◌∷◌}
 use Prim.Native.Nat.{ℕ, zero, suc, ◌+◌, ◌-◌, ◌≤◌, ◌<◌}
 use native.Mathlib.Omega.{arith}
 use native.Mathlib.Numerals.{add-one}
-use lib.ListN.{length, get_or, set, length-map}
+use lib.ListN.{length, get_or, set}
 use lib.Seq.{get_or-set_same, get_or-set_other}
 use denote.Laws.{Is}
 use denote.Struct.Declared.{row}
@@ -29,9 +29,9 @@ pub known : (b : Board) (vs : List Val) → Is (row the_type) b vs → Known b
 known b vs p =
     let f = p.1.1.1.1.1 in
     record {
-      weights_long = simp length-map at f.0.1.0.1;
-      marks_long = simp length-map at f.1.0.1.0.1;
-      records_long = simp length-map at f.1.1.0.1.0.1;
+      weights_long = f.0.1.0.1;
+      marks_long = f.1.0.1.0.1;
+      records_long = f.1.1.0.1.0.1;
     }
 
 -- THE HISTORY

@@ -6,7 +6,7 @@ use mathlib.Core.List.{List, [], ◌∷◌}
 use Prim.Native.Nat.{suc}
 use Rattle.commands.specs.Model.{Model}
 use Rattle.commands.specs.Valid.{valid}
-use Rattle.commands.specs.Commands.{Command, Result, applied, answered}
+use Rattle.commands.specs.Commands.{Command, Result, answered}
 use Rattle.commands.specs.Log.{Log, note}
 use Rattle.commands.specs.LogLists.{NotedList, none_noted, one_more_noted, note_list}
 use Rattle.commands.proofs.AnsweredLaws.{answered_applied, answered_valid}

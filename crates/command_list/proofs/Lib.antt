@@ -6,6 +6,4 @@ pub mod SameListLaws
 pub mod ListNumberLaws
 pub mod WorkedLists
 pub mod LoopLaws
-pub mod Callees
-mod Standing
 pub mod ListCalled

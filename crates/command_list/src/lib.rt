@@ -1,6 +1,5 @@
 // A list of presses (02, A1): each is copied from the caller's slice and made by the single command; the first refused
-// one stops the list. The borrow checker has no plan for a slice of structs, so `press_list` is proved by hand: it
-// only walks, and all that it decides stands in the three functions before it.
+// one stops the list. `press_list` only walks: all that it decides stands in the three functions before it.
 #![tactic(auto)]
 
 ghost use Rattle.std.specs.Prelude.{◌≡◌, [], ◌∷◌, ◌<◌, ◌^◌, ◌+◌};

@@ -226,8 +226,11 @@ module _ (ws : List ℕ) (r : Reported) (out out' : List ℕ) where
   unfolding ReportsBy any_of
   reports_among true u x = rw (ap (λ (y : Reported). y.answer) x.result)
   reports_among false false x =
-      rw x.answer (or_right (eqb (open_refusal ws) buffer_short) (among (open_refusal ws) (open_numbers ws)) (open_among ws))
-  reports_among false true x = rw x.answer (or_right (eqb 0 buffer_short) (among 0 (open_numbers ws)) (zero_among ws))
+      subst (λ (a : ℕ). among a (buffer_short ∷ open_numbers ws) ≡ true) (sym x.answer)
+      (or_right (eqb (open_refusal ws) buffer_short) (among (open_refusal ws) (open_numbers ws)) (open_among ws))
+  reports_among false true x =
+      subst (λ (a : ℕ). among a (buffer_short ∷ open_numbers ws) ≡ true) (sym x.answer)
+      (or_right (eqb 0 buffer_short) (among 0 (open_numbers ws)) (zero_among ws))
 
   pub reports_before : (t u : Bool) → ReportsBy t u ws out out' r → (r.answer ≡ 0 → ⊥) → ReportsBefore out out' r
   unfolding ReportsBy
@@ -249,9 +252,11 @@ module _ (ws : List ℕ) (r : Reported) (out out' : List ℕ) where
 module _ (cs : List Call) (k : Log) (v : View) (xs xs' : List ℕ) (old new : Buffers) where
   pub replays_among : (ns : List ℕ) (a : ℕ) (t : Bool) → among a ns ≡ true → among 0 ns ≡ true → ReplaysAt a t cs k xs xs' old new v → among (answer_of v) (buffer_short ∷ ns) ≡ true
   unfolding ReplaysAt any_of
-  replays_among ns (suc a) t l o r = rw (ap answer_of r.1.result) (or_right (eqb (suc a) buffer_short) (among (suc a) ns) l)
-  replays_among ns zero true l o r = rw (ap answer_of r.1.result)
-  replays_among ns zero false l o r = rw (shown_answer _ v old new r.1) (or_right (eqb 0 buffer_short) (among 0 ns) o)
+  replays_among ns (suc a) t l o r =
+      subst (λ (b : ℕ). among b (buffer_short ∷ ns) ≡ true) (sym (ap answer_of r.1.result)) (or_right (eqb (suc a) buffer_short) (among (suc a) ns) l)
+  replays_among ns zero true l o r = subst (λ (b : ℕ). among b (buffer_short ∷ ns) ≡ true) (sym (ap answer_of r.1.result)) refl
+  replays_among ns zero false l o r =
+      subst (λ (a : ℕ). among a (buffer_short ∷ ns) ≡ true) (sym (shown_answer _ v old new r.1)) (or_right (eqb 0 buffer_short) (among 0 ns) o)
 
   pub replays_as_before : (a : ℕ) (t : Bool) → ReplaysAt a t cs k xs xs' old new v → (answer_of v ≡ 0 → ⊥) → (xs' ≡ xs) × (new ≡ old)
   unfolding ReplaysAt

@@ -40,7 +40,7 @@ use Rattle.price_format.specs.Reading.{read_list, room_refusal, read_numbers}
 use Rattle.price_format.specs.Writing.{write_refusal, write_numbers}
 use Rattle.price_list.specs.declared.read.PricesRead.{PricesRead}
 use Rattle.price_list.specs.declared.write.ListWritten.{ListWritten}
-use Rattle.price_list.proofs.Learnt.{PricesRead, prices_read, PricesWritten, prices_written}
+use Rattle.price_list.proofs.Learnt.{PricesAreRead, prices_read, PricesWritten, prices_written}
 use Rattle.price_row.specs.Row.{row_refusal, row_numbers}
 use Rattle.price_row.proofs.RowLaws.{row_listed, uses_empty}
 use Rattle.price_row.proofs.Learnt.{HandedBack, handed_back}
@@ -84,7 +84,7 @@ pub data Given : ℕ → Type 0 where
   by_enumerating : {b : Board} {limit : ℕ} {out out' : List ℕ} {r : Listing} → Enumerated b limit out out' r → Given (list_answer r)
   by_explaining : {b : Board} {t h : ℕ} {old new : TreeBuffers} {r : Reason} → Explained b t h old new r → Given (reason_answer r)
   by_planning_without : {b : Board} {t h : ℕ} {old new : TreeBuffers} {v : View} → PlannedWithout b t h old new v → Given (answer_of v)
-  by_reading_prices : {t : List ℕ} {n root : ℕ} {ps ps' : List ℕ} {r : PricesRead} → PricesRead t n root ps ps' r → Given r.answer
+  by_reading_prices : {t : List ℕ} {n root : ℕ} {ps ps' : List ℕ} {r : PricesRead} → PricesAreRead t n root ps ps' r → Given r.answer
   by_writing_prices : {ps : List ℕ} {n root : ℕ} {out out' : List ℕ} {r : ListWritten} → PricesWritten ps n root out out' r → Given r.answer
   by_planning_runs : {ps ms : List ℕ} {n budget : ℕ} {ss ss' cs cs' : List ℕ} {r : RunsView} → RunsPlanned ps ms n budget ss ss' cs cs' r → Given (view_number r)
   by_handing_back : {a b : List ℕ} {p q : ℕ × ℕ} {n tail k : ℕ} {row : List ℕ} {at : ℕ × ℕ} → HandedBack a b p q n tail k row at → Given k

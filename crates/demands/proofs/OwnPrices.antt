@@ -12,7 +12,7 @@ use Rattle.instance.specs.Limits.{max_vertices, no_arc}
 use Rattle.price_format.specs.Lines.{Line}
 use Rattle.price_format.specs.Reading.{weight_named, read_list}
 use Rattle.price_list.specs.declared.read.PricesRead.{PricesRead}
-use Rattle.price_list.proofs.Learnt.{PricesRead, prices_read}
+use Rattle.price_list.proofs.Learnt.{PricesAreRead, prices_read}
 use Rattle.price_list.proofs.RoomLaws.{room_count, count_small}
 use Rattle.price_row.specs.Row.{row_refusal, row_used}
 use Rattle.price_row.specs.Readings.{RowReads}
@@ -34,7 +34,7 @@ pub record ReadRow (n tail : ℕ) (school shipped : List Line) (answer : ℕ) (r
   pub weights : (h : ℕ) → h < n → get_or row h no_arc ≡ cond (names_tail school tail) (weight_named school tail h) (weight_named shipped tail h)
 
 -- what reading leaves in a caller's words
-module _ {t : List ℕ} {n root : ℕ} {ps ps' : List ℕ} {r : PricesRead} (x : PricesRead t n root ps ps' r) (z : r.answer ≡ 0) where
+module _ {t : List ℕ} {n root : ℕ} {ps ps' : List ℕ} {r : PricesRead} (x : PricesAreRead t n root ps ps' r) (z : r.answer ≡ 0) where
   words_are : ps' ≡ in_front (prices_in n root t) ps
   words_are = (prices_read x).buffer ∙ rw z
 
@@ -42,7 +42,7 @@ module _ {t : List ℕ} {n root : ℕ} {ps ps' : List ℕ} {r : PricesRead} (x :
   small = count_small n root (room_count n root (length ps) (read_passed t n root ps ps' r (prices_read x) z).0)
 
 pub read_rows : {t s : List ℕ} {n root : ℕ} {ps ps' qs qs' : List ℕ} {r v : PricesRead} {p q : ℕ × ℕ} {tail k : ℕ} {row : List ℕ} {at : ℕ × ℕ}
-    → PricesRead t n root ps ps' r → r.answer ≡ 0 → PricesRead s n root qs qs' v → v.answer ≡ 0 → HandedBack ps' qs' p q n tail k row at → tail < n
+    → PricesAreRead t n root ps ps' r → r.answer ≡ 0 → PricesAreRead s n root qs qs' v → v.answer ≡ 0 → HandedBack ps' qs' p q n tail k row at → tail < n
     → ReadRow n tail (read_list n root t).lines (read_list n root s).lines k row
 read_rows {t} {s} {n} {root} {ps} {ps'} {qs} {qs'} {tail = tail} {k = k} {row = row} x z y w u l =
     let a = prices_in n root t in

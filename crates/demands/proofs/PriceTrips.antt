@@ -23,7 +23,7 @@ use Rattle.price_list.specs.declared.read.PricesRead.{PricesRead}
 use Rattle.price_list.specs.declared.write.ListWritten.{ListWritten}
 use Rattle.price_list.proofs.RoomLaws.{count_small, room_count, room_words, room_enough}
 use Rattle.price_list.proofs.WriteLaws.{prices_room, prices_ok}
-use Rattle.price_list.proofs.Learnt.{PricesRead, prices_read, PricesWritten, prices_written}
+use Rattle.price_list.proofs.Learnt.{PricesAreRead, prices_read, PricesWritten, prices_written}
 use Rattle.demands.proofs.PriceNumbers.{read_passed, read_whole, write_accepted, write_whole, write_length}
 
 -- WRITTEN AND READ AGAIN: the bytes that the first call wrote, handed to the second
@@ -39,7 +39,7 @@ module _ {ps : List ℕ} {n root : ℕ} {out out' : List ℕ} {w : ListWritten} 
       let l = write_length ps n root out out' w (prices_written x) a in
       rw ((prices_written x).buffer, eq-eqb w.answer 0 a, l) (front_take (list_text n root ps) out (length (list_text n root ps)) refl)
 
-  pub prices_again : {buf buf' : List ℕ} {r : PricesRead} → PricesRead (take w.length out') n root buf buf' r → n * n ≤ length buf
+  pub prices_again : {buf buf' : List ℕ} {r : PricesRead} → PricesAreRead (take w.length out') n root buf buf' r → n * n ≤ length buf
       → (r ≡ record { answer = 0; line = 0 }) × (buf' ≡ in_front (arcs_only n root ps) buf)
   prices_again {buf} {buf'} {r} y h =
       let small = count_small n root count_ok in
@@ -49,7 +49,7 @@ module _ {ps : List ℕ} {n root : ℕ} {out out' : List ℕ} {w : ListWritten} 
       (z.0 ∙ rw (bytes, e), z.1 (rw (bytes, e)) ∙ rw (bytes) (ap (λ (l : List ℕ). in_front l buf) (written_read n root ps ok small)))
 
 -- READ AND WRITTEN AGAIN
-module _ {t : List ℕ} {n root : ℕ} {buf buf' : List ℕ} {r : PricesRead} (x : PricesRead t n root buf buf' r) (a : r.answer ≡ 0) where
+module _ {t : List ℕ} {n root : ℕ} {buf buf' : List ℕ} {r : PricesRead} (x : PricesAreRead t n root buf buf' r) (a : r.answer ≡ 0) where
   accepted : (read_list n root t).answer ≡ 0
   accepted = (read_passed t n root buf buf' r (prices_read x) a).1
 
@@ -90,7 +90,7 @@ module _ {t : List ℕ} {n root : ℕ} {buf buf' : List ℕ} {r : PricesRead} (x
       (z.0 ∙ rw (same_text o), z.1 ∙ rw (same_text o))
 
   -- IN ANY ORDER
-  pub order_again : (ms : List Line) → Permᴰ (read_list n root t).lines ms → {old new : List ℕ} {s : PricesRead} → PricesRead (lines_text ms) n root old new s → n * n ≤ length old
+  pub order_again : (ms : List Line) → Permᴰ (read_list n root t).lines ms → {old new : List ℕ} {s : PricesRead} → PricesAreRead (lines_text ms) n root old new s → n * n ≤ length old
       → (s ≡ record { answer = 0; line = 0 }) × (new ≡ in_front (prices_of n (read_list n root t).lines) old)
   order_again ms p {old} {new} {s} y h =
       let o = any_order n root t ms small accepted p in

@@ -92,6 +92,7 @@ module _ (s : Instance) where
 pub run_ahead : {n c limit room : ℕ} {es : List Event} {w : Walked} → Ahead c es → Run n limit room es w → length w.trees ≤ w.tries + c
 run_ahead a over = omega arith
 run_ahead a limited = omega arith
-run_ahead (try_next a) (a_try r) = let h = run_ahead a r in omega arith
-run_ahead (tree_next a) (a_tree l r) = let h = run_ahead a r in omega arith
+run_ahead {c = c} (try_next a) (a_try r) = let h = run_ahead {c = suc c} a r in omega arith
+run_ahead {c = zero} a (a_tree l r) = elim a [ ]
+run_ahead {c = suc c} (tree_next a) (a_tree l r) = let h = run_ahead {c = c} a r in omega arith
 run_ahead a (full l) = omega arith

@@ -8,8 +8,7 @@ use card::write::write_instance;
 use planner::{open_card, to_history_card, to_plain_card};
 
 // 0 where the card opens as a board, or its refusal.
-#[unsafe(no_mangle)]
-pub extern "C" fn feed_judge(card: &[u8]) -> u32
+pub fn feed_judge(card: &[u8]) -> u32
     ensures { result ≡ open_refusal card.now }
 {
     let opened = open_card(card);
@@ -17,8 +16,7 @@ pub extern "C" fn feed_judge(card: &[u8]) -> u32
 }
 
 // The board that a card opens as is valid, so it is written without being judged again.
-#[unsafe(no_mangle)]
-pub extern "C" fn feed_write_card(card: &[u8], out: &mut [u8], length: &mut usize) -> u32
+pub fn feed_write_card(card: &[u8], out: &mut [u8], length: &mut usize) -> u32
     ensures { StoresPlain card.now out.old out.new length.old length.new result }
 {
     let opened = open_card(card);
@@ -34,16 +32,14 @@ pub extern "C" fn feed_write_card(card: &[u8], out: &mut [u8], length: &mut usiz
     keep_length(written.answer, written.length, length)
 }
 
-#[unsafe(no_mangle)]
-pub extern "C" fn feed_to_history_card(card: &[u8], out: &mut [u8], length: &mut usize) -> u32
+pub fn feed_to_history_card(card: &[u8], out: &mut [u8], length: &mut usize) -> u32
     ensures { StoresToHistory card.now out.old out.new length.old length.new result }
 {
     let moved = to_history_card(card, out);
     keep_length(moved.answer, moved.length, length)
 }
 
-#[unsafe(no_mangle)]
-pub extern "C" fn feed_to_plain_card(card: &[u8], out: &mut [u8], length: &mut usize) -> u32
+pub fn feed_to_plain_card(card: &[u8], out: &mut [u8], length: &mut usize) -> u32
     ensures { StoresToPlain card.now out.old out.new length.old length.new result }
 {
     let moved = to_plain_card(card, out);

@@ -10,8 +10,7 @@ use report::{MAX_TEXT, report};
 
 // The buffers take what `look` puts into them, and the three words the outcome's kind, its total and how many pairs of
 // cuts there are.
-#[unsafe(no_mangle)]
-pub extern "C" fn feed_look(
+pub fn feed_look(
     card: &[u8],
     parents: &mut [u8],
     states: &mut [u8],
@@ -35,8 +34,7 @@ pub extern "C" fn feed_look(
 }
 
 // The list and the buffers are those of `replay`, and the three words those of a look.
-#[unsafe(no_mangle)]
-pub extern "C" fn feed_replay(
+pub fn feed_replay(
     card: &[u8],
     kinds: &[u8],
     firsts: &[u32],
@@ -58,8 +56,7 @@ pub extern "C" fn feed_replay(
 }
 
 // A card that does not open has a text too, the line of its refusal; so the one refusal here is that of the buffer.
-#[unsafe(no_mangle)]
-pub extern "C" fn feed_print(card: &[u8], out: &mut [u8], length: &mut usize) -> u32
+pub fn feed_print(card: &[u8], out: &mut [u8], length: &mut usize) -> u32
     ensures { Prints card.now out.old out.new length.old length.new result }
 {
     if out.len() < MAX_TEXT {

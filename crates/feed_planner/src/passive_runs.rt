@@ -6,8 +6,7 @@ ghost use Rattle.feed_planner.specs.PassiveRuns.{TellsRuns};
 use crate::words::keep_runs;
 use planner::plan_runs;
 
-#[unsafe(no_mangle)]
-pub extern "C" fn feed_plan_runs(
+pub fn feed_plan_runs(
     prices: &[u32],
     marks: &[u8],
     n: u32,

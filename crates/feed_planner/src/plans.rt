@@ -6,14 +6,7 @@ ghost use Rattle.feed_planner.specs.Plans.{check_number, StoresListing};
 use crate::words::keep_listing;
 use planner::{check_plan, list_plans, open_card};
 
-#[unsafe(no_mangle)]
-pub extern "C" fn feed_check_plan(
-    card: &[u8],
-    parents: &[u8],
-    total: u32,
-    count: u32,
-    cuts: &[u32],
-) -> u32
+pub fn feed_check_plan(card: &[u8], parents: &[u8], total: u32, count: u32, cuts: &[u32]) -> u32
     ensures { result ≡ check_number card.now parents.now total count cuts.now }
 {
     let opened = open_card(card);
@@ -27,8 +20,7 @@ pub extern "C" fn feed_check_plan(
 
 // The trees stand in the buffer one after the other, n bytes each; the words take how the listing ended, how many trees
 // there are and how many tries were made.
-#[unsafe(no_mangle)]
-pub extern "C" fn feed_list_plans(
+pub fn feed_list_plans(
     card: &[u8],
     limit: u32,
     out: &mut [u8],

@@ -29,43 +29,37 @@ fn numbers_answer(kinds: usize, firsts: usize, seconds: usize) -> u32
     0
 }
 
-// The presses of a list on a valid board.
+// The presses of a list on a valid board. The answer is made in one place, since each that made one would hold a board of
+// its own, 8,344 bytes of the stack.
 fn press_all(b: Board, kinds: &[u8], firsts: &[u32], seconds: &[u32]) -> ListAnswered
     requires { (valid (model_of b) ≡ true) × (length kinds.now ≤ length firsts.now) × (length kinds.now ≤ length seconds.now) }
     ensures { (list_left result ≡ list_pressed (calls kinds.now firsts.now seconds.now) (model_of b)) × (valid (model_of result.board) ≡ true) }
 {
     let mut next = b;
+    let mut answer = 0;
     let mut i: usize = 0;
     while i < kinds.len() {
         if !is_command(kinds[i]) {
-            return ListAnswered {
-                applied: i,
-                answer: NO_SUCH_PRESS,
-                board: next,
-            };
+            answer = NO_SUCH_PRESS;
+            break;
         }
         let command = command_at(kinds[i], firsts[i], seconds[i]);
         let made = execute(next, command);
-        let answer = made.answer;
         next = made.board;
+        answer = made.answer;
         if answer != 0 {
-            return ListAnswered {
-                applied: i,
-                answer,
-                board: next,
-            };
+            break;
         }
         i += 1;
     }
     ListAnswered {
         applied: i,
-        answer: 0,
+        answer,
         board: next,
     }
 }
 
-#[unsafe(no_mangle)]
-pub extern "C" fn feed_press_list(
+pub fn feed_press_list(
     card: &[u8],
     kinds: &[u8],
     firsts: &[u32],

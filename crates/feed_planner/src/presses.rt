@@ -1,5 +1,5 @@
 // A press on a card: the card is opened, the press is made, and the card of the board that is left is written, records
-// and all. The eight exported functions are `press_card` at a fixed command.
+// and all. The eight public functions are `press_card` at a fixed command.
 ghost use Rattle.instance.specs.declared.Mark.TheVariants.{Free, Pinned, Banned};
 ghost use Rattle.commands.specs.Commands.{set_mark, set_marks, set_budget, undo};
 ghost use Rattle.board.specs.ModelOf.{command_of};
@@ -32,14 +32,7 @@ fn press_card(card: &[u8], command: Command, out: &mut [u8], length: &mut usize)
     keep_length(written.answer, written.length, length)
 }
 
-#[unsafe(no_mangle)]
-pub extern "C" fn feed_pin(
-    card: &[u8],
-    tail: u32,
-    head: u32,
-    out: &mut [u8],
-    length: &mut usize,
-) -> u32
+pub fn feed_pin(card: &[u8], tail: u32, head: u32, out: &mut [u8], length: &mut usize) -> u32
     ensures { Presses card.now (set_mark Pinned tail head) out.old out.new length.old length.new result }
 {
     press_card(
@@ -50,14 +43,7 @@ pub extern "C" fn feed_pin(
     )
 }
 
-#[unsafe(no_mangle)]
-pub extern "C" fn feed_ban(
-    card: &[u8],
-    tail: u32,
-    head: u32,
-    out: &mut [u8],
-    length: &mut usize,
-) -> u32
+pub fn feed_ban(card: &[u8], tail: u32, head: u32, out: &mut [u8], length: &mut usize) -> u32
     ensures { Presses card.now (set_mark Banned tail head) out.old out.new length.old length.new result }
 {
     press_card(
@@ -68,14 +54,7 @@ pub extern "C" fn feed_ban(
     )
 }
 
-#[unsafe(no_mangle)]
-pub extern "C" fn feed_clear(
-    card: &[u8],
-    tail: u32,
-    head: u32,
-    out: &mut [u8],
-    length: &mut usize,
-) -> u32
+pub fn feed_clear(card: &[u8], tail: u32, head: u32, out: &mut [u8], length: &mut usize) -> u32
     ensures { Presses card.now (set_mark Free tail head) out.old out.new length.old length.new result }
 {
     press_card(
@@ -86,14 +65,7 @@ pub extern "C" fn feed_clear(
     )
 }
 
-#[unsafe(no_mangle)]
-pub extern "C" fn feed_pin_group(
-    card: &[u8],
-    tail: u32,
-    heads: u32,
-    out: &mut [u8],
-    length: &mut usize,
-) -> u32
+pub fn feed_pin_group(card: &[u8], tail: u32, heads: u32, out: &mut [u8], length: &mut usize) -> u32
     ensures { Presses card.now (set_marks Pinned tail heads) out.old out.new length.old length.new result }
 {
     press_card(
@@ -104,14 +76,7 @@ pub extern "C" fn feed_pin_group(
     )
 }
 
-#[unsafe(no_mangle)]
-pub extern "C" fn feed_ban_group(
-    card: &[u8],
-    tail: u32,
-    heads: u32,
-    out: &mut [u8],
-    length: &mut usize,
-) -> u32
+pub fn feed_ban_group(card: &[u8], tail: u32, heads: u32, out: &mut [u8], length: &mut usize) -> u32
     ensures { Presses card.now (set_marks Banned tail heads) out.old out.new length.old length.new result }
 {
     press_card(
@@ -122,8 +87,7 @@ pub extern "C" fn feed_ban_group(
     )
 }
 
-#[unsafe(no_mangle)]
-pub extern "C" fn feed_clear_group(
+pub fn feed_clear_group(
     card: &[u8],
     tail: u32,
     heads: u32,
@@ -140,20 +104,13 @@ pub extern "C" fn feed_clear_group(
     )
 }
 
-#[unsafe(no_mangle)]
-pub extern "C" fn feed_set_budget(
-    card: &[u8],
-    budget: u32,
-    out: &mut [u8],
-    length: &mut usize,
-) -> u32
+pub fn feed_set_budget(card: &[u8], budget: u32, out: &mut [u8], length: &mut usize) -> u32
     ensures { Presses card.now (set_budget budget) out.old out.new length.old length.new result }
 {
     press_card(card, Command::SetBudget(budget), out, length)
 }
 
-#[unsafe(no_mangle)]
-pub extern "C" fn feed_take_back(card: &[u8], out: &mut [u8], length: &mut usize) -> u32
+pub fn feed_take_back(card: &[u8], out: &mut [u8], length: &mut usize) -> u32
     ensures { Presses card.now undo out.old out.new length.old length.new result }
 {
     press_card(card, Command::TakeBack, out, length)

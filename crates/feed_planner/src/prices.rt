@@ -9,14 +9,7 @@ use planner::{read_prices, write_prices};
 use price_card::{card_from_prices, prices_from_card};
 use price_merge::merge_lists;
 
-#[unsafe(no_mangle)]
-pub extern "C" fn feed_read_prices(
-    text: &[u8],
-    n: u32,
-    root: u32,
-    prices: &mut [u32],
-    line: &mut usize,
-) -> u32
+pub fn feed_read_prices(text: &[u8], n: u32, root: u32, prices: &mut [u32], line: &mut usize) -> u32
     ensures { Reads text.now n root prices.old prices.new (record { answer = result; line = line.new }) }
 {
     let read = read_prices(text, n, Vertex(root), prices);
@@ -24,8 +17,7 @@ pub extern "C" fn feed_read_prices(
     read.answer
 }
 
-#[unsafe(no_mangle)]
-pub extern "C" fn feed_write_prices(
+pub fn feed_write_prices(
     prices: &[u32],
     n: u32,
     root: u32,
@@ -38,8 +30,7 @@ pub extern "C" fn feed_write_prices(
     keep_length(written.answer, written.length, length)
 }
 
-#[unsafe(no_mangle)]
-pub extern "C" fn feed_card_from_prices(
+pub fn feed_card_from_prices(
     text: &[u8],
     n: u32,
     root: u32,
@@ -55,16 +46,14 @@ pub extern "C" fn feed_card_from_prices(
     keep_length(made.answer, made.length, length)
 }
 
-#[unsafe(no_mangle)]
-pub extern "C" fn feed_prices_from_card(card: &[u8], out: &mut [u8], length: &mut usize) -> u32
+pub fn feed_prices_from_card(card: &[u8], out: &mut [u8], length: &mut usize) -> u32
     ensures { StoresPrices card.now out.old out.new length.old length.new result }
 {
     let listed = prices_from_card(card, out);
     keep_length(listed.answer, listed.length, length)
 }
 
-#[unsafe(no_mangle)]
-pub extern "C" fn feed_merge_lists(
+pub fn feed_merge_lists(
     school: &[u8],
     shipped: &[u8],
     n: u32,

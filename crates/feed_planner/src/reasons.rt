@@ -8,8 +8,7 @@ use instance::Vertex;
 use planner::{open_card, plan_without, why};
 
 // The buffers take what `why` puts into them, and the words the reason with all that it tells.
-#[unsafe(no_mangle)]
-pub extern "C" fn feed_why(
+pub fn feed_why(
     card: &[u8],
     tail: u32,
     head: u32,
@@ -37,8 +36,7 @@ pub extern "C" fn feed_why(
 }
 
 // The three words are those of a look.
-#[unsafe(no_mangle)]
-pub extern "C" fn feed_plan_without(
+pub fn feed_plan_without(
     card: &[u8],
     tail: u32,
     head: u32,

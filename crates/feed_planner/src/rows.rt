@@ -6,8 +6,7 @@ use planner::row_used;
 use price_row::row::has_price;
 
 // One lifetime for both lists, as `row_used` has it. `own` takes 1 for the school's list and 0 for the shipped one.
-#[unsafe(no_mangle)]
-pub extern "C" fn feed_row_used<'a>(
+pub fn feed_row_used<'a>(
     school: &'a [u32],
     shipped: &'a [u32],
     n: u32,

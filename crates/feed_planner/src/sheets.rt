@@ -35,8 +35,7 @@ fn is_sheet_short(n: u32, prices: usize, marks: usize) -> bool
     marks < size
 }
 
-#[unsafe(no_mangle)]
-pub extern "C" fn feed_sheet(
+pub fn feed_sheet(
     card: &[u8],
     prices: &mut [u32], // takes n times n words
     marks: &mut [u8], // takes n times n bytes

@@ -35,7 +35,7 @@ use Rattle.history_format.specs.RecordBits.{kind_in, heads_in, mark_offset, memb
 use Rattle.history_format.proofs.MemberMarks.{of_members, member_at}
 use Rattle.history_format.proofs.RecordFits.{Writable, read_fits}
 use Rattle.history_format.proofs.RecordLaws.{whole_passes, read_mark_length, read_budget_length, read_marks_length, read_mark, read_budget, read_marks}
-use Rattle.history_card.specs.Record.{no_record, RecordRead}
+use Rattle.history_card.specs.Record.{no_record, ReadsRecord}
 use Rattle.history_card.specs.declared.record.RecordRead.{RecordRead}
 
 -- PAST THE END
@@ -86,7 +86,7 @@ module _ (ws : List ℕ) (at : ℕ) where
   whole_here k h e = omega (arith, rest_length, ltb-false (8 * length ws) (at + k) e)
 
   -- REFUSED: a part of the record runs past the end
-  pub past_read : (k : ℕ) → 0 < k → k ≤ record_length rest → ltb (8 * length ws) (at + k) ≡ true → RecordRead (form_refusal rest) rest at (no_record bad_length)
+  pub past_read : (k : ℕ) → 0 < k → k ≤ record_length rest → ltb (8 * length ws) (at + k) ≡ true → ReadsRecord (form_refusal rest) rest at (no_record bad_length)
   unfolding form_refusal
   past_read k pos l e =
       let h : length rest < record_length rest = omega (arith, short_here k pos e) in
@@ -95,7 +95,7 @@ module _ (ws : List ℕ) (at : ℕ) where
   -- READ: the record is whole, and of a kind that there is
   whole_read : (k : ℕ) (x : declared-replaced.Replaced) → record_length rest ≡ k → 0 < k → kind_in rest < 3 → ltb (8 * length ws) (at + k) ≡ false →
       ◌≡◌ {A = UndoRecord} (record { replaced = x }) (record_of (replaced_in rest)) →
-      RecordRead (form_refusal rest) rest at (record { answer = 0; replaced = x; next = at + k })
+      ReadsRecord (form_refusal rest) rest at (record { answer = 0; replaced = x; next = at + k })
   whole_read k x l pos kind e q =
       record {
         judged = sym (whole_passes rest (record { within = omega (arith, whole_here k pos e); known = kind }));
@@ -110,7 +110,7 @@ module _ (ws : List ℕ) (at : ℕ) where
   same_field a k = sym (field_drop at a k (bits_in ws))
 
   pub mark_read : kind_in rest ≡ 0 → ltb (8 * length ws) (at + mark_record_width) ≡ false →
-      RecordRead (form_refusal rest) rest at (record {
+      ReadsRecord (form_refusal rest) rest at (record {
         answer = 0;
         replaced = OldMark (here kind_width vertex_width) (here head_start vertex_width) (here mark_start mark_width);
         next = at + mark_record_width;
@@ -120,7 +120,7 @@ module _ (ws : List ℕ) (at : ℕ) where
       (rw (read_mark rest k, same_field kind_width vertex_width, same_field head_start vertex_width, same_field mark_start mark_width))
 
   pub budget_read : kind_in rest ≡ 1 → ltb (8 * length ws) (at + budget_record_width) ≡ false →
-      RecordRead (form_refusal rest) rest at (record { answer = 0; replaced = OldBudget (here kind_width budget_width); next = at + budget_record_width })
+      ReadsRecord (form_refusal rest) rest at (record { answer = 0; replaced = OldBudget (here kind_width budget_width); next = at + budget_record_width })
   budget_read k e =
       whole_read budget_record_width _ (read_budget_length rest k) (omega arith) (omega (arith, k)) e
       (rw (read_budget rest k, same_field kind_width budget_width))
@@ -140,7 +140,7 @@ module _ (ws : List ℕ) (at : ℕ) where
 
     pub marks_read : (v : ℕ) → v ≡ from_digits 4 max_vertices (λ h. cond (inside c h) (field (at + marks_start + mark_offset c h) mark_width (bits_in ws)) free) →
         ltb (8 * length ws) (at + marks_start + mark_offset c max_vertices) ≡ false →
-        RecordRead (form_refusal rest) rest at
+        ReadsRecord (form_refusal rest) rest at
         (record { answer = 0; replaced = OldMarks (here kind_width vertex_width) c v; next = at + marks_start + mark_offset c max_vertices })
     marks_read v d e =
         let p : at + marks_start + mark_offset c max_vertices ≡ at + (marks_start + mark_offset c max_vertices) = omega arith in
@@ -151,7 +151,7 @@ module _ (ws : List ℕ) (at : ℕ) where
 
   -- KIND 3 is two bits long
   pub three_read : kind_width ≤ length rest → (kind_in rest ≡ 0 → ⊥) → (kind_in rest ≡ 1 → ⊥) → (kind_in rest ≡ 2 → ⊥) →
-      RecordRead (form_refusal rest) rest at (no_record bad_record)
+      ReadsRecord (form_refusal rest) rest at (no_record bad_record)
   unfolding form_refusal record_length
   three_read l a b c =
       let k = field_below 0 kind_width rest rest_bits in
@@ -163,8 +163,8 @@ module _ (ws : List ℕ) (at : ℕ) where
       }
 
   -- JUDGED
-  module _ (s : Instance) (r : RecordRead) (k : RecordRead (form_refusal rest) rest at r) where
-    pub form_refused : (r.answer ≡ 0 → ⊥) → RecordRead (record_refusal s rest) rest at (no_record r.answer)
+  module _ (s : Instance) (r : RecordRead) (k : ReadsRecord (form_refusal rest) rest at r) where
+    pub form_refused : (r.answer ≡ 0 → ⊥) → ReadsRecord (record_refusal s rest) rest at (no_record r.answer)
     unfolding record_refusal
     form_refused n =
         record {
@@ -177,7 +177,7 @@ module _ (ws : List ℕ) (at : ℕ) where
       pub same_record : replaced_of r.replaced ≡ replaced_in rest
       same_record = ap (λ (u : UndoRecord). replaced_of u.replaced) (k.said z) ∙ stored_back (replaced_in rest) (read_fits rest rest_bits)
 
-      pub record_refused : record_ok s (replaced_in rest) ≡ false → RecordRead (record_refusal s rest) rest at (no_record bad_record)
+      pub record_refused : record_ok s (replaced_in rest) ≡ false → ReadsRecord (record_refusal s rest) rest at (no_record bad_record)
       unfolding record_refusal
       record_refused e =
           record {
@@ -186,7 +186,7 @@ module _ (ws : List ℕ) (at : ℕ) where
             its_end = λ y. absurd (omega arith);
           }
 
-      pub record_taken : record_ok s (replaced_in rest) ≡ true → RecordRead (record_refusal s rest) rest at (record { answer = 0; replaced = r.replaced; next = r.next })
+      pub record_taken : record_ok s (replaced_in rest) ≡ true → ReadsRecord (record_refusal s rest) rest at (record { answer = 0; replaced = r.replaced; next = r.next })
       unfolding record_refusal
       record_taken e =
           record {

@@ -26,7 +26,7 @@ use Rattle.history_format.specs.RecordBits.{record_length, replaced_in, record_r
 use Rattle.history_format.specs.HistoryCard.{count_in, history_in, end_refusal, records_refusal, behind_refusal}
 use Rattle.history_format.proofs.RecordLaws.{whole}
 use Rattle.history_format.proofs.RecordLength.{longest_record, record_length_most, refusal_passed}
-use Rattle.history_card.specs.Record.{RecordRead}
+use Rattle.history_card.specs.Record.{ReadsRecord}
 use Rattle.history_card.specs.Records.{no_count, counted_in, RecordsRead}
 use Rattle.history_card.specs.declared.records.Counted.{Counted}
 use Rattle.history_card.specs.declared.record.RecordRead.{RecordRead}
@@ -92,7 +92,7 @@ module _ (ws : List ℕ) (s : Instance) (start count : ℕ) where
     abbrev here : List ℕ
     here = drop at (bits_in ws)
 
-    module _ (more : k < count) (r : RecordRead) (x : RecordRead (record_refusal s here) here at r) where
+    module _ (more : k < count) (r : RecordRead) (x : ReadsRecord (record_refusal s here) here at r) where
       one_left : count - k ≡ suc (count - (k + 1))
       one_left = omega arith
 

@@ -5,7 +5,7 @@ ghost use Rattle.instance.specs.Limits.{max_vertices, cells};
 ghost use Rattle.instance.specs.Matrix.{unmarked};
 ghost use Rattle.history_format.specs.RecordBits.{kind_in, form_refusal, record_refusal};
 ghost use Rattle.history_card.specs.Marks.{last_place, last_bit};
-ghost use Rattle.history_card.specs.Record.{no_record, RecordRead};
+ghost use Rattle.history_card.specs.Record.{no_record, ReadsRecord};
 
 use crate::marks::{marks_width, read_marks};
 use crate::widths::{
@@ -48,7 +48,7 @@ fn no_record(answer: u32) -> RecordRead
 // A record of one arc, which begins at `at`.
 fn read_mark_record(card: &[u8], at: usize) -> RecordRead
     requires { (kind_in (drop at (bits_in card.now)) ≡ 0) × (at ≤ last_place) }
-    ensures { RecordRead (form_refusal (drop at (bits_in card.now))) (drop at (bits_in card.now)) at result }
+    ensures { ReadsRecord (form_refusal (drop at (bits_in card.now))) (drop at (bits_in card.now)) at result }
 {
     let next = at + MARK_RECORD_WIDTH;
     if runs_past(card, next) {
@@ -67,7 +67,7 @@ fn read_mark_record(card: &[u8], at: usize) -> RecordRead
 // A record of the budget.
 fn read_budget_record(card: &[u8], at: usize) -> RecordRead
     requires { (kind_in (drop at (bits_in card.now)) ≡ 1) × (at ≤ last_place) }
-    ensures { RecordRead (form_refusal (drop at (bits_in card.now))) (drop at (bits_in card.now)) at result }
+    ensures { ReadsRecord (form_refusal (drop at (bits_in card.now))) (drop at (bits_in card.now)) at result }
 {
     let next = at + BUDGET_RECORD_WIDTH;
     if runs_past(card, next) {
@@ -84,7 +84,7 @@ fn read_budget_record(card: &[u8], at: usize) -> RecordRead
 // A record of several arcs: as long as its set has members, whether or not there are such arcs.
 fn read_marks_record(card: &[u8], at: usize) -> RecordRead
     requires { (kind_in (drop at (bits_in card.now)) ≡ 2) × (at ≤ last_place) }
-    ensures { RecordRead (form_refusal (drop at (bits_in card.now))) (drop at (bits_in card.now)) at result }
+    ensures { ReadsRecord (form_refusal (drop at (bits_in card.now))) (drop at (bits_in card.now)) at result }
 {
     let start = at + MARKS_START;
     if runs_past(card, start) {
@@ -107,7 +107,7 @@ fn read_marks_record(card: &[u8], at: usize) -> RecordRead
 // The record that begins at `at`, not judged yet.
 fn read_any_record(card: &[u8], at: usize) -> RecordRead
     requires { at ≤ last_place }
-    ensures { RecordRead (form_refusal (drop at (bits_in card.now))) (drop at (bits_in card.now)) at result }
+    ensures { ReadsRecord (form_refusal (drop at (bits_in card.now))) (drop at (bits_in card.now)) at result }
 {
     if runs_past(card, at + KIND_WIDTH) {
         return no_record(BAD_LENGTH);
@@ -128,7 +128,7 @@ fn read_any_record(card: &[u8], at: usize) -> RecordRead
 // The record that begins at `at`, judged: 3 where it runs past the end, else 27, or 0.
 pub fn read_record(card: &[u8], weights: &[u32; CELLS], n: u32, root: u32, at: usize) -> RecordRead
     requires { (n ≤ max_vertices) × (length weights.now ≡ cells) × (at ≤ last_place) }
-    ensures { RecordRead (record_refusal (unmarked n root weights.now) (drop at (bits_in card.now))) (drop at (bits_in card.now)) at result }
+    ensures { ReadsRecord (record_refusal (unmarked n root weights.now) (drop at (bits_in card.now))) (drop at (bits_in card.now)) at result }
 {
     let read = read_any_record(card, at);
     let refusal = read.answer;

@@ -14,17 +14,17 @@ use Rattle.price_list.proofs.read.read_prices.Kinds as read-kinds
 use Rattle.price_list.proofs.write.write_prices.Reads as write-reads
 use Rattle.price_list.proofs.write.write_prices.Kinds as write-kinds
 
-pub data PricesRead : (text : List ℕ) → (n root : ℕ) → (prices prices' : List ℕ) → PricesRead → Type 0 where
+pub data PricesAreRead : (text : List ℕ) → (n root : ℕ) → (prices prices' : List ℕ) → PricesRead → Type 0 where
   by_read_prices :
       (κs : Lfts 2) (a : Dens κs read-kinds.ps) (r : PricesRead) (e : AtExit (ended_of 2 read-kinds.ps read-kinds.r) κs) → read-reads.Learnt κs a r e →
-      PricesRead a.0.now a.1.0 a.1.1.0.0 a.1.1.1.0.now e.1.1.1.0.now r
+      PricesAreRead a.0.now a.1.0 a.1.1.0.0 a.1.1.1.0.now e.1.1.1.0.now r
 
 pub data PricesWritten : (prices : List ℕ) → (n root : ℕ) → (out out' : List ℕ) → ListWritten → Type 0 where
   by_write_prices :
       (κs : Lfts 2) (a : Dens κs write-kinds.ps) (r : ListWritten) (e : AtExit (ended_of 2 write-kinds.ps write-kinds.r) κs) → write-reads.Learnt κs a r e →
       PricesWritten a.0.now a.1.0 a.1.1.0.0 a.1.1.1.0.now e.1.1.1.0.now r
 
-pub prices_read : {t : List ℕ} {n root : ℕ} {ps ps' : List ℕ} {r : PricesRead} → PricesRead t n root ps ps' r → Reads t n root ps ps' r
+pub prices_read : {t : List ℕ} {n root : ℕ} {ps ps' : List ℕ} {r : PricesRead} → PricesAreRead t n root ps ps' r → Reads t n root ps ps' r
 prices_read (by_read_prices κs a r e l) = l
 
 pub prices_written : {ps : List ℕ} {n root : ℕ} {out out' : List ℕ} {r : ListWritten} → PricesWritten ps n root out out' r → Writes ps n root out out' r

@@ -14,7 +14,7 @@ use Rattle.price_row.proofs.row.row_used.Kinds as row-used-kinds
 pub data HandedBack : (school shipped : List ℕ) → (school_address shipped_address : ℕ × ℕ) → (n tail answer : ℕ) → (row : List ℕ) → (address : ℕ × ℕ) → Type 0 where
   by_row_used :
       (κs : Lfts 2) (a : Dens κs row-used-kinds.ps) (r : Bor (List ℕ)) (e : AtExit (ended_of 2 row-used-kinds.ps row-used-kinds.r) κs) → row-used-reads.Learnt κs a r e →
-      HandedBack a.0.now a.1.0.now a.0.ptr a.1.0.ptr a.1.1.0 a.1.1.1.0.0 e.1.1.1.1.0.now r.now r.ref_ptr
+      HandedBack a.0.now a.1.0.now a.0.ref_ptr a.1.0.ref_ptr a.1.1.0 a.1.1.1.0.0 e.1.1.1.1.0.now r.now r.ref_ptr
 
 pub handed_back : {a b : List ℕ} {p q : ℕ × ℕ} {n tail k : ℕ} {row : List ℕ} {at : ℕ × ℕ} → HandedBack a b p q n tail k row at → UsesRow a b p q n tail k row at
 handed_back (by_row_used κs a r e l) = l

@@ -1,6 +1,5 @@
-// A list of presses lent to the planner. A caller of `press_list` has to be proved by hand, since the borrow checker
-// has no plan for a slice of structs; this is the one of the tests, and every other function hands it an array by
-// value.
+// A list of presses lent to the planner: as many as are asked for of an array of the greatest length. Every other
+// function hands the array over by value.
 ghost use Rattle.std.specs.Prelude.{◌≤◌};
 
 use board::Board;

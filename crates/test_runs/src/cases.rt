@@ -4,7 +4,7 @@
 // line "graph" has the count, the budget, and the weight and mark of each pair; it expects the outcome, its total, and
 // the state and replacement cost of each pair.
 use crate::calls::{Call, Shown};
-use crate::{calls, checks, faults};
+use crate::{calls, faults, judging};
 use reference::script::Line;
 use reference::tally::Tally;
 use reference::{access, script, tally};
@@ -71,7 +71,7 @@ fn tried(tally: Tally, line: Line) -> Tally {
     };
     let e = calls::expected(c, c.n <= MAX_LISTED);
     let right = if is_graph {
-        checks::is_right(result(line, c.n), e, c)
+        judging::is_right(result(line, c.n), e, c)
     } else {
         script::expected(line, 1) == e.answer
     };

@@ -1,7 +1,7 @@
 // Results with a fault planted, each of which the comparison has to report.
 use crate::buffers::ROOM;
 use crate::calls::{Call, Shown};
-use crate::{calls, checks};
+use crate::{calls, judging};
 use reference::tally::Tally;
 use reference::{access, random, tally};
 use reference_runs::answers::{BANNED, NO_RUN, PINNED};
@@ -165,13 +165,13 @@ fn call_of(c: Call, kind: u32, r: Runs) -> Call {
 
 // A result held to what it should be, and then with each kind of fault.
 pub fn tried(tally: Tally, which: u32, s: Shown, e: Shown, c: Call) -> Tally {
-    let mut t = tally::checked(tally, which, checks::is_right(s, e, c));
+    let mut t = tally::checked(tally, which, judging::is_right(s, e, c));
     let r = runs_of(s, e, c);
     for kind in 0..KINDS {
         if applies(kind, r) {
             t = tally::with(t, access::plus(FIRST_COUNT, kind), 1);
             let faulty = with_fault(s, c.n, kind, r);
-            t = tally::planted(t, !checks::is_right(faulty, e, call_of(c, kind, r)));
+            t = tally::planted(t, !judging::is_right(faulty, e, call_of(c, kind, r)));
         }
     }
     t

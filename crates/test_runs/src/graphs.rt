@@ -1,6 +1,6 @@
 // Random graphs, as they are and damaged, each held to the reference.
 use crate::calls::Call;
-use crate::{calls, checks, damage, faults, making};
+use crate::{calls, damage, faults, judging, making};
 use reference::tally::Tally;
 use reference::{access, random, tally};
 use reference_runs::listing::MAX_LISTED;
@@ -28,7 +28,7 @@ fn tried_small(tally: Tally, k: u32) -> Tally {
     let listed = calls::expected(c, true);
     let planned = calls::expected(c, false);
     let is_same = listed.outcome == planned.outcome && listed.total == planned.total;
-    let agree = is_same && checks::are_right(listed, planned, c.n);
+    let agree = is_same && judging::are_right(listed, planned, c.n);
     compared(tally::checked(tally, LISTED, agree), c)
 }
 

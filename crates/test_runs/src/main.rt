@@ -6,7 +6,7 @@
 mod buffers; // buffers.rt: parts of lists and buffers
 mod calls; // calls.rt: a call, what it gave and what it should give
 mod cases; // cases.rt: graphs and refusals whose results are written out, on standard input
-mod checks; // checks.rt: whether a result is right
+mod judging; // judging.rt: whether a result is right
 mod damage; // damage.rt: calls with one thing changed
 mod faults; // faults.rt: results with a fault planted
 mod graphs; // graphs.rt: random graphs, as they are and damaged

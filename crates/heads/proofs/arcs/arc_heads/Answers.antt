@@ -1,0 +1,44 @@
+-- `arc_heads` has gathered the heads below `head` that have an arc. Assumes nothing.
+use mathlib.Core.Path.{◌≡◌, sym, ◌∙◌}
+use Prim.Native.Nat.{◌-◌}
+use native.Mathlib.Omega.{arith}
+use Rattle.instance.specs.Limits.{max_vertices}
+use Rattle.instance.specs.Matrix.{unmarked}
+use Rattle.commands.specs.Heads.{names_arc, heads_of}
+use Rattle.base.proofs.DigitLaws.{digits_none}
+use Rattle.instance.proofs.SetBits.{set_fits, set_more, set_skip}
+use Rattle.heads.proofs.arcs.arc_heads.Goals as goal
+use Rattle.heads.proofs.arcs.arc_heads.Goals.{else-names_arc, then-names_arc}
+
+pub loop-head-init : goal.loop-head-init
+loop-head-init c = (omega arith, rw (digits_none 2 _))
+
+pub names_arc-requires : goal.names_arc-requires
+names_arc-requires c = (c.requires.0, c.requires.1, omega arith)
+
+pub overflow_shl-arcs : goal.overflow_shl-arcs
+overflow_shl-arcs c = omega arith
+
+pub overflow_add-arcs : goal.overflow_add-arcs
+overflow_add-arcs c = let a = c.args in
+    record { fits = set_fits (names_arc (unmarked a.n a.root a.weights.now) a.tail a.heads) _ _ (omega arith) c.loop-head.invariant.1 }
+
+pub overflow_add-head : goal.overflow_add-head
+overflow_add-head c = omega arith
+
+pub loop-head-smaller : goal.loop-head-smaller
+loop-head-smaller c = omega arith
+
+pub loop-head-preserved : goal.loop-head-preserved
+loop-head-preserved c =
+    let l = c.loop-head in
+    let a = c.args in
+    let q = names_arc (unmarked a.n a.root a.weights.now) a.tail a.heads in
+    let r = c.names_arc.ensures in (
+      omega arith,
+      elim c.if-names_arc.branch [ then-names_arc w ↦ rw w.arcs-is (set_more q _ _ (omega arith) l.invariant.1 (sym r ∙ w.if-names_arc.true)) | else-names_arc w ↦ rw w.arcs-is (set_skip q _ _ (omega arith) l.invariant.1 (sym r ∙ w.if-names_arc.false)) ],
+    )
+
+pub returns : goal.returns
+unfolding heads_of
+returns c = let e : c.loop-head.head ≡ max_vertices = omega arith in rw e at c.loop-head.invariant.1

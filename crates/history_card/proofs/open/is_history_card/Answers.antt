@@ -1,0 +1,22 @@
+-- `is_history_card` meets its contract: an empty card has no field, which is 0. Assumes nothing.
+use mathlib.Core.Path.{◌≡◌, refl}
+use mathlib.Core.Bool.{false}
+use mathlib.Core.List.{List, [], ◌∷◌}
+use Prim.Native.Nat.{ℕ}
+use native.Mathlib.Omega.{arith}
+use lib.ListN.{length}
+use Rattle.bits.specs.Bits.{bits_in, field, number_from}
+use Rattle.history_format.specs.HistoryCard.{is_history}
+use Rattle.history_card.proofs.open.is_history_card.Goals as goal
+
+none : (ws : List ℕ) → length ws ≡ 0 → false ≡ is_history ws
+unfolding is_history bits_in field number_from
+none [] e = refl
+none (w ∷ ws) e = absurd (omega arith)
+
+pub returns-then-card-eq0 : goal.returns-then-card-eq0
+returns-then-card-eq0 c = none c.args.card.now c.if-card-eq0.true
+
+pub returns : goal.returns
+unfolding is_history
+returns c = rw (← c.read_bits.ensures)
