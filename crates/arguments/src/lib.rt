@@ -10,32 +10,22 @@ use std::rt::Env;
 // The longest word that is read as a number.
 const MAX_WORD: usize = 64;
 
-// A word of the arguments: whether it is a number, and which, up to that of `scan_digits` for all larger ones.
-#[derive(Clone, Copy)]
-pub struct Word {
-    pub good: bool,
-    pub value: u32,
-}
-
-fn number_in(word: &[u8]) -> Word
+// A word of the arguments as a number, if it is one: that of `scan_digits`, which stands for all larger ones too.
+fn number_in(word: &[u8]) -> Option<u32>
     ensures { ReadsWord word.now result }
 {
-    let length = word.len();
-    if length == 0 {
-        return Word {
-            good: false,
-            value: 0,
-        };
+    if word.is_empty() {
+        return None;
     }
     let digits = scan_digits(word, 0);
-    Word {
-        good: digits.end == length,
-        value: digits.value,
+    if digits.end != word.len() {
+        return None;
     }
+    Some(digits.value)
 }
 
 // A missing argument is read as the empty word, and so is one that is too long: neither is a number.
-pub fn number_at(env: &impl Env, i: usize) -> Word
+pub fn number_at(env: &impl Env, i: usize) -> Option<u32>
     ensures { ReadsSome result }
 {
     let mut word = [0u8; MAX_WORD];

@@ -1,14 +1,14 @@
 -- Laws of the walk step by step: events one after the other, a walk that has ended, one tail after the other, and what
 -- each way through the program does. Assumes nothing.
 use mathlib.Core.Path.{◌≡◌, refl, sym, ap, ◌∙◌}
-use mathlib.Core.Bool.{true, false, cond}
+use mathlib.Core.Bool.{true, false, cond, true≢false}
 use mathlib.Core.List.{List, [], ◌∷◌, ◌++◌}
 use mathlib.Core.Logic.{◌≢◌}
 use Prim.Native.Nat.{ℕ, suc, ◌+◌, ◌-◌, ◌*◌, ◌≤◌, ◌<◌}
 use native.Mathlib.Numerals.{add-one}
 use native.Mathlib.Omega.{arith}
-use lib.ListN.{length, get_or, take, set}
-use lib.Seq.{paste, paste-suc, take-take}
+use lib.ListN.{length}
+use lib.Seq.{paste}
 use borrow.Author.Tests.{ne_eqb, eq-eqb, le-leb, lt-leb}
 use Rattle.base.specs.Lists.{join_below}
 use Rattle.base.proofs.JoinLaws.{join_more}
@@ -61,17 +61,19 @@ module _ (n left trees : ℕ) (e : Ended) (out : List ℕ) (on : is_complete e �
 
   -- ONE TREE
   pub tree_stored : (ps : List ℕ) → trees * n + n ≤ length out
-      → scan n (listed (take n ps) ∷ []) (place left trees e out) ≡ place left (trees + 1) Complete (paste out (trees * n) ps n)
+      → scan n (listed ps ∷ []) (place left trees e out) ≡ place left (trees + 1) Complete (paste out (trees * n) ps n)
   unfolding scan step
-  tree_stored ps r = rw (on, le-leb (trees * n + n) (length out) r, take-take n n ps (omega arith))
+  tree_stored ps r = rw (on, le-leb (trees * n + n) (length out) r)
 
   pub tree_without_room : (ps : List ℕ) → length out < trees * n + n → scan n (listed ps ∷ []) (place left trees e out) ≡ place left trees NoRoom out
   unfolding scan step
   tree_without_room ps r = rw (on, lt-leb (trees * n + n) (length out) r)
 
-pub paste_more : (old out : List ℕ) (at : ℕ) (ps : List ℕ) (i : ℕ) → at + i < length old → i < length ps → out ≡ paste old at ps i
-    → set out (at + i) (get_or ps i 0) ≡ paste old at ps (i + 1)
-paste_more old out at ps i h k e = rw (e, add-one i) (paste-suc old at ps i 0 h k)
+-- a walk that nothing has ended
+pub complete_is : (e : Ended) → is_complete e ≡ true → e ≡ Complete
+complete_is Complete q = refl
+complete_is AtLimit q = absurd (true≢false (sym q))
+complete_is NoRoom q = absurd (true≢false (sym q))
 
 -- SETTLING A VERTEX: all are settled, the root, one tail after the other
 module _ (v : ℕ) (s : Instance) (ps : List ℕ) (w : Place) where

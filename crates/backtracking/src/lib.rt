@@ -7,8 +7,8 @@ mod cycle; // cycle.rt: whether an arc closes a cycle
 mod store; // store.rt: a tree put into the caller's buffer
 mod walk; // walk.rt: the walk, two functions that call each other
 
-ghost use Rattle.std.specs.Prelude.{◌≡◌, true, ◌≤◌, length};
-ghost use Rattle.instance.specs.Limits.{max_tries, cells};
+ghost use Rattle.std.specs.Prelude.{◌≡◌, true, ◌≤◌};
+ghost use Rattle.instance.specs.Limits.{max_tries};
 ghost use Rattle.instance.specs.Instance.{instance_with};
 ghost use Rattle.instance.specs.Valid.{valid_instance};
 ghost use Rattle.backtracking.specs.Listing.{ListsTrees};
@@ -37,7 +37,7 @@ pub fn list_trees<'a>(
     limit: u32,
     out: &mut [u8],
 ) -> Progress
-    requires { (valid_instance (instance_with n root budget weights.now marks.now) ≡ true) × (length weights.now ≡ cells) × (length marks.now ≡ cells) × (limit ≤ max_tries) }
+    requires { (valid_instance (instance_with n root budget weights.now marks.now) ≡ true) × (limit ≤ max_tries) }
     ensures { ListsTrees (instance_with n root budget weights.now marks.now) limit out.old out.new result }
 {
     let m = remaining_matrix(weights, marks, n, root);

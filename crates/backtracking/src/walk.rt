@@ -17,26 +17,16 @@ use instance::limits::{CELLS, NO_ARC, NO_PARENT, VERTICES};
 fn goes_on(ended: Ended) -> bool
     ensures { result ≡ is_complete ended }
 {
-    match ended {
-        Ended::Complete => true,
-        Ended::AtLimit => false,
-        Ended::NoRoom => false,
-    }
+    matches!(ended, Ended::Complete)
 }
 
 // Whether nothing comes after the arc from t into v: it closes a cycle, or v is the last vertex and the sum with it is
 // over the budget.
 fn ends_there(parents: &[u8; VERTICES], n: u32, budget: u32, v: u32, t: u32, sum: u32) -> bool
-    requires { (length parents.now ≡ max_vertices) × (n ≤ max_vertices) × (v < n) }
+    requires { (n ≤ max_vertices) × (v < n) }
     ensures { result ≡ reaches n v (take v parents.now) t || (eqb (v + 1) n && ltb budget sum) }
 {
-    if closes_cycle(parents, n, v, t) {
-        return true;
-    }
-    if v + 1 == n {
-        return budget < sum;
-    }
-    false
+    closes_cycle(parents, n, v, t) || v + 1 == n && budget < sum
 }
 
 // Settles vertex v and those after it, in every way.
@@ -67,10 +57,8 @@ pub fn settle(
         return settle(m, next, n, root, budget, v + 1, sum, progress, out);
     }
     let mut p = progress;
-    let mut t: u32 = 0;
-    while t < n {
+    for t in 0..n {
         p = try_tail(m, &parents, n, root, budget, v, t, sum, p, out);
-        t += 1;
     }
     p
 }
@@ -92,37 +80,28 @@ fn try_tail(
     requires { Settling m.now parents.now n root v sum × (v < n) × (v ≢ root) × (t < n) × (progress.trees + progress.left ≤ max_tries + 1) }
     ensures { Walks n (tail_events (n - (v + 1)) v (matrix_instance n root budget m.now) (take v parents.now) t) progress out.old out.new result }
 {
-    let left = progress.left;
-    let trees = progress.trees;
-    let ended = progress.ended;
-    if !goes_on(ended) {
+    if !goes_on(progress.ended) {
         return progress;
     }
     let weight = m[(32 * t + v) as usize];
     if weight == NO_ARC {
         return progress;
     }
-    if left == 0 {
+    if progress.left == 0 {
         return Progress {
-            left: 0,
-            trees,
             ended: Ended::AtLimit,
+            ..progress
         };
     }
+    let tried = Progress {
+        left: progress.left - 1,
+        ..progress
+    };
     let after = sum + weight;
     if ends_there(parents, n, budget, v, t, after) {
-        return Progress {
-            left: left - 1,
-            trees,
-            ended: Ended::Complete,
-        };
+        return tried;
     }
     let mut next = *parents;
     next[v as usize] = t as u8;
-    let tried = Progress {
-        left: left - 1,
-        trees,
-        ended: Ended::Complete,
-    };
     settle(m, next, n, root, budget, v + 1, after, tried, out)
 }

@@ -10,7 +10,7 @@ use lib.Dec.{ltb}
 use lib.ListN.{length, set, take, drop, replicate, length-set, length-append, length-replicate, take-append-drop}
 use lib.Seq.{take-suc-set, drop-set-lt, length-take-le}
 use Rattle.bits.specs.Bits.{bits_of, bits_in, packed, are_bytes}
-use Rattle.bits.specs.Writer.{bits_put, filling, Ready, Put}
+use Rattle.bits.specs.Writer.{bits_put, new_writer, filling, Ready, Put}
 use Rattle.bits.specs.declared.BitWriter.{BitWriter}
 use Rattle.base.specs.Lists.{in_front}
 use Rattle.base.proofs.AllOfLaws.{all_of_take}
@@ -92,9 +92,6 @@ ready_part xs ys p q bs cs ds all u e r =
     record { few = u.few; room = omega (arith, u.moved, u.long, r.room) }
 
 -- WHOLE BYTES
-abbrev pub new_writer : BitWriter
-new_writer = record { at = 0; partial = 0; count = 0 }
-
 none_put : (xs : List ℕ) → bits_put xs new_writer ≡ []
 unfolding bits_put bits_of bits_in
 none_put xs = refl

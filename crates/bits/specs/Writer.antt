@@ -7,6 +7,10 @@ use Rattle.bits.specs.declared.BitWriter.{BitWriter}
 unfoldable pub bits_put : (out : List ℕ) → BitWriter → List ℕ
 bits_put out w = bits_in (take w.at out) ++ bits_of w.count w.partial
 
+-- a writer at the beginning of a buffer has put nothing
+abbrev pub new_writer : BitWriter
+new_writer = record { at = 0; partial = 0; count = 0 }
+
 -- there is room for so many bits more
 pub record Ready (width : ℕ) (w : BitWriter) (out : List ℕ) : Type 0 where
   pub few : w.count < 8

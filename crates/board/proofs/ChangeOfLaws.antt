@@ -12,6 +12,8 @@ use Rattle.base.specs.Digits.{from_digits}
 use Rattle.base.proofs.AllOfLaws.{all_of_first}
 use Rattle.instance.specs.Limits.{max_vertices, max_budget, free, max_records}
 use Rattle.instance.specs.Refusals.{bad_budget, history_full, invalid_board}
+use Rattle.instance.specs.RefusalNumbers.{refusal_number}
+use Rattle.instance.specs.declared.refusals.Refusal.{Refusal}
 use Rattle.instance.specs.Marks.{mark_number}
 use Rattle.instance.specs.Instance.{Instance, instance_with, cell, mark}
 use Rattle.instance.specs.Cuts.{inside}
@@ -28,11 +30,11 @@ use Rattle.commands.proofs.ValidLaws.{valid_parts, record_cell, record_arcs, rec
 use Rattle.board.specs.declared.Board.{Board}
 use Rattle.board.specs.declared.Replaced.{Replaced}
 use Rattle.board.specs.declared.Replaced.TheVariants.{OldMark, OldBudget, OldMarks}
-use Rattle.board.specs.declared.changes.Change.{Change}
-use Rattle.board.specs.declared.changes.Change.TheVariants.{Refuses, Records}
+use Rattle.board.specs.Changes.{Change, Refuses, Records}
 use Rattle.board.specs.ModelOf.{replaced_of, blank_record, history_of, instance_of, model_of}
 use Rattle.board.specs.Calls.{Answers}
 use Rattle.board.specs.Changes.{changed, mark_change, arcs_to, every_head, marks_change, budget_change, undo_change, budget_put, marks_put, Within, Recorded, TakenBack, Gives}
+use Rattle.instance.proofs.RefusalLaws.{not_0}
 use Rattle.board.proofs.ModelOfLaws.{length_history, history_none, history_step, history_more}
 use Rattle.board.proofs.SetMarksLaws.{number_is, record_made, accepted_is, put_is_all}
 use Rattle.board.proofs.CallLaws.{records_added, records_left}
@@ -42,6 +44,10 @@ pub changed_refused : (k : ℕ) (o p : Replaced) → (k ≡ 0 → ⊥) → Refus
 unfolding changed
 changed_refused zero o p n = absurd (n refl)
 changed_refused (suc k) o p n = refl
+
+-- by an error, which has a number other than 0
+pub outcome_refused : (k : ℕ) (o p : Replaced) (e : Refusal) → refusal_number e ≡ k → Refuses (refusal_number e) ≡ changed k o p
+outcome_refused k o p e h = ap Refuses h ∙ changed_refused k o p (λ z. not_0 e (h ∙ z))
 
 pub changed_recorded : (k : ℕ) (o p : Replaced) → k ≡ 0 → Records o p ≡ changed k o p
 unfolding changed

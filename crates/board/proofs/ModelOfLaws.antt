@@ -1,13 +1,15 @@
 -- The program's board against its model: what holding a board by value tells, and the history that its records are.
 -- Assumes nothing.
-use mathlib.Core.Path.{◌≡◌, refl, ap, ◌∙◌}
+use mathlib.Core.Path.{◌≡◌, refl, ap}
 use mathlib.Core.Bool.{Bool, true, false, ◌&&◌}
 use mathlib.Core.List.{List, [], ◌∷◌}
 use Prim.Native.Nat.{ℕ, zero, suc, ◌+◌, ◌-◌, ◌≤◌, ◌<◌}
 use native.Mathlib.Omega.{arith}
 use native.Mathlib.Numerals.{add-one}
+use lib.Dec.{eqb}
 use lib.ListN.{length, get_or, set}
 use lib.Seq.{get_or-set_same, get_or-set_other}
+use borrow.Author.Tests.{eqb-true, eqb-false}
 use denote.Laws.{Is}
 use denote.Struct.Declared.{row}
 use mir.Val.{Val}
@@ -62,19 +64,28 @@ pub history_more :
 unfolding history_of
 history_more k rs r h = rw (add-one, get_or-set_same rs k r blank_record h, history_past k k rs r (omega arith))
 
--- a loop down the records stops at one that fails, and goes on at one that passes
+-- a loop up the records stops at one that fails, and goes on at one that passes
 module _ (q : Replaced → Bool) (rs : List UndoRecord) where
-  pub history_all : (k : ℕ) → k ≡ 0 → all_of q (history_of k rs) ≡ true
-  unfolding history_of all_of
-  history_all k e = rw e
-
-  all_step : (k : ℕ) → 0 < k → all_of q (history_of k rs) ≡ q (replaced_of (get_or rs (k - 1) blank_record).replaced) && all_of q (history_of (k - 1) rs)
-  unfolding all_of
-  all_step k h = rw (history_step k rs h)
-
-  pub history_fail : (k : ℕ) → 0 < k → q (replaced_of (get_or rs (k - 1) blank_record).replaced) ≡ false → all_of q (history_of k rs) ≡ false
-  history_fail k h e = all_step k h ∙ rw e
-
   pub history_pass :
-      (k : ℕ) → 0 < k → q (replaced_of (get_or rs (k - 1) blank_record).replaced) ≡ true → all_of q (history_of k rs) ≡ all_of q (history_of (k - 1) rs)
-  history_pass k h e = all_step k h ∙ rw e
+      (k : ℕ) → q (replaced_of (get_or rs k blank_record).replaced) ≡ true → all_of q (history_of k rs) ≡ true → all_of q (history_of (k + 1) rs) ≡ true
+  unfolding history_of all_of
+  history_pass k e f = rw (add-one, e, f)
+
+  and_no : (x : Bool) → x && false ≡ false
+  and_no true = refl
+  and_no false = refl
+
+  pub history_fail : (k i : ℕ) → i < k → q (replaced_of (get_or rs i blank_record).replaced) ≡ false → all_of q (history_of k rs) ≡ false
+  unfolding history_of all_of
+  history_fail zero i l e = absurd (omega arith)
+  history_fail (suc k) i l e = go (eqb i k) refl (λ m. history_fail k i m e)
+    where
+      now : q (replaced_of (get_or rs k blank_record).replaced) ≡ false → all_of q (history_of (suc k) rs) ≡ false
+      now f = rw f
+
+      before : all_of q (history_of k rs) ≡ false → all_of q (history_of (suc k) rs) ≡ false
+      before f = rw f (and_no (q (replaced_of (get_or rs k blank_record).replaced)))
+
+      go : (t : Bool) → eqb i k ≡ t → (i < k → all_of q (history_of k rs) ≡ false) → all_of q (history_of (suc k) rs) ≡ false
+      go true x below = now (rw (eqb-true i k x) at e)
+      go false x below = let n = eqb-false i k x in before (below (omega (arith, l, n)))

@@ -1,8 +1,10 @@
 -- What a call on the program's board answers and leaves: what the contracts say. Assumes nothing: these are
 -- definitions.
-use Rattle.std.specs.Prelude.{◌≡◌, cond, List, [], ◌∷◌, ℕ, eqb, length, get_or, set}
+use Rattle.std.specs.Prelude.{◌≡◌, cond, List, [], ◌∷◌, ℕ, eqb, length, get_or, set, Result as Returned, ⊤}
 use Rattle.base.specs.Digits.{from_digits}
 use Rattle.instance.specs.Limits.{max_vertices, free}
+use Rattle.instance.specs.RefusalNumbers.{answer_of}
+use Rattle.instance.specs.declared.refusals.Refusal.{Refusal}
 use Rattle.commands.specs.Model.{Replaced, old_mark, old_marks, old_budget}
 use Rattle.commands.specs.Commands.{Result}
 use Rattle.board.specs.declared.Board.{Board}
@@ -23,6 +25,10 @@ record_of (old_budget v) = record { replaced = OldBudget v }
 unfoldable pub records_after : (records : List UndoRecord) → (count : ℕ) → (history : List Replaced) → List UndoRecord
 records_after rs k [] = rs
 records_after rs k (o ∷ os) = cond (eqb (length os) k) (set rs k (record_of o)) rs
+
+-- what a call answers, and the board that it leaves
+abbrev pub answered_as : Returned ⊤ Refusal → Board → Answered
+answered_as r b = record { answer = answer_of r; board = b }
 
 -- What a call on the board b gives: answer and board as the model's result d, "board as before" after a refusal, and
 -- which record places are set. So the whole board is fixed.

@@ -1,10 +1,12 @@
 -- What a command comes to on a valid board, as the program holds it: what is recorded and what is put. Assumes nothing:
 -- these are definitions.
-use Rattle.std.specs.Prelude.{◌≡◌, ◌&&◌, not, cond, List, ℕ, zero, suc, ◌*◌, ◌-◌, ◌<◌, ltb, leb, eqb, get_or, set}
+use Rattle.std.specs.Prelude.{◌≡◌, ◌&&◌, not, cond, List, ℕ, zero, suc, ◌*◌, ◌-◌, ◌<◌, ltb, leb, eqb, get_or, set, Result as Returned, Ok, Err}
 use Rattle.base.specs.Digits.{from_digits, digit}
 use Rattle.instance.specs.Limits.{max_vertices, free, max_records, cells}
 use Rattle.instance.specs.Refusals.{history_empty}
 use Rattle.instance.specs.Marks.{mark_number}
+use Rattle.instance.specs.RefusalNumbers.{refusal_number}
+use Rattle.instance.specs.declared.refusals.Refusal.{Refusal}
 use Rattle.instance.specs.Instance.{cell}
 use Rattle.instance.specs.Cuts.{inside}
 use Rattle.instance.specs.Matrix.{unmarked}
@@ -16,10 +18,22 @@ use Rattle.board.specs.declared.Board.{Board}
 use Rattle.board.specs.declared.UndoRecord.{UndoRecord}
 use Rattle.board.specs.declared.Replaced.{Replaced}
 use Rattle.board.specs.declared.Replaced.TheVariants.{OldMark, OldBudget, OldMarks}
-use Rattle.board.specs.declared.changes.Change.{Change}
-use Rattle.board.specs.declared.changes.Change.TheVariants.{Refuses, Records, TakesBack}
+use Rattle.board.specs.declared.changes.Change as declared-change
+use Rattle.board.specs.declared.changes.Change.TheVariants as declared-changes
 use Rattle.board.specs.ModelOf.{replaced_of, blank_record, history_of, instance_of, model_of}
 use Rattle.board.specs.Calls.{record_of}
+
+-- What a command comes to: a refusal's number; or what is recorded, as it was, and what is put in its place; or what
+-- undo puts back.
+pub data Change : Type 0 where
+  Refuses : (answer : ℕ) → Change
+  Records : (old new : Replaced) → Change
+  TakesBack : (old : Replaced) → Change
+
+abbrev pub outcome_of : Returned declared-change.Change Refusal → Change
+outcome_of (Err r) = Refuses (refusal_number r)
+outcome_of (Ok (declared-changes.Records o p)) = Records o p
+outcome_of (Ok (declared-changes.TakesBack p)) = TakesBack p
 
 -- BY THE BOARD'S PARTS
 -- refused by a number, or where that is 0 one record more
@@ -69,9 +83,6 @@ Within (OldBudget w) = w ≡ w
 Within (OldMarks t c k) = t < max_vertices
 
 -- WHAT A CHANGE GIVES: the model's result d on the board b
-abbrev pub board_with_parts : (n root budget : ℕ) → (weights marks : List ℕ) → List UndoRecord → (count : ℕ) → Board
-board_with_parts n r v ws ms rs k = record { n = n; root = r; budget = v; weights = ws; marks = ms; records = rs; count = k }
-
 -- one record more, the one that stands for what it means
 pub record Recorded (d : Result) (b : Board) (old new : Replaced) : Type 0 where
   pub few : b.count < max_records

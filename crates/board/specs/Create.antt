@@ -1,8 +1,10 @@
 -- A board with no record, the blank one that stands for no board, and the board that a card opens as. Assumes nothing:
 -- these are definitions.
-use Rattle.std.specs.Prelude.{◌≡◌, cond, List, [], ◌∷◌, ℕ, eqb, length, set, replicate}
+use Rattle.std.specs.Prelude.{◌≡◌, cond, List, [], ◌∷◌, ℕ, eqb, length, set, replicate, Result, Ok, Err}
 use Rattle.instance.specs.Instance.{instance_with}
 use Rattle.instance.specs.Limits.{cells, max_records}
+use Rattle.instance.specs.RefusalNumbers.{refusal_number}
+use Rattle.instance.specs.declared.refusals.Refusal.{Refusal}
 use Rattle.commands.specs.Model.{Replaced, Model, opened}
 use Rattle.board.specs.declared.Board.{Board}
 use Rattle.board.specs.declared.Answered.{Answered}
@@ -52,3 +54,8 @@ answered_with a b = record { answer = a; board = b }
 -- a card opens as a board, or gets a refusal and "no board", which is the blank one
 unfoldable pub opened_as : (refusal : ℕ) → Model → Answered
 opened_as k m = cond (eqb k 0) (answered_with 0 (board-of m)) (answered_with k blank)
+
+-- what opening a card gives, as such a record: refused, it gives "no board"
+abbrev pub opening_of : Result Board Refusal → Answered
+opening_of (Ok b) = answered_with 0 b
+opening_of (Err r) = answered_with (refusal_number r) blank

@@ -1,7 +1,7 @@
-// The board: an instance with the history of what was replaced on it, handed in and back by value. Commands set one
-// mark, several or the budget and record what they replaced, undo restores it; a board that is invalid is refused
-// before anything else is judged. Everything is held against the model of the crate `commands`, by the definitions of
-// specs/ModelOf.antt and specs/Calls.antt.
+// The board: an instance with the history of what was replaced on it, lent to whoever sets or reads it. Commands set
+// one mark, several or the budget and record what they replaced, undo restores it; a board that is invalid is refused
+// before anything else is judged, and a refused one stays as it was. Everything is held against the model of the crate
+// `commands`, by the definitions of specs/ModelOf.antt and specs/Calls.antt.
 #![tactic(auto)]
 
 pub mod valid; // valid.rt: whether a board is valid
@@ -41,7 +41,8 @@ pub struct Board {
     pub count: usize,
 }
 
-// What a command gives, and what opening a card gives: 0 or the number of the refusal, and the board that is left.
+// What a call on a board comes to, as the definitions and the tests speak of it: 0 or the number of the refusal, and
+// the board that is left.
 #[derive(Clone, Copy)]
 pub struct Answered {
     pub answer: u32,

@@ -2,11 +2,10 @@
 ghost use Rattle.std.specs.Prelude.{◌≡◌, ◌≤◌, ◌<◌};
 ghost use Rattle.instance.specs.Limits.{max_vertices, max_records};
 ghost use Rattle.commands.specs.Setters.{record_names as names_arc, setter as setter-in};
-ghost use Rattle.board.specs.ModelOf.{replaced_of, history_of};
+ghost use Rattle.board.specs.ModelOf.{replaced_of, model_of};
 
-use crate::{Replaced, UndoRecord};
+use crate::{Board, Replaced};
 use checks::sets::is_inside;
-use instance::limits::MAX_RECORDS;
 
 // Whether a record restores the mark of the arc.
 fn record_names(replaced: Replaced, tail: u32, head: u32) -> bool
@@ -30,17 +29,14 @@ fn record_names(replaced: Replaced, tail: u32, head: u32) -> bool
     }
 }
 
-// The place of the latest record that names the arc, from 1 at the oldest; 0 where none does.
-pub fn setter(records: [UndoRecord; MAX_RECORDS], count: usize, tail: u32, head: u32) -> u32
-    requires { (count ≤ max_records) × (head < max_vertices) }
-    ensures { result ≡ setter-in (history_of count records) tail head }
+// The place of the latest record that names the arc, from 1 at the oldest; 0 where none does, the number that the words
+// of the C interface have for it.
+pub fn setter(b: &Board, tail: u32, head: u32) -> u32
+    requires { (b.now.count ≤ max_records) × (head < max_vertices) }
+    ensures { result ≡ setter-in (model_of b.now).history tail head }
 {
-    let mut k = count;
-    while 0 < k {
-        k -= 1;
-        let e = records[k];
-        let replaced = e.replaced;
-        if record_names(replaced, tail, head) {
+    for k in (0..b.count).rev() {
+        if record_names(b.records[k].replaced, tail, head) {
             return k as u32 + 1;
         }
     }

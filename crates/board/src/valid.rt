@@ -35,59 +35,30 @@ pub fn record_ok(weights: &[u32; CELLS], n: u32, root: u32, replaced: Replaced) 
     }
 }
 
-fn records_valid(
-    weights: &[u32; CELLS],
-    records: [UndoRecord; MAX_RECORDS],
-    n: u32,
-    root: u32,
-    count: usize,
-) -> bool
-    requires { (n ≤ max_vertices) × (count ≤ max_records) × (length weights.now ≡ cells) }
-    ensures { result ≡ all_of (record_ok (unmarked n root weights.now)) (history_of count records) }
+fn records_valid(b: &Board) -> bool
+    requires { (b.now.n ≤ max_vertices) × (b.now.count ≤ max_records) }
+    ensures { result ≡ all_of (record_ok (unmarked b.now.n b.now.root b.now.weights)) (model_of b.now).history }
 {
-    let mut k = count;
-    while 0 < k {
-        k -= 1;
-        let e = records[k];
-        let r = e.replaced;
-        if !record_ok(weights, n, root, r) {
+    for e in &b.records[..b.count] {
+        if !record_ok(&b.weights, b.n, b.root, e.replaced) {
             return false;
         }
     }
     true
 }
 
-// Whether the board that the arguments make up is valid. What may be judged depends on what was judged before: cells on
-// n and root, records on n and the count. (One lifetime, so that two fields of one struct can be lent.)
-pub fn parts_valid<'a>(
-    weights: &'a [u32; CELLS],
-    marks: &'a [u8; CELLS],
-    records: [UndoRecord; MAX_RECORDS],
-    n: u32,
-    root: u32,
-    budget: u32,
-    count: usize,
-) -> bool
-    requires { (length weights.now ≡ cells) × (length marks.now ≡ cells) }
-    ensures { result ≡ valid (record { instance = instance_with n root budget weights.now marks.now; history = history_of count records }) }
+// What may be judged depends on what was judged before: cells on n and root, records on n and the count.
+pub fn is_valid(b: &Board) -> bool
+    ensures { result ≡ valid (model_of b.now) }
 {
-    if !header_valid(n, root, budget) {
+    if !header_valid(b.n, b.root, b.budget) {
         return false;
     }
-    if !cells_valid(weights, marks, n, root) {
+    if !cells_valid(&b.weights, &b.marks, b.n, b.root) {
         return false;
     }
-    if MAX_RECORDS < count {
+    if MAX_RECORDS < b.count {
         return false;
     }
-    records_valid(weights, records, n, root, count)
-}
-
-pub fn is_valid(b: Board) -> bool
-    ensures { result ≡ valid (model_of b) }
-{
-    let records = b.records;
-    parts_valid(
-        &b.weights, &b.marks, records, b.n, b.root, b.budget, b.count,
-    )
+    records_valid(b)
 }

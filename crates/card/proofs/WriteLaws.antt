@@ -7,9 +7,9 @@ use native.Mathlib.Omega.{arith}
 use lib.ListN.{length, replicate}
 use borrow.Author.Tests.{lt-ltb, le-ltb}
 use Rattle.bits.specs.Bits.{are_bytes}
-use Rattle.bits.specs.Writer.{filling, Ready, Put}
+use Rattle.bits.specs.Writer.{new_writer, filling, Ready, Put}
 use Rattle.bits.specs.declared.BitWriter.{BitWriter}
-use Rattle.bits.proofs.WriterLaws.{new_writer, put_then, filled_bytes}
+use Rattle.bits.proofs.WriterLaws.{put_then, filled_bytes}
 use Rattle.instance.specs.Limits.{max_vertices, cells}
 use Rattle.instance.specs.Refusals.{buffer_short}
 use Rattle.instance.specs.Instance.{Instance, instance_with}

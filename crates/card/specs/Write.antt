@@ -1,10 +1,20 @@
 -- What writing a card gives. Assumes nothing: these are definitions.
-use Rattle.std.specs.Prelude.{◌≡◌, cond, List, ltb, length, ℕ}
+use Rattle.std.specs.Prelude.{◌≡◌, cond, List, ltb, length, ℕ, Result, Ok, Err}
 use Rattle.base.specs.Lists.{in_front}
 use Rattle.instance.specs.Refusals.{buffer_short}
+use Rattle.instance.specs.RefusalNumbers.{refusal_number}
+use Rattle.instance.specs.declared.refusals.Refusal.{Refusal}
 use Rattle.instance.specs.Instance.{Instance}
 use Rattle.card_format.specs.Card.{bytes_needed, card_of}
-use Rattle.card.specs.declared.write.Written.{Written}
+
+-- what writing gives: 0 and the length of the card, or the number of the refusal and nothing else
+pub record Written : Type 0 where
+  pub answer : ℕ
+  pub length : ℕ
+
+abbrev pub written_of : Result ℕ Refusal → Written
+written_of (Ok l) = record { answer = 0; length = l }
+written_of (Err r) = record { answer = refusal_number r; length = 0 }
 
 -- 14: "a lent buffer too short", "board and buffers as before"; else it "returns the needed length"
 unfoldable pub written_to : Instance → (out : List ℕ) → Written

@@ -2,6 +2,7 @@
 ghost use Rattle.std.specs.Prelude.{◌≡◌, true, ◌+◌, ◌*◌, ◌≤◌, ◌<◌, length};
 ghost use Rattle.bits.specs.Bits.{bits_in};
 ghost use Rattle.instance.specs.Limits.{cells};
+ghost use Rattle.instance.specs.RefusalNumbers.{answer_of};
 ghost use Rattle.card_format.specs.Widths.{cell_width};
 ghost use Rattle.card_format.specs.Card.{on_card, max_card, cell_refusal};
 ghost use Rattle.card_format.specs.Offsets.{offset};
@@ -10,7 +11,7 @@ ghost use Rattle.card.specs.Cells.{CellRead, CellsRead};
 use crate::widths::{CELL_WIDTH, HEADER_WIDTH, MARK_WIDTH, WEIGHT_WIDTH};
 use checks::arc::can_be_arc;
 use instance::limits::{CELLS, FREE, MAX_WEIGHT, NO_ARC};
-use instance::refusals::{BAD_MARK, BAD_WEIGHT};
+use instance::refusals::Refusal;
 
 // Whether cell `i` is on the card: its tail and head are vertices, differ, and the head is not the root.
 pub fn on_card(n: u32, root: u32, i: usize) -> bool
@@ -53,64 +54,50 @@ fn read_cell(card: &[u8], n: u32, root: u32, i: usize, at: usize) -> Cell
 const UNUSED_MARK: u8 = 3;
 
 // Refusals 6 and 7 of one cell. No cell of a card gets a 6 (six-retired in card_format).
-fn judge_cell(weight: u32, mark: u8) -> u32
-    ensures { result ≡ cell_refusal weight mark }
+fn judge_cell(weight: u32, mark: u8) -> Result<(), Refusal>
+    ensures { answer_of result ≡ cell_refusal weight mark }
 {
     if weight <= MAX_WEIGHT {
         if mark == UNUSED_MARK {
-            return BAD_MARK;
+            return Err(Refusal::BadMark);
         }
-        return 0;
+        return Ok(());
     }
-    if weight == NO_ARC {
-        if mark == FREE {
-            return 0;
-        }
-        return BAD_MARK;
+    if weight != NO_ARC {
+        return Err(Refusal::BadWeight);
     }
-    BAD_WEIGHT
+    if mark != FREE {
+        return Err(Refusal::BadMark);
+    }
+    Ok(())
 }
 
-// What the cells say: a refusal, or 0 with the weights, the marks and where the bits of the last cell end.
+// What the cells say: the weights, the marks and where the bits of the last cell end.
 #[derive(Clone, Copy)]
 pub struct Cells {
-    pub answer: u32,
     pub weights: [u32; CELLS],
     pub marks: [u8; CELLS],
     pub end: usize,
 }
 
-// All cells, up to the first faulty one, of the card whose bits begin at `start`.
-pub fn read_cells(card: &[u8], start: usize, n: u32, root: u32) -> Cells
+// All cells of the card whose bits begin at `start`, or the refusal of the first faulty one.
+pub fn read_cells(card: &[u8], start: usize, n: u32, root: u32) -> Result<Cells, Refusal>
     requires { (start + offset n root cells ≤ 8 * length card.now) × (offset n root cells ≤ 8 * max_card) × (start ≤ 8 * max_card) }
     ensures { CellsRead (bits_in card.now) start n root result }
 {
     let mut weights = [NO_ARC; CELLS];
     let mut marks = [FREE; CELLS];
     let mut end = start + HEADER_WIDTH;
-    let mut i: usize = 0;
-    while i < CELLS {
+    for i in 0..CELLS {
         let cell = read_cell(card, n, root, i, end);
-        let weight = cell.weight;
-        let mark = cell.mark;
-        let answer = judge_cell(weight, mark);
-        if answer != 0 {
-            return Cells {
-                answer,
-                weights,
-                marks,
-                end,
-            };
-        }
-        weights[i] = weight;
-        marks[i] = mark;
+        judge_cell(cell.weight, cell.mark)?;
+        weights[i] = cell.weight;
+        marks[i] = cell.mark;
         end = cell.next;
-        i += 1;
     }
-    Cells {
-        answer: 0,
+    Ok(Cells {
         weights,
         marks,
         end,
-    }
+    })
 }

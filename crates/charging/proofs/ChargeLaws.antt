@@ -6,12 +6,13 @@ use mathlib.Core.List.{List, [], ◌∷◌}
 use mathlib.Core.Logic.{◌≢◌, ◌⊎◌, inl, inr, ⊎_elim}
 use Prim.Native.Nat.{ℕ, ◌+◌, ◌*◌, ◌-◌, ◌≤◌, ◌<◌}
 use native.Mathlib.Omega.{arith}
+use Rattle.std.specs.Prelude.{Some, None}
 use lib.Dec.{ltb}
-use lib.ListN.{length, set, length-set}
+use lib.ListN.{length, set}
 use lib.Seq.{get_or-set_other}
 use borrow.Author.Tests.{eq-eqb, ne_eqb, ltb-true, ltb-false}
-use Rattle.base.proofs.BoolLaws.{test, not_both}
-use Rattle.instance.specs.Limits.{max_vertices, no_arc, no_parent, cells, max_cuts, cut_words}
+use Rattle.base.proofs.BoolLaws.{test}
+use Rattle.instance.specs.Limits.{max_vertices, no_arc, max_cuts, cut_words}
 use Rattle.instance.specs.Cuts.{Cut, cuts_from}
 use Rattle.contraction.specs.Groups.{Lowered}
 use Rattle.contraction.specs.Trees.{none_left, more, Proper}
@@ -19,10 +20,12 @@ use Rattle.contraction.proofs.Lowering.{lowered_none, lowered_there}
 use Rattle.contraction.proofs.Charging.{entering, enters_no, lowered_charge, charge_tree}
 use Rattle.instance.proofs.SetBits.{inside_some}
 use Rattle.contraction.specs.Cells.{nth, cost}
-use Rattle.charging.specs.Entering.{CheapestArc}
+use Rattle.instance.specs.declared.CutIndex.{CutIndex}
+use Rattle.charging.specs.declared.entering.Entering.{Entering}
+use Rattle.charging.specs.Entering.{EnteringArc, CheapestArc}
 use Rattle.charging.specs.Lower.{Affords, LoweredCells, lowered_weight}
 use Rattle.charging.specs.Members.{Members}
-use Rattle.charging.specs.Charge.{Unentered, ChargedGroup}
+use Rattle.charging.specs.Charge.{Unentered, ChargedGroup, UnenteredGroup}
 use Rattle.charging.proofs.LowerLaws.{low_in, low_out}
 use Rattle.instance.proofs.CutLaws.{no_cuts, one_cut}
 
@@ -39,11 +42,23 @@ group_proper {ls} {n} {g} {s} ms root rl ne v l e =
       no_root = ms.is root rl ∙ ne_eqb (nth ls root) g ne;
     }
 
-module _ (ws ls : List ℕ) (n g : ℕ) (small : n ≤ max_vertices) {t h a : ℕ} (b : CheapestArc ws ls n g n t h a) where
+module _ (ws ls : List ℕ) (n g : ℕ) {arc : Entering} (b : CheapestArc ws ls n g n (Some arc)) where
+  abbrev t : ℕ
+  t = arc.tail.0
+
+  abbrev h : ℕ
+  h = arc.head.0
+
+  abbrev a : ℕ
+  a = arc.weight
+
   pub affords : Affords ws ls n g a
   affords v m e u l ne = b.least u v l m e ne
 
-  module _ (ws' : List ℕ) (lo : LoweredCells ws ws' ls n g a n) where
+  enters_at : EnteringArc ws ls n g arc
+  enters_at = b.arc
+
+  module _ (ws' : List ℕ) (lo : LoweredCells ws ws' ls n g a n) (small : n ≤ max_vertices) where
     at_cell : (u v : ℕ) → u < n → v < n → cost ws' u v ≡ lowered_weight ls g a u v (cost ws u v)
     at_cell u v l m = lo.done u v l m
 
@@ -66,7 +81,7 @@ module _ (ws ls : List ℕ) (n g : ℕ) (small : n ≤ max_vertices) {t h a : �
         (λ (q : ltb v n ≡ false). lo.rest u v l (inr (ltb-false v n q))) (test (ltb v n)))
         (λ (p : ltb u n ≡ false). lo.rest u v l (inl (ltb-false u n p))) (test (ltb u n))
 
-    module _ (cuts : List ℕ) (k s : ℕ) (room : k < max_cuts) (cuts_size : length cuts ≡ cut_words) (ms : Members ls n g s) (lt : a < no_arc) (pos : 1 ≤ a) where
+    module _ (cuts : List ℕ) (k s : ℕ) (room : k < max_cuts) (cuts_size : length cuts ≡ cut_words) (ms : Members ls n g s) (pos : 1 ≤ a) where
       abbrev cut : Cut
       cut = record { set = s; value = a }
 
@@ -76,12 +91,9 @@ module _ (ws ls : List ℕ) (n g : ℕ) (small : n ≤ max_vertices) {t h a : �
       is_one : cuts_from ((k + 1) - k) k cuts' ≡ cut ∷ []
       is_one = one_cut cuts k s a (omega arith)
 
-      pub charged : ChargedGroup ws ws' ls n g k cuts cuts' true t h (k + 1) 0
+      pub charged : ChargedGroup ws ws' ls n g k cuts cuts' (record { tail = arc.tail; head = arc.head; next = record { 0 = k + 1 } })
       charged =
-          let size = cuts_size in
           record {
-            size = lo.size;
-            cuts_size = simp length-set size;
             least = omega arith;
             most = omega arith;
             frame =
@@ -93,69 +105,49 @@ module _ (ws ls : List ℕ) (n g : ℕ) (small : n ≤ max_vertices) {t h a : �
                 (lowered_charge n (nth ls) g cut ms.is (cost ws) (cost ws') lowered_cell
                 (λ u v l m why. same_cell u v l m (⊎_elim (λ d. inl d) (λ d. inr (inl d)) why)) beyond_or_none);
             arc =
-                λ _.
                 record {
-                  tail_below = b.tail_below lt;
-                  head_below = b.head_below lt;
-                  tail_out = b.tail_out lt;
-                  head_in = b.head_in lt;
+                  tail_below = enters_at.tail_below;
+                  head_below = enters_at.head_below;
+                  tail_out = enters_at.tail_out;
+                  head_in = enters_at.head_in;
                   tight =
-                      let x = b.is lt in
-                      let y = lowered_cell t h (b.tail_below lt) (b.head_below lt) (omega arith) (b.head_in lt) (b.tail_out lt) in
+                      let x = enters_at.is in
+                      let there = enters_at.there in
+                      let y = lowered_cell t h enters_at.tail_below enters_at.head_below (omega arith) enters_at.head_in enters_at.tail_out in
                       omega arith;
                 };
-            lifts = λ _ root off w cs parent tr. rw is_one (charge_tree n (nth ls) g cut ms.is root w cs parent tr off h (b.head_below lt) (b.head_in lt));
-            proper_cuts = λ _ root rl ne. rw is_one (more (record { proper = group_proper ms root rl ne h (b.head_below lt) (b.head_in lt); value = pos }) none_left);
-            unentered = λ e. absurd (not_both true refl e);
+            lifts = λ root off w cs parent tr. rw is_one (charge_tree n (nth ls) g cut ms.is root w cs parent tr off h enters_at.head_below enters_at.head_in);
+            proper_cuts = λ root rl ne. rw is_one (more (record { proper = group_proper ms root rl ne h enters_at.head_below enters_at.head_in; value = pos }) none_left);
           }
 
   -- the cheapest arc has weight 0 already
-  pub uncharged : (cuts : List ℕ) (k : ℕ) → length ws ≡ cells → length cuts ≡ cut_words → a ≡ 0 → ChargedGroup ws ws ls n g k cuts cuts true t h k 0
-  uncharged cuts k size cuts_size z =
-      let lt : a < no_arc = omega arith in
-      let e = no_cuts k cuts in
+  pub uncharged : (cuts : List ℕ) (c : CutIndex) → a ≡ 0 → ChargedGroup ws ws ls n g c.0 cuts cuts (record { tail = arc.tail; head = arc.head; next = c })
+  uncharged cuts c z =
+      let e = no_cuts c.0 cuts in
       record {
-        size = size;
-        cuts_size = cuts_size;
         least = omega arith;
         most = omega arith;
         frame = λ i why. refl;
         lowered = rw e (lowered_none n (cost ws));
         arc =
-            λ _.
             record {
-              tail_below = b.tail_below lt;
-              head_below = b.head_below lt;
-              tail_out = b.tail_out lt;
-              head_in = b.head_in lt;
-              tight = b.is lt ∙ z;
+              tail_below = enters_at.tail_below;
+              head_below = enters_at.head_below;
+              tail_out = enters_at.tail_out;
+              head_in = enters_at.head_in;
+              tight = enters_at.is ∙ z;
             };
-        lifts = λ _ root off w cs parent tr. rw e tr;
-        proper_cuts = λ _ root rl ne. rw e none_left;
-        unentered = λ x. absurd (not_both true refl x);
+        lifts = λ root off w cs parent tr. rw e tr;
+        proper_cuts = λ root rl ne. rw e none_left;
       }
 
-  -- no arc at all
-  pub no_arcs : (cuts : List ℕ) (k s : ℕ) → length ws ≡ cells → length cuts ≡ cut_words → a ≡ no_arc → Members ls n g s
-      → ChargedGroup ws ws ls n g k cuts cuts false no_parent no_parent k s
-  no_arcs cuts k s size cuts_size e ms =
-      record {
-        size = size;
-        cuts_size = cuts_size;
-        least = omega arith;
-        most = omega arith;
-        frame = λ i why. refl;
-        lowered = rw (no_cuts k cuts) (lowered_none n (cost ws));
-        arc = λ x. absurd (not_both false x refl);
-        lifts = λ x. absurd (not_both false x refl);
-        proper_cuts = λ x. absurd (not_both false x refl);
-        unentered =
-            λ _ root rl ne v l ve.
-            record {
-              proper = group_proper ms root rl ne v l ve;
-              shut =
-                  λ p q x y th.
-                  ⊎_elim (λ (d : (nth ls q ≡ g) × (nth ls p ≢ g)). absurd (omega (arith, affords q y d.0 p x d.1)))
-                  (λ (d : (nth ls q ≢ g) ⊎ (nth ls p ≡ g)). enters_no n (nth ls) g (record { set = s; value = 0 }) ms.is p q x y d) (entering (nth ls) g p q);
-            };
-      }
+-- no arc at all
+pub no_arcs : {ws ls : List ℕ} {n g s : ℕ} → CheapestArc ws ls n g n None → Members ls n g s → UnenteredGroup ws ls n g s
+no_arcs {ws} {ls} {n} {g} {s} b ms root rl ne v l ve =
+    record {
+      proper = group_proper ms root rl ne v l ve;
+      shut =
+          λ p q x y th.
+          ⊎_elim (λ (d : (nth ls q ≡ g) × (nth ls p ≢ g)). absurd (omega (arith, b.least p q x y d.0 d.1)))
+          (λ (d : (nth ls q ≢ g) ⊎ (nth ls p ≡ g)). enters_no n (nth ls) g (record { set = s; value = 0 }) ms.is p q x y d) (entering (nth ls) g p q);
+    }

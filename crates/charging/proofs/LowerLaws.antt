@@ -6,13 +6,11 @@ use mathlib.Core.Logic.{◌≢◌, ◌⊎◌, inl, inr, ⊎_elim}
 use Prim.Native.Nat.{ℕ, ◌+◌, ◌-◌, ◌≤◌, ◌<◌}
 use native.Mathlib.Omega.{arith}
 use lib.Dec.{ltb, eqb}
-use lib.ListN.{length, set, length-set}
-use lib.Seq.{get_or-set_same, get_or-set_other}
+use lib.ListN.{length}
 use borrow.Author.Tests.{ltb-true, ltb-false, lt-ltb, le-ltb, eq-eqb, ne_eqb}
 use Rattle.base.proofs.BoolLaws.{test, and_false_right}
 use Rattle.instance.specs.Limits.{max_vertices, no_arc, cells}
-use Rattle.instance.specs.Instance.{cell}
-use Rattle.contraction.specs.Cells.{nth, cost}
+use Rattle.contraction.specs.Cells.{nth}
 use Rattle.charging.specs.Lower.{lowered_weight, LoweredInto, LoweredCells}
 
 module _ (ls : List ℕ) (g a : ℕ) where
@@ -25,59 +23,6 @@ module _ (ls : List ℕ) (g a : ℕ) where
   low_out t h {x} (inr (inr le)) =
       rw (le-ltb x no_arc le, and_false_right (not (eqb (nth ls t) g)) false refl, and_false_right (eqb (nth ls h) g) false refl)
 
--- INTO ONE VERTEX
-module _ (ws ls : List ℕ) (g a h : ℕ) (small : h < max_vertices) where
-  pub no_tail : length ws ≡ cells → LoweredInto ws ws ls 0 g h a
-  no_tail e = record { size = e; done = λ t l. absurd (omega arith); rest = λ t v l why. refl }
-
-  pub not_yet : (ws' : List ℕ) (t : ℕ) → LoweredInto ws ws' ls t g h a → cost ws' t h ≡ cost ws t h
-  not_yet ws' t c = c.rest t h small (inl (omega arith))
-
-  pub all_tails : (ws' : List ℕ) (t n : ℕ) → LoweredInto ws ws' ls t g h a → t ≤ n → n ≤ t → LoweredInto ws ws' ls n g h a
-  all_tails ws' t n c le end = let e : t ≡ n = omega arith in rw e at c
-
-  pub pass_tail : (ws' : List ℕ) (t : ℕ) → LoweredInto ws ws' ls t g h a → (nth ls t ≡ g) ⊎ (no_arc ≤ cost ws' t h) → LoweredInto ws ws' ls (t + 1) g h a
-  pass_tail ws' t c why =
-      let here = not_yet ws' t c in
-      record {
-        size = c.size;
-        done =
-            λ u l.
-            ⊎_elim (λ (d : ltb u t ≡ true). c.done u (ltb-true u t d))
-            (λ (d : ltb u t ≡ false).
-            let q = ltb-false u t d in
-            let s : u ≡ t = omega arith in
-            rw s (here ∙ sym (low_out ls g a t h (inr (⊎_elim (λ e. inl e) (λ le. inr (omega arith)) why)))))
-            (test (ltb u t));
-        rest = λ u v l w. c.rest u v l (⊎_elim (λ (d : t + 1 ≤ u). inl (omega arith)) (λ (d : v ≢ h). inr d) w);
-      }
-
-  pub lower_tail : (ws' : List ℕ) (t : ℕ) → LoweredInto ws ws' ls t g h a → t < max_vertices → nth ls h ≡ g → nth ls t ≢ g → cost ws' t h < no_arc
-      → LoweredInto ws (set ws' (cell t h) (cost ws' t h - a)) ls (t + 1) g h a
-  lower_tail ws' t c lt e ne th =
-      let size = c.size in
-      let here = not_yet ws' t c in
-      record {
-        size = simp length-set size;
-        done =
-            λ u l.
-            ⊎_elim
-            (λ (d : ltb u t ≡ true).
-            let b = ltb-true u t d in
-            get_or-set_other ws' (cell t h) (cell u h) (cost ws' t h - a) 0 (omega arith) ∙ c.done u b)
-            (λ (d : ltb u t ≡ false).
-            let q = ltb-false u t d in
-            let s : u ≡ t = omega arith in
-            rw s (get_or-set_same ws' (cell t h) (cost ws' t h - a) 0 (omega arith) ∙ ap (λ (x : ℕ). x - a) here ∙ sym (low_in ls g a t h e ne (omega arith))))
-            (test (ltb u t));
-        rest =
-            λ u v l w.
-            ⊎_elim
-            (λ (d : t + 1 ≤ u). get_or-set_other ws' (cell t h) (cell u v) (cost ws' t h - a) 0 (omega arith) ∙ c.rest u v l (inl (omega arith)))
-            (λ (d : v ≢ h). get_or-set_other ws' (cell t h) (cell u v) (cost ws' t h - a) 0 (λ q. d (omega arith)) ∙ c.rest u v l (inr d)) w;
-      }
-
--- INTO ALL VERTICES OF THE GROUP
 module _ (ws ls : List ℕ) (n g a : ℕ) where
   pub all_vertices : (ws' : List ℕ) (h : ℕ) → LoweredCells ws ws' ls n g a h → h ≤ n → n ≤ h → LoweredCells ws ws' ls n g a n
   all_vertices ws' h c le end = let e : h ≡ n = omega arith in rw e at c

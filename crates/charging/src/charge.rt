@@ -1,14 +1,14 @@
 // Charging a group: its cheapest entering arc is found, every arc that enters it is lowered by that weight, and the
 // group is written down as a cut of that value. A weight of 0 gives no cut.
 
-ghost use Rattle.std.specs.Prelude.{◌≡◌, true, false, ◌+◌, ◌*◌, ◌≤◌, ◌<◌, length, set as set_at};
-ghost use Rattle.instance.specs.Limits.{max_vertices, no_parent, cells, max_cuts, cut_words};
-ghost use Rattle.charging.specs.Charge.{ChargedGroup};
+ghost use Rattle.std.specs.Prelude.{◌≡◌, ◌+◌, ◌*◌, ◌≤◌, ◌<◌, length, set as set_at, IfOk, IfErr, OnErr};
+ghost use Rattle.instance.specs.Limits.{max_vertices, cells, max_cuts, cut_words};
+ghost use Rattle.charging.specs.Charge.{ChargedGroup, UnenteredGroup};
 
-use super::entering::{NO_END, cheapest_arc};
+use super::entering::{Entering, cheapest_arc};
 use super::lower::lower_arcs;
 use super::members::members;
-use instance::limits::{CELLS, CUT_WORDS, NO_ARC, VERTICES};
+use instance::limits::{CELLS, CUT_WORDS, VERTICES};
 use instance::{CutIndex, Vertex};
 
 // Writes a cut at its place.
@@ -21,40 +21,18 @@ fn put_cut(c: CutIndex, set: u32, value: u32, cuts: &mut [u32; CUT_WORDS])
     cuts[2 * k + 1] = value;
 }
 
-// The arc that a charged group chose, and the place of the next cut; or, where no arc enters, the group's vertices.
+// The arc that a charged group chose, and the place of the next cut.
 #[derive(Clone, Copy)]
 pub struct Charged {
-    pub found: bool,
     pub tail: Vertex,
     pub head: Vertex,
     pub next: CutIndex,
-    pub set: u32,
 }
 
-impl Charged {
-    fn arc(tail: Vertex, head: Vertex, next: CutIndex) -> Charged
-        ensures { (result.found ≡ true) × (result.tail.0 ≡ tail.0) × (result.head.0 ≡ head.0) × (result.next.0 ≡ next.0) × (result.set ≡ 0) }
-    {
-        Charged {
-            found: true,
-            tail,
-            head,
-            next,
-            set: 0,
-        }
-    }
-
-    fn none(next: CutIndex, set: u32) -> Charged
-        ensures { (result.found ≡ false) × (result.tail.0 ≡ no_parent) × (result.head.0 ≡ no_parent) × (result.next.0 ≡ next.0) × (result.set ≡ set) }
-    {
-        Charged {
-            found: false,
-            tail: Vertex(NO_END),
-            head: Vertex(NO_END),
-            next,
-            set,
-        }
-    }
+// A set of vertices, not the root, that no arc enters: there is no arborescence.
+#[derive(Clone, Copy, Debug, PartialEq, Eq)]
+pub struct Unreached {
+    pub set: u32,
 }
 
 // Charges a group for its cheapest entering arc. The cut, if there is one, goes to place c.
@@ -65,21 +43,30 @@ pub fn charge_group(
     g: Vertex,
     c: CutIndex,
     cuts: &mut [u32; CUT_WORDS],
-) -> Charged
-    requires { (length w.old ≡ cells) × (length cuts.old ≡ cut_words) × (n ≤ max_vertices) × (g.0 < n) × (c.0 < max_cuts) }
-    ensures { ChargedGroup w.old w.new label.now n g.0 c.0 cuts.old cuts.new result.found result.tail.0 result.head.0 result.next.0 result.set }
+) -> Result<Charged, Unreached>
+    requires { (n ≤ max_vertices) × (g.0 < n) × (c.0 < max_cuts) }
+    ensures ok { IfOk result (ChargedGroup w.old w.new label.now n g.0 c.0 cuts.old cuts.new) }
+    ensures err { IfErr result (λ e. UnenteredGroup w.old label.now n g.0 e.set) }
+    ensures err_leaves { OnErr result ((w.new ≡ w.old) × (cuts.new ≡ cuts.old)) }
 {
-    let arc = cheapest_arc(w, label, n, g);
-    let value = arc.weight;
-    if value == NO_ARC {
-        let set = members(label, n, g);
-        return Charged::none(c, set);
+    let Some(arc) = cheapest_arc(w, label, n, g) else {
+        return Err(Unreached {
+            set: members(label, n, g),
+        });
+    };
+    let Entering { tail, head, weight } = arc;
+    if weight == 0 {
+        return Ok(Charged {
+            tail,
+            head,
+            next: c,
+        });
     }
-    if value == 0 {
-        return Charged::arc(arc.tail, arc.head, c);
-    }
-    lower_arcs(w, label, n, g, value);
-    let set = members(label, n, g);
-    put_cut(c, set, value, cuts);
-    Charged::arc(arc.tail, arc.head, CutIndex(c.0 + 1))
+    lower_arcs(w, label, n, g, weight);
+    put_cut(c, members(label, n, g), weight, cuts);
+    Ok(Charged {
+        tail,
+        head,
+        next: CutIndex(c.0 + 1),
+    })
 }

@@ -17,33 +17,29 @@ fn lower_into(
     h: usize,
     value: u32,
 )
-    requires w_len { (length w.old ≡ cells) × (n ≤ max_vertices) × (g.0 < n) × (h < n) × (nth label.now h ≡ g.0) }
+    requires w_len { (n ≤ max_vertices) × (g.0 < n) × (h < n) × (nth label.now h ≡ g.0) }
     requires affords_into { AffordsInto w.old label.now n g.0 h value }
     ensures { LoweredInto w.old w.new label.now n g.0 h value }
 {
     let group = g.0 as u8;
-    let mut t: usize = 0;
-    while t < n {
+    for t in 0..n {
         if label[t] != group {
             let x = w[32 * t + h];
             if x < NO_ARC {
                 w[32 * t + h] = x - value;
             }
         }
-        t += 1;
     }
 }
 
 pub fn lower_arcs(w: &mut [u32; CELLS], label: &[u8; VERTICES], n: usize, g: Vertex, value: u32)
-    requires { (length w.old ≡ cells) × (n ≤ max_vertices) × (g.0 < n) × Affords w.old label.now n g.0 value }
+    requires { (n ≤ max_vertices) × (g.0 < n) × Affords w.old label.now n g.0 value }
     ensures { LoweredCells w.old w.new label.now n g.0 value n }
 {
     let own = g.0 as u8;
-    let mut h: usize = 0;
-    while h < n {
+    for h in 0..n {
         if label[h] == own {
             lower_into(w, label, n, g, h, value);
         }
-        h += 1;
     }
 }

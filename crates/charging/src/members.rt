@@ -14,12 +14,10 @@ pub fn members(label: &[u8; VERTICES], n: usize, g: Vertex) -> u32
 {
     let group = g.0 as u8;
     let mut set: u32 = 0;
-    let mut v: usize = 0;
-    while v < n {
+    for v in 0..n {
         if label[v] == group {
             set += 1u32 << v;
         }
-        v += 1;
     }
     set
 }

@@ -10,16 +10,10 @@ use instance::limits::{CELLS, NO_ARC};
 pub fn can_be_arc(n: u32, root: u32, tail: u32, head: u32) -> bool
     ensures { result ≡ can_be_arc n root tail head }
 {
-    if n <= tail {
+    if n <= tail || n <= head {
         return false;
     }
-    if n <= head {
-        return false;
-    }
-    if tail == head {
-        return false;
-    }
-    head != root
+    tail != head && head != root
 }
 
 // Whether there is one.
@@ -27,9 +21,5 @@ pub fn is_arc(weights: &[u32; CELLS], n: u32, root: u32, tail: u32, head: u32) -
     requires { (n ≤ max_vertices) × (length weights.now ≡ cells) }
     ensures { result ≡ is_arc (unmarked n root weights.now) tail head }
 {
-    if can_be_arc(n, root, tail, head) {
-        let i = (32 * tail + head) as usize;
-        return weights[i] != NO_ARC;
-    }
-    false
+    can_be_arc(n, root, tail, head) && weights[(32 * tail + head) as usize] != NO_ARC
 }

@@ -17,10 +17,7 @@ pub fn is_entering(set: u32, tail: u32, head: u32) -> bool
     requires { (tail < max_vertices) × (head < max_vertices) }
     ensures { result ≡ enters set tail head }
 {
-    if is_inside(set, tail) {
-        return false;
-    }
-    is_inside(set, head)
+    !is_inside(set, tail) && is_inside(set, head)
 }
 
 // Whether every vertex of a set is below n.

@@ -15,10 +15,7 @@ pub fn cell_ok(weight: u32, mark: u8) -> bool
     if weight <= MAX_WEIGHT {
         return mark <= BANNED;
     }
-    if weight == NO_ARC {
-        return mark == FREE;
-    }
-    false
+    weight == NO_ARC && mark == FREE
 }
 
 fn cell_valid<'a>(
@@ -32,10 +29,7 @@ fn cell_valid<'a>(
     requires weights_len { (length weights.now ≡ cells) × (length marks.now ≡ cells) }
     ensures { result ≡ cell_valid (without_budget n root weights.now marks.now) i }
 {
-    if can_be_arc(n, root, (i / 32) as u32, (i % 32) as u32) {
-        return cell_ok(weights[i], marks[i]);
-    }
-    true
+    !can_be_arc(n, root, (i / 32) as u32, (i % 32) as u32) || cell_ok(weights[i], marks[i])
 }
 
 // Every cell where an arc can be; the others are never looked at.
@@ -43,9 +37,7 @@ pub fn cells_valid<'a>(weights: &'a [u32; CELLS], marks: &'a [u8; CELLS], n: u32
     requires { (length weights.now ≡ cells) × (length marks.now ≡ cells) }
     ensures { result ≡ all_below cells (cell_valid (without_budget n root weights.now marks.now)) }
 {
-    let mut k: usize = CELLS;
-    while 0 < k {
-        k -= 1;
+    for k in (0..CELLS).rev() {
         if !cell_valid(weights, marks, n, root, k) {
             return false;
         }
@@ -57,14 +49,8 @@ pub fn cells_valid<'a>(weights: &'a [u32; CELLS], marks: &'a [u8; CELLS], n: u32
 pub fn header_valid(n: u32, root: u32, budget: u32) -> bool
     ensures { result ≡ header_valid n root budget }
 {
-    if n < 1 {
+    if n < 1 || MAX_VERTICES < n {
         return false;
     }
-    if MAX_VERTICES < n {
-        return false;
-    }
-    if n <= root {
-        return false;
-    }
-    budget <= MAX_BUDGET
+    root < n && budget <= MAX_BUDGET
 }

@@ -2,13 +2,14 @@
 -- definitions.
 use Rattle.std.specs.Prelude.{◌≡◌, cond, List, [], ◌∷◌, ◌++◌, ℕ, suc, ◌+◌, eqb}
 use Rattle.instance.specs.Refusals.{invalid_board}
+use Rattle.instance.specs.RefusalNumbers.{answer_of}
 use Rattle.commands.specs.Valid.{valid}
 use Rattle.commands.specs.Commands.{Command, answered, command_numbers}
 use Rattle.board.specs.declared.Board.{Board}
 use Rattle.board.specs.ModelOf.{command_of}
 use Rattle.board.specs.Contents.{Contents, contents_of, contents_after}
 use Rattle.command_list.specs.declared.Press.{Press}
-use Rattle.command_list.specs.declared.ListAnswered.{ListAnswered}
+use Rattle.command_list.specs.declared.Applied.{Applied}
 
 -- "The outcome gives how many were applied and the refusal number, or 0", beside the board
 pub record ListResult : Type 0 where
@@ -44,6 +45,16 @@ abbrev pub commands_in : List Press → List Command
 commands_in [] = []
 commands_in (p ∷ ps) = command_of p.command ∷ commands_in ps
 
+-- how many presses were applied, 0 or the number of the refusal that stopped the list, and the board that is left
+pub record ListAnswered : Type 0 where
+  pub applied : ℕ
+  pub answer : ℕ
+  pub board : Board
+
+-- what `press_list` gives back, and the board that it leaves
+abbrev pub left_by : Applied → Board → ListAnswered
+left_by r b = record { applied = r.applied; answer = answer_of r.result; board = b }
+
 abbrev pub list_result_of : ListAnswered → ListResult
 list_result_of r = record { applied = r.applied; answer = r.answer; board = contents_of r.board }
 
@@ -61,7 +72,3 @@ more_applied k r = record { applied = k + r.applied; answer = r.answer; board = 
 -- what a list gave, and more commands after it: none once one was refused
 unfoldable pub continued : ListResult → List Command → ListResult
 continued r cs = cond (eqb r.answer 0) (more_applied r.applied (list_applied cs r.board)) r
-
--- the place in a list to go on from, after an answer at the place i: the next one, or the end
-unfoldable pub next_place : (answer i count : ℕ) → ℕ
-next_place a i n = cond (eqb a 0) (i + 1) n

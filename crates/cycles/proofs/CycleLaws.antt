@@ -77,16 +77,6 @@ module _ (ls tails : List ℕ) (n root : ℕ) (sb : Searchable ls tails n root) 
       }
 
   module _ (stamp : List ℕ) (now s : ℕ) (b : Between ls tails n root stamp now s) where
-    pub set_out : s < n → nth ls s ≡ s → Walking ls tails n root stamp now now s s
-    set_out l e =
-        record {
-          size = b.size;
-          walk = restart n root (nth ls) (nth tails) (nth stamp) now now (nth ls root) b.walk s (stop refl) l e;
-          passed = b.passed;
-          start = inl refl;
-          room = b.room;
-        }
-
     -- s is no group's label
     pub pass : nth ls s ≢ s → Between ls tails n root stamp now (s + 1)
     pass ne =

@@ -1,5 +1,5 @@
 -- The search for a cycle: what it needs, and what it gives. Assumes nothing: these are definitions.
-use Rattle.std.specs.Prelude.{◌≡◌, Bool, true, false, List, ℕ, ◌≤◌, ◌<◌}
+use Rattle.std.specs.Prelude.{List, ℕ, ◌≤◌, ◌<◌}
 use Rattle.instance.specs.Limits.{max_vertices}
 use Rattle.contraction.specs.Cells.{nth}
 use Rattle.contraction.specs.Groups.{Labels, Group, Along}
@@ -21,7 +21,3 @@ pub record Met (ls tails stamp : List ℕ) (n root v : ℕ) : Type 0 where
 -- from every group the root's is come to
 abbrev pub NoCycle : (ls tails : List ℕ) (n root : ℕ) → Type 0
 NoCycle ls tails n root = (v : ℕ) → v < n → Along (λ x. nth ls (nth tails x)) (nth ls root) (nth ls v)
-
-pub record Searched (ls tails : List ℕ) (n root : ℕ) (found : Bool) (v : ℕ) (stamp : List ℕ) : Type 0 where
-  pub cycle : found ≡ true → Met ls tails stamp n root v
-  pub none : found ≡ false → NoCycle ls tails n root

@@ -32,9 +32,7 @@ use Rattle.board.specs.ModelOf.{model_of, instance_of}
 use Rattle.board.specs.declared.Board.{Board}
 use Rattle.board.specs.declared.Answered.{Answered}
 use Rattle.history_format.specs.HistoryCard.{open_refusal}
-use Rattle.planner.specs.declared.Listing.{Listing}
-use Rattle.planner.specs.declared.Listing.TheVariants.{Refused}
-use Rattle.planner.specs.Enumerating.{walked_on, listed_as}
+use Rattle.planner.specs.Enumerating.{Listing, Refused, walked_on, listed_as}
 use Rattle.planner.specs.Replaying.{log_in}
 use Rattle.planner.proofs.Learnt.{OpenedBy, opened_by, Enumerated, enumerated}
 use Rattle.planner.proofs.OpeningLaws.{opened_starts}

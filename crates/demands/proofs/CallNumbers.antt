@@ -15,7 +15,7 @@ use Rattle.instance.specs.Instance.{Instance}
 use Rattle.card_format.specs.Card.{card_refusal}
 use Rattle.card_format.proofs.OpensLaws.{card_refusal_most}
 use Rattle.card_format.proofs.SixRetired.{six_retired}
-use Rattle.card.specs.declared.write.Written.{Written}
+use Rattle.card.specs.Write.{Written}
 use Rattle.certificate.specs.Certificate.{certificate_refusal, certificate_numbers}
 use Rattle.certificate.proofs.CertificateLaws.{refusal_listed}
 use Rattle.commands.specs.Valid.{valid}
@@ -29,15 +29,13 @@ use Rattle.report_text.specs.Whole.{refused_text}
 use Rattle.report.specs.declared.Reported.{Reported}
 use Rattle.report.specs.Reports.{ReportsBy}
 use Rattle.enumeration.specs.Walk.{limit_refused, joined}
-use Rattle.planner.specs.declared.Listing.{Listing}
-use Rattle.planner.specs.declared.Listing.TheVariants.{Refused}
 use Rattle.planner.specs.declared.View.{View}
 use Rattle.history_format.specs.HistoryCard.{is_history, history_refusal, open_refusal, model_in}
 use Rattle.history_format.proofs.HistoryNumbers.{history_numbers, history_listed, open_listed}
 use Rattle.planner.specs.Opening.{opened_from}
 use Rattle.planner.specs.Looking.{Buffers, answer_of, LooksAt}
 use Rattle.planner.specs.Checking.{check_answer}
-use Rattle.planner.specs.Enumerating.{list_answer, walked_on, listed_as, Lists}
+use Rattle.planner.specs.Enumerating.{Listing, Refused, list_answer, walked_on, listed_as, Lists}
 use Rattle.planner.specs.Replaying.{Call, ReplaysAt}
 use Rattle.planner.proofs.CallSteps.{shown_answer}
 use Rattle.planner.proofs.WritingLaws.{board_refusal, StoreCase, refused_by, no_room, put}

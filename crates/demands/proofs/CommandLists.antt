@@ -22,7 +22,7 @@ use Rattle.board.proofs.CallLaws.{call_answer}
 use Rattle.board.proofs.ContentsLaws.{contents_once}
 use Rattle.board.proofs.RunLaws.{Called, called_answers}
 use Rattle.command_list.specs.declared.Press.{Press}
-use Rattle.command_list.specs.declared.ListAnswered.{ListAnswered}
+use Rattle.command_list.specs.CommandList.{ListAnswered}
 use Rattle.command_list.specs.CommandList.{ListResult, none_applied, list_answered, commands_in, list_result_of, more_applied, continued}
 use Rattle.command_list.proofs.CommandListLaws.{list_on_valid, list_on_invalid, continued_on, continued_stop, continued_join, answered_from_none}
 use Rattle.command_list.proofs.AppliedLaws.{Stopped, list_stopped, list_accepted, list_valid, list_15}

@@ -15,7 +15,7 @@ use Rattle.base.proofs.BoolLaws.{or_right}
 use Rattle.instance.specs.Instance.{is_arc}
 use Rattle.instance.specs.Refusals.{buffer_short}
 use Rattle.card_format.specs.Card.{card_refusal, instance_in, card_of}
-use Rattle.card.specs.declared.write.Written.{Written}
+use Rattle.card.specs.Write.{Written}
 use Rattle.commands.specs.Model.{opened}
 use Rattle.commands.specs.Valid.{valid}
 use Rattle.commands.specs.Commands.{Command, command_numbers}
@@ -28,7 +28,7 @@ use Rattle.board.proofs.RunLaws.{Called, called_answers}
 use Rattle.commands.proofs.AnsweredLaws.{accepted_valid}
 use Rattle.commands.proofs.NumberLaws.{answered_listed}
 use Rattle.command_list.specs.declared.Press.{Press}
-use Rattle.command_list.specs.declared.ListAnswered.{ListAnswered}
+use Rattle.command_list.specs.CommandList.{ListAnswered}
 use Rattle.board.specs.Contents.{contents_of}
 use Rattle.command_list.specs.CommandList.{ListResult, list_answered, list_numbers, commands_in, list_result_of}
 use Rattle.command_list.proofs.AppliedLaws.{Singly, list_valid, list_accepted}
@@ -38,26 +38,24 @@ use Rattle.history_format.specs.HistoryCard.{open_refusal, history_model, to_pla
 use Rattle.history_format.proofs.HistoryNumbers.{history_numbers, to_plain_numbers, to_plain_listed}
 use Rattle.price_format.specs.Reading.{read_list, room_refusal, read_numbers}
 use Rattle.price_format.specs.Writing.{write_refusal, write_numbers}
-use Rattle.price_list.specs.declared.read.PricesRead.{PricesRead}
-use Rattle.price_list.specs.declared.write.ListWritten.{ListWritten}
+use Rattle.price_list.specs.Reads.{PricesRead}
+use Rattle.price_list.specs.Writes.{ListWritten}
 use Rattle.price_list.proofs.Learnt.{PricesAreRead, prices_read, PricesWritten, prices_written}
 use Rattle.price_row.specs.Row.{row_refusal, row_numbers}
 use Rattle.price_row.proofs.RowLaws.{row_listed, uses_empty}
 use Rattle.price_row.proofs.Learnt.{HandedBack, handed_back}
 use Rattle.spanning.specs.Graph.{graph_of}
 use Rattle.spanning.specs.Refusal.{call_refusal, call_numbers}
-use Rattle.runs.specs.declared.planning.RunsView.{RunsView}
-use Rattle.runs.specs.Planning.{view_number}
+use Rattle.runs.specs.Planning.{RunsView, view_number}
 use Rattle.runs.proofs.Learnt.{RunsPlanned, runs_planned}
 use Rattle.report_text.specs.Whole.{max_text}
 use Rattle.report.specs.declared.Reported.{Reported}
 use Rattle.report.specs.Reports.{Reports}
 use Rattle.report.proofs.Learnt.{ReportedBy, reported_by}
-use Rattle.planner.specs.declared.Listing.{Listing}
 use Rattle.planner.specs.declared.View.{View}
 use Rattle.planner.specs.Looking.{Buffers, answer_of, short_for, Looks}
 use Rattle.planner.specs.declared.Reason.{Reason}
-use Rattle.planner.specs.Enumerating.{list_answer}
+use Rattle.planner.specs.Enumerating.{Listing, list_answer}
 use Rattle.planner.specs.Explaining.{reason_answer, TreeBuffers, explain_refusal, explain_numbers, Explains, PlansWithout}
 use Rattle.planner.specs.Replaying.{Replays}
 use Rattle.planner.proofs.Learnt.{OpenedBy, opened_by, Looked, looked, Wrote, wrote, WroteHistory, wrote_history, MovedToHistory, moved_to_history, MovedToPlain, moved_to_plain, Checked, checked, Explained, explained, PlannedWithout, planned_without, Enumerated, enumerated, Replayed, replayed}

@@ -27,7 +27,7 @@ use Rattle.commands.specs.Valid.{valid}
 use Rattle.board.specs.ModelOf.{model_of, instance_of}
 use Rattle.board.specs.declared.Board.{Board}
 use Rattle.commands.proofs.ValidLaws.{valid_parts}
-use Rattle.survey.specs.Survey.{CutsShown}
+use Rattle.survey.specs.FirstPlan.{CutsShown}
 use Rattle.planner.specs.declared.View.{View}
 use Rattle.planner.specs.declared.View.TheVariants.{Shown}
 use Rattle.planner.specs.Looking.{Buffers, short_for}

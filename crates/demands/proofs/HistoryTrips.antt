@@ -13,7 +13,7 @@ use Rattle.bits.specs.Bits.{are_bytes}
 use Rattle.instance.specs.Limits.{cells}
 use Rattle.instance.specs.Refusals.{invalid_board}
 use Rattle.card_format.proofs.SameCard.{same_bits}
-use Rattle.card.specs.declared.write.Written.{Written}
+use Rattle.card.specs.Write.{Written}
 use Rattle.commands.specs.Model.{Model}
 use Rattle.commands.specs.Valid.{valid}
 use Rattle.commands.specs.LogLists.{Input, input_answers, input_after}

@@ -10,18 +10,18 @@ use mathlib.Core.Logic.{◌≢◌}
 use Prim.Native.Nat.{ℕ, zero, suc}
 use borrow.Author.Tests.{ne_eqb}
 use Rattle.spanning.specs.Graph.{Graph}
-use Rattle.runs.specs.declared.planning.RunsView as runs
+use Rattle.runs.specs.Planning as runs
 use Rattle.runs.specs.Planning.{view_number}
 use Rattle.history_format.specs.HistoryCard.{open_refusal, model_in}
 use Rattle.planner.specs.declared.View as view
-use Rattle.planner.specs.declared.Listing as listing
+use Rattle.planner.specs.Enumerating as listing
 use Rattle.planner.specs.declared.Reason as reason
 use Rattle.planner.specs.Looking.{Buffers, answer_of, short_for}
 use Rattle.planner.specs.Replaying.{calls, log_in, Replays}
 use Rattle.planner.specs.Explaining.{TreeBuffers, reason_answer}
 use Rattle.planner.proofs.ExplainingLaws.{explains_answer, explains_before, plan_without_answer, plan_without_before}
 use Rattle.planner.specs.Enumerating.{list_answer}
-use Rattle.price_list.specs.declared.read.PricesRead.{PricesRead}
+use Rattle.price_list.specs.Reads.{PricesRead}
 use Rattle.price_list.specs.Reads.{Reads}
 use Rattle.feed_planner.specs.Store.{Tells}
 use Rattle.feed_planner.specs.Sheets.{Sheet, ReadsSheet}
@@ -112,8 +112,8 @@ planning_without_refused {ws} {t} {h} {old} {new} x z =
 
 -- LISTINGS AND PASSIVE RUNS
 listing_kept : (r : listing.Listing) (w : Words) → list_answer r ≢ 0 → listing_words r w ≡ w
-listing_kept (listing.TheVariants.Listed e k t) w n = absurd (n refl)
-listing_kept (listing.TheVariants.Refused a) w n = refl
+listing_kept (listing.Listed e k t) w n = absurd (n refl)
+listing_kept (listing.Refused a) w n = refl
 
 pub listing_refused : {ws : List ℕ} {limit : ℕ} {out out' : List ℕ} {w w' : Words} {a : ℕ} → StoresListing ws limit out out' w w' a → a ≢ 0 → (out' ≡ out) × (w' ≡ w)
 listing_refused {ws} {limit} {out} {w = w} {a = a} l z =
@@ -121,8 +121,8 @@ listing_refused {ws} {limit} {out} {w = w} {a = a} l z =
 
 runs_kept : (r : runs.RunsView) (w : Words) → view_number r ≢ 0 → runs_words r w ≡ w
 unfolding view_number
-runs_kept (runs.TheVariants.Shown o) w n = absurd (n refl)
-runs_kept (runs.TheVariants.Refused a) w n = refl
+runs_kept (runs.Shown o) w n = absurd (n refl)
+runs_kept (runs.Refused a) w n = refl
 
 pub runs_refused : {g : Graph} {budget : ℕ} {ss ss' cs cs' : List ℕ} {w w' : Words} {a : ℕ} → TellsRuns g budget ss ss' cs cs' w w' a → a ≢ 0
     → (ss' ≡ ss) × (cs' ≡ cs) × (w' ≡ w)

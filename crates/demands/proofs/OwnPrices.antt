@@ -11,7 +11,7 @@ use Rattle.base.specs.Lists.{in_front}
 use Rattle.instance.specs.Limits.{max_vertices, no_arc}
 use Rattle.price_format.specs.Lines.{Line}
 use Rattle.price_format.specs.Reading.{weight_named, read_list}
-use Rattle.price_list.specs.declared.read.PricesRead.{PricesRead}
+use Rattle.price_list.specs.Reads.{PricesRead}
 use Rattle.price_list.proofs.Learnt.{PricesAreRead, prices_read}
 use Rattle.price_list.proofs.RoomLaws.{room_count, count_small}
 use Rattle.price_row.specs.Row.{row_refusal, row_used}

@@ -9,8 +9,7 @@ use lib.ListN.{length}
 use borrow.Author.Tests.{eq-eqb, ne_eqb}
 use Rattle.spanning.specs.Graph.{Graph}
 use Rattle.spanning.specs.Refusal.{call_refusal, call_numbers}
-use Rattle.runs.specs.declared.planning.RunsView.{RunsView}
-use Rattle.runs.specs.Planning.{view_number, Accepts, Refuses, PlansAt, PlansRuns}
+use Rattle.runs.specs.Planning.{RunsView, view_number, Accepts, Refuses, PlansAt, PlansRuns}
 use Rattle.runs.proofs.NumberLaws.{call_listed}
 use Rattle.demands.proofs.CallNumbers.{among}
 

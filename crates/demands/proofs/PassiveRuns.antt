@@ -29,9 +29,7 @@ use Rattle.spanning.proofs.GraphLaws.{directed_total_most}
 use Rattle.spanning.proofs.SpansLaws.{listed_spans}
 use Rattle.spanning.proofs.CostLaws.{cost_reads, cost_alike}
 use Rattle.spanning.proofs.EdgeStateLaws.{state_alike}
-use Rattle.runs.specs.declared.planning.RunsView.{RunsView}
-use Rattle.runs.specs.declared.planning.RunsView.TheVariants.{Shown}
-use Rattle.runs.specs.Planning.{view_number}
+use Rattle.runs.specs.Planning.{RunsView, Shown, view_number}
 use Rattle.runs.proofs.RefusalLaws.{not_refused}
 use Rattle.runs.proofs.Learnt.{RunsPlanned, runs_planned}
 use Rattle.demands.proofs.PassiveNumbers.{runs_passed, runs_accepted}

@@ -33,7 +33,7 @@ use Rattle.commands.proofs.ValidLaws.{valid_parts}
 use Rattle.board.specs.ModelOf.{model_of, instance_of}
 use Rattle.board.specs.declared.Board.{Board}
 use Rattle.board.specs.declared.Answered.{Answered}
-use Rattle.survey.specs.Survey.{CutsShown}
+use Rattle.survey.specs.FirstPlan.{CutsShown}
 use Rattle.survey.proofs.WordLaws.{cuts_again}
 use Rattle.survey.proofs.ShownLaws.{words_length}
 use Rattle.planner.specs.declared.View.{View}

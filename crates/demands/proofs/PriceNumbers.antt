@@ -14,8 +14,8 @@ use Rattle.price_format.specs.Writing.{list_text, prices_refusal, write_refusal,
 use Rattle.price_format.proofs.RefusalLaws.{list_listed, room_listed, write_listed}
 use Rattle.price_list.specs.Reads.{read_result, Reads}
 use Rattle.price_list.specs.Writes.{write_result, Writes}
-use Rattle.price_list.specs.declared.read.PricesRead.{PricesRead}
-use Rattle.price_list.specs.declared.write.ListWritten.{ListWritten}
+use Rattle.price_list.specs.Reads.{PricesRead}
+use Rattle.price_list.specs.Writes.{ListWritten}
 use Rattle.demands.proofs.CallNumbers.{among}
 
 -- READING

@@ -19,8 +19,8 @@ use Rattle.price_format.proofs.ReadingLaws.{list_sound}
 use Rattle.price_format.proofs.OrderLaws.{any_order}
 use Rattle.price_format.proofs.ReadWritten.{read_written, read_text_again, read_ok_again}
 use Rattle.price_format.proofs.WrittenRead.{written_accepted, written_read}
-use Rattle.price_list.specs.declared.read.PricesRead.{PricesRead}
-use Rattle.price_list.specs.declared.write.ListWritten.{ListWritten}
+use Rattle.price_list.specs.Reads.{PricesRead}
+use Rattle.price_list.specs.Writes.{ListWritten}
 use Rattle.price_list.proofs.RoomLaws.{count_small, room_count, room_words, room_enough}
 use Rattle.price_list.proofs.WriteLaws.{prices_room, prices_ok}
 use Rattle.price_list.proofs.Learnt.{PricesAreRead, prices_read, PricesWritten, prices_written}

@@ -42,7 +42,7 @@ use Rattle.board.specs.declared.Answered.{Answered}
 use Rattle.board.proofs.CallLaws.{call_board, call_answer, call_valid}
 use Rattle.board.proofs.RunLaws.{Called, called_answers}
 use Rattle.history_format.specs.HistoryCard.{open_refusal}
-use Rattle.survey.specs.Survey.{CutsShown}
+use Rattle.survey.specs.FirstPlan.{CutsShown}
 use Rattle.survey.proofs.ShownLaws.{words_length}
 use Rattle.witness.specs.Witness.{forced_instance, deleted_instance}
 use Rattle.planner.specs.declared.View.TheVariants.{Shown}

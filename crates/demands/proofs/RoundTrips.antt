@@ -21,7 +21,7 @@ use Rattle.instance.specs.Same.{SameInstance}
 use Rattle.instance.specs.Valid.{valid_instance}
 use Rattle.card_format.specs.Card.{card_refusal, instance_in, on_card, bytes_needed, card_of}
 use Rattle.card.specs.Write.{written_to, buffer_after}
-use Rattle.card.specs.declared.write.Written.{Written}
+use Rattle.card.specs.Write.{Written}
 use Rattle.card_format.proofs.OpensLaws.{opened_length}
 use Rattle.card_format.proofs.CardAgain.{card_round_trip}
 use Rattle.card_format.proofs.InstanceAgain.{written_opens, instance_round_trip, instance_back}

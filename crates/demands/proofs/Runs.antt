@@ -5,7 +5,7 @@ use mathlib.Core.Path.{◌≡◌, refl, sym, ap, ◌∙◌, subst}
 use mathlib.Core.List.{List, [], ◌∷◌, map}
 use Prim.Native.Nat.{ℕ}
 use lib.ListN.{take}
-use Rattle.card.specs.declared.write.Written.{Written}
+use Rattle.card.specs.Write.{Written}
 use Rattle.commands.specs.Model.{Model}
 use Rattle.commands.specs.Valid.{valid}
 use Rattle.commands.specs.Commands.{Command, answered, answers, board_after}
@@ -20,12 +20,12 @@ use Rattle.board.proofs.CallLaws.{call_answer, call_changes}
 use Rattle.board.proofs.ContentsLaws.{call_contents, contents_model}
 use Rattle.board.proofs.RunLaws.{Called, called_answers, Follows, call_follows}
 use Rattle.command_list.specs.declared.Press.{Press}
-use Rattle.command_list.specs.declared.ListAnswered.{ListAnswered}
+use Rattle.command_list.specs.CommandList.{ListAnswered}
 use Rattle.command_list.specs.CommandList.{ListResult, list_answered, commands_in, list_result_of}
 use Rattle.command_list.proofs.AppliedLaws.{Singly, list_singly, list_valid}
 use Rattle.command_list.proofs.FollowLaws.{ListTied, list_tied}
 use Rattle.command_list.proofs.ListCalled.{ListCalled, list_called}
-use Rattle.planner.specs.declared.Listing.{Listing}
+use Rattle.planner.specs.Enumerating.{Listing}
 use Rattle.planner.specs.declared.View.{View}
 use Rattle.planner.specs.declared.Reason.{Reason}
 use Rattle.planner.specs.Looking.{Buffers}

@@ -14,7 +14,7 @@ use Rattle.board.proofs.CallLaws.{call_board}
 use Rattle.board.proofs.ContentsLaws.{contents_model}
 use Rattle.board.proofs.RunLaws.{called_answers}
 use Rattle.command_list.specs.declared.Press.{Press}
-use Rattle.command_list.specs.declared.ListAnswered.{ListAnswered}
+use Rattle.command_list.specs.CommandList.{ListAnswered}
 use Rattle.command_list.specs.CommandList.{commands_in}
 use Rattle.command_list.proofs.ListCalled.{ListCalled}
 use Rattle.history_format.proofs.HistoryLaws.{AllShaped}

@@ -1,6 +1,6 @@
 -- The exchange of one or two arcs that a detour stands for. Assumes nothing.
 use mathlib.Core.Path.{◌≡◌}
-use mathlib.Core.Bool.{true}
+use mathlib.Core.Bool.{Bool, true}
 use mathlib.Core.List.{List}
 use mathlib.Core.Logic.{◌≢◌}
 use Prim.Native.Nat.{ℕ, ◌+◌, ◌≤◌, ◌<◌}
@@ -61,7 +61,7 @@ module _ (n root : ℕ) (m ps : List ℕ) (k : MatrixTree n root m ps) (h t : �
             };
       }
 
-  module _ (inside : h < n) (no_root : h ≢ root) (t_inside : t < n) (below : List ℕ) (b : Descendants tree n h below) (under : Descends tree h t) where
+  module _ (inside : h < n) (no_root : h ≢ root) (t_inside : t < n) (below : List Bool) (b : Descendants tree n h below) (under : Descends tree h t) where
     -- the arc behind the increase at a vertex on the path
     record Step (v d : ℕ) : Type 0 where
       tail : ℕ

@@ -1,4 +1,3 @@
 -- Laws that the functions' proofs cite. Assumes nothing.
-pub mod DescendantLaws
 pub mod IncreaseLaws
 pub mod DetourLaws

@@ -6,30 +6,28 @@ ghost use Rattle.detours.specs.Descendants.{DescendantFlag, Descendants};
 
 use instance::limits::VERTICES;
 
-// 1 where the vertex is a descendant of the head, as the head is itself.
-pub fn is_descendant(parents: &[u8; VERTICES], n: u32, root: u32, head: u32, vertex: u32) -> u8
-    requires { (n ≤ max_vertices) × (length parents.now ≡ max_vertices) × Rooted n root (take n parents.now) × (head < n) × (head ≢ root) × (vertex < n) }
+// Whether the vertex is a descendant of the head, as the head is itself.
+pub fn is_descendant(parents: &[u8; VERTICES], n: u32, root: u32, head: u32, vertex: u32) -> bool
+    requires { (n ≤ max_vertices) × Rooted n root (take n parents.now) × (head < n) × (head ≢ root) × (vertex < n) }
     ensures { DescendantFlag (take n parents.now) head vertex result }
 {
     let mut v = vertex;
     while v != root {
         if v == head {
-            return 1;
+            return true;
         }
         v = parents[v as usize] as u32;
     }
-    0
+    false
 }
 
-pub fn descendants(parents: &[u8; VERTICES], n: u32, root: u32, head: u32) -> [u8; VERTICES]
-    requires { (n ≤ max_vertices) × (length parents.now ≡ max_vertices) × Rooted n root (take n parents.now) × (head < n) × (head ≢ root) }
+pub fn descendants(parents: &[u8; VERTICES], n: u32, root: u32, head: u32) -> [bool; VERTICES]
+    requires { (n ≤ max_vertices) × Rooted n root (take n parents.now) × (head < n) × (head ≢ root) }
     ensures { Descendants (take n parents.now) n head result }
 {
-    let mut table = [0u8; VERTICES];
-    let mut v: u32 = 0;
-    while v < n {
+    let mut table = [false; VERTICES];
+    for v in 0..n {
         table[v as usize] = is_descendant(parents, n, root, head, v);
-        v += 1;
     }
     table
 }

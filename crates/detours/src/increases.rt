@@ -1,4 +1,4 @@
-// What it costs to give each inner vertex, of a table that has 1 at these, a parent from outside.
+// What it costs to give each inner vertex, of a table that has true at these, a parent from outside.
 ghost use Rattle.std.specs.Prelude.{◌≤◌, ◌<◌, take};
 ghost use Rattle.instance.specs.Limits.{max_vertices};
 ghost use Rattle.paths.specs.Tree.{MatrixTree};
@@ -7,20 +7,16 @@ ghost use Rattle.detours.specs.Increases.{LeastOutside, Increase, Increases};
 use instance::limits::{CELLS, NO_ARC, VERTICES};
 
 // The least weight into the vertex from a tail outside.
-fn least_outside(m: &[u32; CELLS], inner: &[u8; VERTICES], n: u32, vertex: u32) -> u32
+fn least_outside(m: &[u32; CELLS], inner: &[bool; VERTICES], n: u32, vertex: u32) -> u32
     requires { (n ≤ max_vertices) × (vertex < max_vertices) }
     ensures { LeastOutside m.now inner.now n vertex result }
 {
     let mut least = NO_ARC;
-    let mut x: u32 = 0;
-    while x < n {
+    for x in 0..n {
         let w = m[(32 * x + vertex) as usize];
-        if inner[x as usize] != 1 {
-            if w < least {
-                least = w;
-            }
+        if !inner[x as usize] && w < least {
+            least = w;
         }
-        x += 1;
     }
     least
 }
@@ -29,7 +25,7 @@ fn least_outside(m: &[u32; CELLS], inner: &[u8; VERTICES], n: u32, vertex: u32) 
 fn increase(
     m: &[u32; CELLS],
     parents: &[u8; VERTICES],
-    inner: &[u8; VERTICES],
+    inner: &[bool; VERTICES],
     n: u32,
     root: u32,
     vertex: u32,
@@ -37,10 +33,7 @@ fn increase(
     requires { MatrixTree n root m.now parents.now × (vertex < n) }
     ensures { Increase m.now (take n parents.now) inner.now n vertex result }
 {
-    if vertex == root {
-        return NO_ARC;
-    }
-    if inner[vertex as usize] != 1 {
+    if vertex == root || !inner[vertex as usize] {
         return NO_ARC;
     }
     let least = least_outside(m, inner, n, vertex);
@@ -58,7 +51,7 @@ fn increase(
 pub fn increases(
     m: &[u32; CELLS],
     parents: &[u8; VERTICES],
-    inner: &[u8; VERTICES],
+    inner: &[bool; VERTICES],
     n: u32,
     root: u32,
 ) -> [u32; VERTICES]
@@ -66,10 +59,8 @@ pub fn increases(
     ensures { Increases m.now (take n parents.now) inner.now n n result }
 {
     let mut table = [NO_ARC; VERTICES];
-    let mut k: u32 = 0;
-    while k < n {
+    for k in 0..n {
         table[k as usize] = increase(m, parents, inner, n, root, k);
-        k += 1;
     }
     table
 }

@@ -1,6 +1,7 @@
 // Detours: what it costs to make a cheapest tree use an arc. An arc whose tail is no descendant of its head can replace
 // the arc into the head. Otherwise it closes a cycle down the path from head to tail, and some vertex on that path has
-// to take a parent that is no descendant of the head.
+// to take a parent that is no descendant of the head. A cost that is not known is NO_ARC, the documents' weight of no
+// arc, and no Option: it is above every cost, so that the least of several needs no cases.
 #![tactic(auto)]
 
 pub mod descendants; // descendants.rt: the descendants of a vertex
@@ -26,7 +27,7 @@ fn path_least(
     tail: u32,
     head: u32,
 ) -> u32
-    requires { (n ≤ max_vertices) × (length parents.now ≡ max_vertices) × Rooted n root (take n parents.now) × (head < n) × (head ≢ root) × (tail < n) × Descends (take n parents.now) head tail }
+    requires { (n ≤ max_vertices) × Rooted n root (take n parents.now) × (head < n) × (head ≢ root) × (tail < n) × Descends (take n parents.now) head tail }
     ensures { PathLeast (take n parents.now) table.now tail head result }
 {
     let mut least = NO_ARC;
@@ -55,14 +56,12 @@ pub fn detour_costs(
     let under = descendants(parents, n, root, head);
     let added = increases(m, parents, &under, n, root);
     let mut table = [0u32; VERTICES];
-    let mut t: u32 = 0;
-    while t < n {
+    for t in 0..n {
         let mut d = 0;
-        if under[t as usize] == 1 {
+        if under[t as usize] {
             d = path_least(parents, &added, n, root, t, head);
         }
         table[t as usize] = d;
-        t += 1;
     }
     table
 }

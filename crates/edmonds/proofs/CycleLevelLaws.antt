@@ -22,11 +22,12 @@ use Rattle.contraction.proofs.EachLaws.{each_append, tree_same}
 use Rattle.contraction.proofs.Lowering.{lowered_twice, chosen_lowered}
 use Rattle.contraction.proofs.Expansion.{expand_tree}
 use Rattle.contraction.proofs.SearchLaws as search-laws
-use Rattle.charging.specs.Charge.{ChosenArc, ChargedGroup}
+use Rattle.charging.specs.declared.charge.Charged.{Charged}
+use Rattle.charging.specs.Charge.{ChosenArc, Unentered, ChargedGroup, UnenteredGroup}
 use Rattle.cycles.specs.Cycle.{Met}
 use Rattle.cycles.specs.Contract.{Contracted}
 use Rattle.expansion.specs.Expansion.{CycleEntry, CycleEntered, Expanded}
-use Rattle.edmonds.specs.Level.{Plannable, Solution, Solved}
+use Rattle.edmonds.specs.Level.{Plannable, Solution}
 use Rattle.instance.proofs.CutLaws.{cuts_joined}
 use Rattle.charging.proofs.ChargeLaws.{unentered_before}
 
@@ -127,147 +128,132 @@ module _ {ws ls tails heads : List ℕ} {n root left : ℕ} (r : Plannable ws ls
     three = let f = fewer in let t = two_left in let en = r.enough in omega arith
 
     -- THE CONTRACTED GROUP, charged
-    module _ {ws' cuts cuts' : List ℕ} {k : ℕ} {found : Bool} {t h k' s : ℕ} (ch : ChargedGroup ws ws' lc n v k cuts cuts' found t h k' s) where
-      pub stopped : found ≡ false → (ps : List ℕ) (next : ℕ) → Solved ws ws' ls n root left k cuts cuts' false ps next s
-      stopped no_found ps next =
+    pub stopped : {s : ℕ} → UnenteredGroup ws lc n v s → Unentered n root ws s
+    stopped shut = shut root root_below root_not_v v v_below label_v
+
+    module _ {ws' cuts cuts' : List ℕ} {k : ℕ} {c : Charged} (ch : ChargedGroup ws ws' lc n v k cuts cuts' c) where
+      abbrev t : ℕ
+      t = c.tail.0
+
+      abbrev h : ℕ
+      h = c.head.0
+
+      abbrev k' : ℕ
+      k' = c.next.0
+
+      v_32 : v < max_vertices
+      v_32 = omega (arith, v_below, r.small)
+
+      -- the arcs chosen now: v's is the one that was charged, the others are as they were
+      chosen : Chosen n root (cost ws') (nth lc) (nth (set tails v t)) (nth (set heads v h))
+      chosen =
           record {
-            size = ch.size;
-            cuts_size = ch.cuts_size;
-            solution = λ x. absurd (not_both false x refl);
-            unentered = λ _. ch.unentered no_found root root_below root_not_v v v_below label_v;
+            head_below = λ g gr. (arc g gr).head_below;
+            head_in = λ g gr. (arc g gr).head_in;
+            tail_below = λ g gr. (arc g gr).tail_below;
+            tail_out = λ g gr. (arc g gr).tail_out;
+            tight = λ g gr. (arc g gr).tight;
+          }
+        where
+          at_v : ChosenArc ws' lc n v (nth (set tails v t) v) (nth (set heads v h) v)
+          at_v =
+              let zt = r.tails_size in
+              let zh = r.heads_size in
+              let b = v_32 in
+              rw (get_or-set_same tails v t 0 (omega arith), get_or-set_same heads v h 0 (omega arith)) ch.arc
+
+          arc : (g : ℕ) → Group n root (nth lc) g → ChosenArc ws' lc n g (nth (set tails v t) g) (nth (set heads v h) g)
+          arc g gr =
+              ⊎_elim (λ (e : eqb g v ≡ true). subst (λ (x : ℕ). ChosenArc ws' lc n x (nth (set tails v t) x) (nth (set heads v h) x)) (sym (eqb-true g v e)) at_v)
+              (λ (e : eqb g v ≡ false).
+              let ne = eqb-false g v e in
+              let o = off g gr ne in
+              let gf = o.0 in
+              let hb = r.chosen.head_below g gf in
+              let hi = r.chosen.head_in g gf in
+              let tb = r.chosen.tail_below g gf in
+              rw (get_or-set_other tails v g t 0 ne, get_or-set_other heads v g h 0 ne)
+              (record {
+                tail_below = tb;
+                head_below = hb;
+                tail_out =
+                    λ x.
+                    ⊎_elim (λ (i : on (nth ls (nth tails g)) ≡ true). ne (sym x ∙ label_on (nth tails g) tb i))
+                    (λ (i : on (nth ls (nth tails g)) ≡ false). r.chosen.tail_out g gf (sym (label_off (nth tails g) tb i) ∙ x)) (test (on (nth ls (nth tails g))));
+                head_in = label_off (nth heads g) hb (rw hi o.1) ∙ hi;
+                tight = (chosen_lowered ch.lowered r.chosen).tight g gf;
+              }))
+              (test (eqb g v))
+
+      pub contracted_plannable : Plannable ws' lc (set tails v t) (set heads v h) n root (left - 1)
+      contracted_plannable =
+          let f = fewer in
+          let two = two_left in
+          let en = r.enough in
+          let zt = r.tails_size in
+          let zh = r.heads_size in
+          record {
+            tails_size = simp length-set zt;
+            heads_size = simp length-set zh;
+            small = r.small;
+            labels = coarse_labels;
+            chosen = chosen;
+            enough = omega arith;
+            two = omega arith;
           }
 
-      module _ (is_found : found ≡ true) where
-        v_32 : v < max_vertices
-        v_32 = omega (arith, v_below, r.small)
+      -- THE CONTRACTED LEVEL, solved
+      pub none_below : {s : ℕ} → Unentered n root ws' s → Unentered n root ws s
+      none_below u = unentered_before ch.lowered u
 
-        -- the arcs chosen now: v's is the one that was charged, the others are as they were
-        chosen : Chosen n root (cost ws') (nth lc) (nth (set tails v t)) (nth (set heads v h))
-        chosen =
-            record {
-              head_below = λ g gr. (arc g gr).head_below;
-              head_in = λ g gr. (arc g gr).head_in;
-              tail_below = λ g gr. (arc g gr).tail_below;
-              tail_out = λ g gr. (arc g gr).tail_out;
-              tight = λ g gr. (arc g gr).tight;
-            }
-          where
-            at_v : ChosenArc ws' lc n v (nth (set tails v t) v) (nth (set heads v h) v)
-            at_v =
-                let zt = r.tails_size in
-                let zh = r.heads_size in
-                let b = v_32 in
-                rw (get_or-set_same tails v t 0 (omega arith), get_or-set_same heads v h 0 (omega arith)) (ch.arc is_found)
+      module _ {ws'' cuts'' ps : List ℕ} {m : ℕ} (so : Solution ws' ws'' lc n root (left - 1) k' cuts' cuts'' ps m) where
+        entered_at : {g : ℕ} → Reached n root (nth lc) (nth ps) g → g ≡ v → CycleEntered ls stamp ps n v
+        entered_at (here e) x = absurd (root_not_v (sym e ∙ x))
+        entered_at (step u l e p rest) x = (u, record { below = l; on = back_on u l (e ∙ x); has = p })
 
-            arc : (g : ℕ) → Group n root (nth lc) g → ChosenArc ws' lc n g (nth (set tails v t) g) (nth (set heads v h) g)
-            arc g gr =
-                ⊎_elim (λ (e : eqb g v ≡ true). subst (λ (x : ℕ). ChosenArc ws' lc n x (nth (set tails v t) x) (nth (set heads v h) x)) (sym (eqb-true g v e)) at_v)
-                (λ (e : eqb g v ≡ false).
-                let ne = eqb-false g v e in
-                let o = off g gr ne in
-                let gf = o.0 in
-                let hb = r.chosen.head_below g gf in
-                let hi = r.chosen.head_in g gf in
-                let tb = r.chosen.tail_below g gf in
-                rw (get_or-set_other tails v g t 0 ne, get_or-set_other heads v g h 0 ne)
-                (record {
-                  tail_below = tb;
-                  head_below = hb;
-                  tail_out =
-                      λ x.
-                      ⊎_elim (λ (i : on (nth ls (nth tails g)) ≡ true). ne (sym x ∙ label_on (nth tails g) tb i))
-                      (λ (i : on (nth ls (nth tails g)) ≡ false). r.chosen.tail_out g gf (sym (label_off (nth tails g) tb i) ∙ x)) (test (on (nth ls (nth tails g))));
-                  head_in = label_off (nth heads g) hb (rw hi o.1) ∙ hi;
-                  tight = (chosen_lowered ch.lowered r.chosen).tight g gf;
-                }))
-                (test (eqb g v))
+        pub entered : CycleEntered ls stamp ps n v
+        entered = entered_at (so.tree.reached v v_below) label_v
 
-        pub contracted_plannable : Plannable ws' lc (set tails v t) (set heads v h) n root (left - 1)
-        contracted_plannable =
-            let f = fewer in
-            let two = two_left in
-            let en = r.enough in
-            let zt = r.tails_size in
-            let zh = r.heads_size in
-            record {
-              size = ch.size;
-              tails_size = simp length-set zt;
-              heads_size = simp length-set zh;
-              small = r.small;
-              labels = coarse_labels;
-              chosen = chosen;
-              enough = omega arith;
-              two = omega arith;
-            }
+        abbrev cs : List Cut
+        cs = cuts_from (m - k) k cuts''
 
-        -- THE CONTRACTED LEVEL, solved
-        module _ {ws'' cuts'' ps : List ℕ} {found' : Bool} {m s' : ℕ} (so : Solved ws' ws'' lc n root (left - 1) k' cuts' cuts'' found' ps m s') where
-          pub none_below : found' ≡ false → Solved ws ws'' ls n root left k cuts cuts'' found' ps m s'
-          none_below e =
+        joined : cuts_from (k' - k) k cuts' ++ cuts_from (m - k') k' cuts'' ≡ cs
+        joined = cuts_joined k k' m cuts' cuts'' ch.least so.least so.frame
+
+        lowered : Lowered n (cost ws) (cost ws'') cs
+        lowered = subst (Lowered n (cost ws) (cost ws'')) joined (lowered_twice ch.lowered so.lowered)
+
+        coarse_tree : Tree n root (cost ws'') (contracted (nth ls) on v) cs (nth ps)
+        coarse_tree =
+            tree_same n root (cost ws'') (nth lc) (contracted (nth ls) on v) (nth ps) (nth ps) root_below (λ u l. sym (ct.is u l)) (λ u l. refl) cs
+            (subst (λ (x : List Cut). Tree n root (cost ws'') (nth lc) x (nth ps)) joined
+            (ch.lifts root root_not_v (cost ws'') (cuts_from (m - k') k' cuts'') (nth ps) so.tree))
+
+        module _ {e : ℕ} (en : CycleEntry ls stamp ps n v e) {ps' : List ℕ} (ex : Expanded ls stamp tails heads n v e ps ps') where
+          expanded_tree : Tree n root (cost ws'') (nth ls) cs (nth ps')
+          expanded_tree =
+              tree_same n root (cost ws'') (nth ls) (nth ls) (expanded (nth ls) (nth tails) (nth heads) on (nth ls e) (nth ps)) (nth ps') root_below (λ u l. refl) ex.is cs
+              (expand_tree n root (cost ws'') (nth ls) (nth tails) (nth heads) on v (cycle_at (chosen_lowered lowered r.chosen)) cs (nth ps) coarse_tree e en.below en.on en.has)
+
+          pub expands : Solution ws ws'' ls n root left k cuts cuts'' ps' m
+          expands =
+              let kk = ch.least in
+              let kk' = ch.most in
+              let km = so.least in
+              let mm = so.most in
+              let lp = three in
               record {
-                size = so.size;
-                cuts_size = so.cuts_size;
-                solution = λ x. absurd (not_both found' x e);
-                unentered = λ x. unentered_before ch.lowered (so.unentered x);
+                parents_size = ex.size;
+                tree = expanded_tree;
+                lowered = lowered;
+                proper_cuts =
+                    subst (Each (ProperCut n root)) joined
+                    (each_append (cuts_from (k' - k) k cuts') (cuts_from (m - k') k' cuts'') (ch.proper_cuts root root_below root_not_v) so.proper_cuts);
+                least = omega arith;
+                most = omega arith;
+                frame =
+                    λ i why.
+                    ⊎_elim (λ (d : i < 2 * k). so.frame i (inl (omega arith)) ∙ ch.frame i (inl d))
+                    (λ (d : 2 * m ≤ i). so.frame i (inr d) ∙ ch.frame i (inr (omega arith))) why;
+                root_none = ex.is root root_below ∙ rw cycle.root_off so.root_none;
               }
-
-          module _ (th : found' ≡ true) where
-            entered_at : {g : ℕ} → Reached n root (nth lc) (nth ps) g → g ≡ v → CycleEntered ls stamp ps n v
-            entered_at (here e) x = absurd (root_not_v (sym e ∙ x))
-            entered_at (step u l e p rest) x = (u, record { below = l; on = back_on u l (e ∙ x); has = p })
-
-            pub entered : CycleEntered ls stamp ps n v
-            entered = entered_at ((so.solution th).tree.reached v v_below) label_v
-
-            abbrev cs : List Cut
-            cs = cuts_from (m - k) k cuts''
-
-            joined : cuts_from (k' - k) k cuts' ++ cuts_from (m - k') k' cuts'' ≡ cs
-            joined = cuts_joined k k' m cuts' cuts'' ch.least (so.solution th).least (so.solution th).frame
-
-            lowered : Lowered n (cost ws) (cost ws'') cs
-            lowered = subst (Lowered n (cost ws) (cost ws'')) joined (lowered_twice ch.lowered (so.solution th).lowered)
-
-            coarse_tree : Tree n root (cost ws'') (contracted (nth ls) on v) cs (nth ps)
-            coarse_tree =
-                tree_same n root (cost ws'') (nth lc) (contracted (nth ls) on v) (nth ps) (nth ps) root_below (λ u l. sym (ct.is u l)) (λ u l. refl) cs
-                (subst (λ (x : List Cut). Tree n root (cost ws'') (nth lc) x (nth ps)) joined
-                (ch.lifts is_found root root_not_v (cost ws'') (cuts_from (m - k') k' cuts'') (nth ps) (so.solution th).tree))
-
-            module _ {e : ℕ} (en : CycleEntry ls stamp ps n v e) {ps' : List ℕ} (ex : Expanded ls stamp tails heads n v e ps ps') where
-              expanded_tree : Tree n root (cost ws'') (nth ls) cs (nth ps')
-              expanded_tree =
-                  tree_same n root (cost ws'') (nth ls) (nth ls) (expanded (nth ls) (nth tails) (nth heads) on (nth ls e) (nth ps)) (nth ps') root_below (λ u l. refl) ex.is cs
-                  (expand_tree n root (cost ws'') (nth ls) (nth tails) (nth heads) on v (cycle_at (chosen_lowered lowered r.chosen)) cs (nth ps) coarse_tree e en.below en.on en.has)
-
-              solution : Solution ws ws'' ls n root left k cuts cuts'' ps' m
-              solution =
-                  let kk = ch.least in
-                  let kk' = ch.most in
-                  let km = (so.solution th).least in
-                  let mm = (so.solution th).most in
-                  let lp = three in
-                  record {
-                    parents_size = ex.size;
-                    tree = expanded_tree;
-                    lowered = lowered;
-                    proper_cuts =
-                        subst (Each (ProperCut n root)) joined
-                        (each_append (cuts_from (k' - k) k cuts') (cuts_from (m - k') k' cuts'') (ch.proper_cuts is_found root root_below root_not_v) (so.solution th).proper_cuts);
-                    least = omega arith;
-                    most = omega arith;
-                    frame =
-                        λ i why.
-                        ⊎_elim (λ (d : i < 2 * k). (so.solution th).frame i (inl (omega arith)) ∙ ch.frame i (inl d))
-                        (λ (d : 2 * m ≤ i). (so.solution th).frame i (inr d) ∙ ch.frame i (inr (omega arith))) why;
-                    root_none = ex.is root root_below ∙ rw cycle.root_off (so.solution th).root_none;
-                  }
-
-              pub expands : (set : ℕ) → Solved ws ws'' ls n root left k cuts cuts'' true ps' m set
-              expands set =
-                  record {
-                    size = so.size;
-                    cuts_size = so.cuts_size;
-                    solution = λ _. solution;
-                    unentered = λ x. absurd (not_both true refl x);
-                  }

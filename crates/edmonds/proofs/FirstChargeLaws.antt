@@ -1,6 +1,5 @@
 -- The first charges, of single vertices, one after the other. Assumes nothing.
 use mathlib.Core.Path.{◌≡◌, refl, sym, ap, ◌∙◌, subst}
-use mathlib.Core.Bool.{Bool, true, false}
 use mathlib.Core.List.{List, ◌++◌, append_assoc}
 use mathlib.Core.Logic.{◌≢◌, ◌⊎◌, inl, inr, ⊎_elim}
 use Prim.Native.Nat.{ℕ, ◌+◌, ◌*◌, ◌-◌, ◌≤◌, ◌<◌}
@@ -9,7 +8,7 @@ use native.Mathlib.Nat.{eq-or-lt_of_le}
 use lib.Dec.{eqb}
 use lib.ListN.{length, set, length-set}
 use lib.Seq.{get_or-set_same, get_or-set_other}
-use Rattle.instance.specs.Limits.{max_vertices, cells, max_cuts, cut_words}
+use Rattle.instance.specs.Limits.{max_vertices, max_cuts}
 use Rattle.instance.specs.Cuts.{Cut, cuts_from}
 use Rattle.contraction.specs.Cells.{nth, cost, OwnLabels}
 use Rattle.contraction.specs.Groups.{Group, Lowered}
@@ -17,15 +16,14 @@ use Rattle.contraction.specs.Trees.{Each, none_left, Tree, ProperCut}
 use Rattle.base.proofs.CountingLaws.{count_le}
 use Rattle.contraction.proofs.EachLaws.{each_append}
 use Rattle.contraction.proofs.Lowering.{lowered_none, lowered_twice}
-use Rattle.charging.specs.Charge.{ChosenArc, Unentered, ChargedGroup}
+use Rattle.charging.specs.declared.charge.Charged.{Charged}
+use Rattle.charging.specs.Charge.{ChosenArc, Unentered, ChargedGroup, UnenteredGroup}
 use Rattle.edmonds.specs.Level.{Plannable}
 use Rattle.instance.proofs.CutLaws.{cuts_begun}
 use Rattle.charging.proofs.ChargeLaws.{unentered_before}
 
 -- every vertex below v but the root is charged; ws₀ and cuts₀ are matrix and buffer at the start
 pub record Begun (ws₀ ws ls tails heads : List ℕ) (n root : ℕ) (cuts₀ cuts : List ℕ) (k v : ℕ) : Type 0 where
-  pub size : length ws ≡ cells
-  pub cuts_size : length cuts ≡ cut_words
   pub tails_size : length tails ≡ max_vertices
   pub heads_size : length heads ≡ max_vertices
   pub few : k ≤ v
@@ -36,13 +34,10 @@ pub record Begun (ws₀ ws ls tails heads : List ℕ) (n root : ℕ) (cuts₀ cu
   pub proper_cuts : Each (ProperCut n root) (cuts_from k 0 cuts)
   pub frame : (i : ℕ) → 2 * k ≤ i → nth cuts i ≡ nth cuts₀ i
 
-pub none_charged : {ws ls tails heads : List ℕ} {n root : ℕ} {cuts : List ℕ} → length ws ≡ cells → length cuts ≡ cut_words → length tails ≡ max_vertices
-    → length heads ≡ max_vertices → Begun ws ws ls tails heads n root cuts cuts 0 0
+pub none_charged : {ws ls tails heads : List ℕ} {n root : ℕ} {cuts : List ℕ} → length tails ≡ max_vertices → length heads ≡ max_vertices → Begun ws ws ls tails heads n root cuts cuts 0 0
 unfolding cuts_from
-none_charged {ws} {n = n} a b c d =
+none_charged {ws} {n = n} c d =
     record {
-      size = a;
-      cuts_size = b;
       tails_size = c;
       heads_size = d;
       few = omega arith;
@@ -59,8 +54,6 @@ module _ {ws₀ ws ls tails heads : List ℕ} {n root : ℕ} {cuts₀ cuts : Lis
   pub pass_root : v ≡ root → Begun ws₀ ws ls tails heads n root cuts₀ cuts k (v + 1)
   pass_root e =
       record {
-        size = b.size;
-        cuts_size = b.cuts_size;
         tails_size = b.tails_size;
         heads_size = b.heads_size;
         few = omega (arith, b.few);
@@ -72,49 +65,57 @@ module _ {ws₀ ws ls tails heads : List ℕ} {n root : ℕ} {cuts₀ cuts : Lis
         frame = b.frame;
       }
 
-  module _ (vn : v < n) (vr : v ≢ root) {ws' cuts' : List ℕ} {found : Bool} {t h next s : ℕ} (ch : ChargedGroup ws ws' ls n v k cuts cuts' found t h next s) where
+  module _ (vn : v < n) (vr : v ≢ root) where
     root_off : nth ls root ≢ v
     root_off e = vr (sym e ∙ own root (omega arith))
 
-    pub none_enters : found ≡ false → Unentered n root ws₀ s
-    none_enters no_arc = unentered_before b.lowered (ch.unentered no_arc root rb root_off v vn (own v (omega arith)))
+    pub none_enters : {set : ℕ} → UnenteredGroup ws ls n v set → Unentered n root ws₀ set
+    none_enters shut = unentered_before b.lowered (shut root rb root_off v vn (own v (omega arith)))
 
-    pub one_charged : found ≡ true → Begun ws₀ ws' ls (set tails v t) (set heads v h) n root cuts₀ cuts' next (v + 1)
-    one_charged yes-arc =
-        let zt = b.tails_size in
-        let zh = b.heads_size in
-        let k₀ = ch.least in
-        let k₁ = ch.most in
-        let joined = cuts_begun k next cuts cuts' ch.least ch.frame in
-        record {
-          size = ch.size;
-          cuts_size = ch.cuts_size;
-          tails_size = simp length-set zt;
-          heads_size = simp length-set zh;
-          few = omega (arith, b.few);
-          fewer = λ l. omega (arith, b.fewer (omega arith));
-          arcs = λ g l ne. arcs_now g ne (eq-or-lt_of_le {n = g} {m = v} (omega arith));
-          lowered = subst (Lowered n (cost ws₀) (cost ws')) joined (lowered_twice b.lowered ch.lowered);
-          lifts =
-              λ w cs parent tr.
-              subst (λ (x : List Cut). Tree n root w (nth ls) x parent)
-              (sym (append_assoc (cuts_from k 0 cuts) (cuts_from (next - k) k cuts') cs) ∙ ap (λ (x : List Cut). x ++ cs) joined)
-              (b.lifts w (cuts_from (next - k) k cuts' ++ cs) parent (ch.lifts yes-arc root root_off w cs parent tr));
-          proper_cuts = subst (Each (ProperCut n root)) joined (each_append (cuts_from k 0 cuts) (cuts_from (next - k) k cuts') b.proper_cuts (ch.proper_cuts yes-arc root rb root_off));
-          frame = λ i l. ch.frame i (inr l) ∙ b.frame i (omega arith);
-        }
-      where
-        arcs_now : (g : ℕ) → g ≢ root → (g ≡ v) ⊎ (g < v) → ChosenArc ws' ls n g (nth (set tails v t) g) (nth (set heads v h) g)
-        arcs_now g ne (inl d) =
-            let zt = b.tails_size in
-            let zh = b.heads_size in
-            rw d (rw (get_or-set_same tails v t 0 (omega arith), get_or-set_same heads v h 0 (omega arith)) (ch.arc yes-arc))
-        arcs_now g ne (inr d) =
-            let a = b.arcs g d ne in
-            let z = a.tight in
-            let x = ch.lowered.paid (nth tails g) (nth heads g) a.tail_below a.head_below (omega arith) in
-            rw (get_or-set_other tails v g t 0 (omega arith), get_or-set_other heads v g h 0 (omega arith))
-            (record { tail_below = a.tail_below; head_below = a.head_below; tail_out = a.tail_out; head_in = a.head_in; tight = omega arith })
+    module _ {ws' cuts' : List ℕ} {c : Charged} (ch : ChargedGroup ws ws' ls n v k cuts cuts' c) where
+      abbrev t : ℕ
+      t = c.tail.0
+
+      abbrev h : ℕ
+      h = c.head.0
+
+      abbrev next : ℕ
+      next = c.next.0
+
+      pub one_charged : Begun ws₀ ws' ls (set tails v t) (set heads v h) n root cuts₀ cuts' next (v + 1)
+      one_charged =
+          let zt = b.tails_size in
+          let zh = b.heads_size in
+          let k₀ = ch.least in
+          let k₁ = ch.most in
+          let joined = cuts_begun k next cuts cuts' ch.least ch.frame in
+          record {
+            tails_size = simp length-set zt;
+            heads_size = simp length-set zh;
+            few = omega (arith, b.few);
+            fewer = λ l. omega (arith, b.fewer (omega arith));
+            arcs = λ g l ne. arcs_now g ne (eq-or-lt_of_le {n = g} {m = v} (omega arith));
+            lowered = subst (Lowered n (cost ws₀) (cost ws')) joined (lowered_twice b.lowered ch.lowered);
+            lifts =
+                λ w cs parent tr.
+                subst (λ (x : List Cut). Tree n root w (nth ls) x parent)
+                (sym (append_assoc (cuts_from k 0 cuts) (cuts_from (next - k) k cuts') cs) ∙ ap (λ (x : List Cut). x ++ cs) joined)
+                (b.lifts w (cuts_from (next - k) k cuts' ++ cs) parent (ch.lifts root root_off w cs parent tr));
+            proper_cuts = subst (Each (ProperCut n root)) joined (each_append (cuts_from k 0 cuts) (cuts_from (next - k) k cuts') b.proper_cuts (ch.proper_cuts root rb root_off));
+            frame = λ i l. ch.frame i (inr l) ∙ b.frame i (omega arith);
+          }
+        where
+          arcs_now : (g : ℕ) → g ≢ root → (g ≡ v) ⊎ (g < v) → ChosenArc ws' ls n g (nth (set tails v t) g) (nth (set heads v h) g)
+          arcs_now g ne (inl d) =
+              let zt = b.tails_size in
+              let zh = b.heads_size in
+              rw d (rw (get_or-set_same tails v t 0 (omega arith), get_or-set_same heads v h 0 (omega arith)) ch.arc)
+          arcs_now g ne (inr d) =
+              let a = b.arcs g d ne in
+              let z = a.tight in
+              let x = ch.lowered.paid (nth tails g) (nth heads g) a.tail_below a.head_below (omega arith) in
+              rw (get_or-set_other tails v g t 0 (omega arith), get_or-set_other heads v g h 0 (omega arith))
+              (record { tail_below = a.tail_below; head_below = a.head_below; tail_out = a.tail_out; head_in = a.head_in; tight = omega arith })
 
   -- EVERY VERTEX IS CHARGED
   module _ (end : n ≤ v) (le : v ≤ n) {left : ℕ} (bound : left ≡ n + (2 - n)) where
@@ -128,7 +129,6 @@ module _ {ws₀ ws ls tails heads : List ℕ} {n root : ℕ} {cuts₀ cuts : Lis
     begun_plannable =
         let c = count_le n (λ q. eqb (nth ls q) q) in
         record {
-          size = b.size;
           tails_size = b.tails_size;
           heads_size = b.heads_size;
           small = small;

@@ -1,13 +1,9 @@
 -- A level of planning with no cycle: the chosen arcs are an arborescence. Assumes nothing.
-use mathlib.Core.Path.{◌≡◌, refl, ◌∙◌}
-use mathlib.Core.Bool.{true}
+use mathlib.Core.Path.{refl, ◌∙◌}
 use mathlib.Core.List.{List, []}
 use Prim.Native.Nat.{ℕ, ◌<◌}
 use native.Mathlib.Omega.{arith}
-use lib.ListN.{length}
 use borrow.Author.Tests.{eq-eqb}
-use Rattle.base.proofs.BoolLaws.{not_both}
-use Rattle.instance.specs.Limits.{cut_words}
 use Rattle.contraction.specs.Cells.{nth, cost}
 use Rattle.contraction.specs.Groups.{own_arcs}
 use Rattle.contraction.specs.Trees.{none_left}
@@ -16,7 +12,7 @@ use Rattle.contraction.proofs.Lowering.{lowered_none}
 use Rattle.contraction.proofs.NoCycle.{own_tree}
 use Rattle.cycles.specs.Cycle.{Searchable, NoCycle}
 use Rattle.expansion.specs.Expansion.{OwnArcs}
-use Rattle.edmonds.specs.Level.{Plannable, Solved}
+use Rattle.edmonds.specs.Level.{Plannable, Solution}
 use Rattle.instance.proofs.CutLaws.{no_cuts}
 
 module _ {ws ls tails heads : List ℕ} {n root left : ℕ} (r : Plannable ws ls tails heads n root left) where
@@ -26,26 +22,18 @@ module _ {ws ls tails heads : List ℕ} {n root left : ℕ} (r : Plannable ws ls
   root_below : root < n
   root_below = r.labels.root_below
 
-  pub solved_plain : {cuts ps : List ℕ} {k : ℕ} → length cuts ≡ cut_words → NoCycle ls tails n root → OwnArcs ls tails heads n root ps
-      → (set : ℕ) → Solved ws ws ls n root left k cuts cuts true ps k set
-  solved_plain {cuts} {ps} {k} size nc own set =
+  pub solved_plain : {cuts ps : List ℕ} {k : ℕ} → NoCycle ls tails n root → OwnArcs ls tails heads n root ps → Solution ws ws ls n root left k cuts cuts ps k
+  solved_plain {cuts} {ps} {k} nc own =
       let e = no_cuts k cuts in
       let sm = r.small in
       let t = own_tree n root (cost ws) (nth ls) (nth tails) (nth heads) r.labels r.chosen (omega arith) nc in
       record {
-        size = r.size;
-        cuts_size = size;
-        solution =
-            λ _.
-            record {
-              parents_size = own.size;
-              tree = rw e (tree_same n root (cost ws) (nth ls) (nth ls) (own_arcs root (nth ls) (nth tails) (nth heads)) (nth ps) root_below (λ v l. refl) own.is [] t);
-              lowered = rw e (lowered_none n (cost ws));
-              proper_cuts = rw e none_left;
-              least = omega arith;
-              most = omega (arith, r.two);
-              frame = λ i why. refl;
-              root_none = own.is root root_below ∙ rw (eq-eqb (nth ls root) (nth ls root) refl);
-            };
-        unentered = λ x. absurd (not_both true refl x);
+        parents_size = own.size;
+        tree = rw e (tree_same n root (cost ws) (nth ls) (nth ls) (own_arcs root (nth ls) (nth tails) (nth heads)) (nth ps) root_below (λ v l. refl) own.is [] t);
+        lowered = rw e (lowered_none n (cost ws));
+        proper_cuts = rw e none_left;
+        least = omega arith;
+        most = omega (arith, r.two);
+        frame = λ i why. refl;
+        root_none = own.is root root_below ∙ rw (eq-eqb (nth ls root) (nth ls root) refl);
       }

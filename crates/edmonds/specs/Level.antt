@@ -1,15 +1,13 @@
 -- One level of contraction: what planning it needs, and what it gives. Assumes nothing: these are definitions.
-use Rattle.std.specs.Prelude.{◌≡◌, Bool, true, false, List, ◌⊎◌, ℕ, ◌+◌, ◌*◌, ◌-◌, ◌≤◌, ◌<◌, length}
-use Rattle.instance.specs.Limits.{max_vertices, no_parent, cells, cut_words}
+use Rattle.std.specs.Prelude.{◌≡◌, List, ◌⊎◌, ℕ, ◌+◌, ◌*◌, ◌-◌, ◌≤◌, ◌<◌, length}
+use Rattle.instance.specs.Limits.{max_vertices, no_parent}
 use Rattle.instance.specs.Cuts.{cuts_from}
 use Rattle.contraction.specs.Cells.{nth, cost}
 use Rattle.contraction.specs.Groups.{Labels, Chosen, Lowered, groups}
 use Rattle.contraction.specs.Trees.{Each, Tree, ProperCut}
-use Rattle.charging.specs.Charge.{Unentered}
 
 -- groups of which each but the root's has chosen an arc of weight 0: at most so many are left
 pub record Plannable (ws ls tails heads : List ℕ) (n root left : ℕ) : Type 0 where
-  pub size : length ws ≡ cells
   pub tails_size : length tails ≡ max_vertices
   pub heads_size : length heads ≡ max_vertices
   pub small : n ≤ max_vertices
@@ -29,10 +27,3 @@ pub record Solution (ws ws' ls : List ℕ) (n root left k : ℕ) (cuts cuts' ps 
   pub most : next + 2 ≤ k + left
   pub frame : (i : ℕ) → (i < 2 * k) ⊎ (2 * next ≤ i) → nth cuts' i ≡ nth cuts i
   pub root_none : nth ps root ≡ no_parent
-
--- a tree of the groups, or a set that no arc enters
-pub record Solved (ws ws' ls : List ℕ) (n root left k : ℕ) (cuts cuts' : List ℕ) (found : Bool) (ps : List ℕ) (next set : ℕ) : Type 0 where
-  pub size : length ws' ≡ cells
-  pub cuts_size : length cuts' ≡ cut_words
-  pub solution : found ≡ true → Solution ws ws' ls n root left k cuts cuts' ps next
-  pub unentered : found ≡ false → Unentered n root ws set

@@ -1,30 +1,29 @@
 // Expansion: "opening the ring again drops exactly one of its links". And the arcs where there is no cycle to expand.
 #![tactic(auto)]
 
-ghost use Rattle.std.specs.Prelude.{◌≡◌, ◌≤◌, ◌<◌, length};
+ghost use Rattle.std.specs.Prelude.{◌≡◌, ◌≤◌, ◌<◌};
 ghost use Rattle.instance.specs.Limits.{max_vertices};
 ghost use Rattle.contraction.specs.Cells.{LabelsBelow};
 ghost use Rattle.expansion.specs.Expansion.{OwnArcs, CycleEntry, CycleEntered, Expanded, Expansion};
 
+use cycles::cycle::Cycle;
+use cycles::groups::Groups;
 use instance::Vertex;
 use instance::limits::{NO_PARENT, VERTICES};
 
 // Each group's own arc, at the vertex that it enters.
-pub fn own_parents(
-    label: &[u8; VERTICES],
-    tails: &[u8; VERTICES],
-    heads: &[u8; VERTICES],
-    n: usize,
-    root: Vertex,
-) -> [u8; VERTICES]
-    requires { (n ≤ max_vertices) × (root.0 < n) × LabelsBelow n label.now }
-    ensures { OwnArcs label.now tails.now heads.now n root.0 result }
+pub fn own_parents(groups: Groups) -> [u8; VERTICES]
+    requires { (groups.n ≤ max_vertices) × (groups.root.0 < groups.n) × LabelsBelow groups.n groups.label.now }
+    ensures { OwnArcs groups.entry.label.now groups.entry.tails.now groups.entry.heads.now groups.entry.n groups.entry.root.0 result }
 {
-    let r = root.0 as usize;
+    let label = groups.label;
+    let tails = groups.tails;
+    let heads = groups.heads;
+    let n = groups.n;
+    let r = groups.root.0 as usize;
     let top = label[r] as usize;
     let mut out = [NO_PARENT; VERTICES];
-    let mut v: usize = 0;
-    while v < n {
+    for v in 0..n {
         let g = label[v] as usize;
         if g != top {
             let here = v as u8;
@@ -32,58 +31,52 @@ pub fn own_parents(
                 out[v] = tails[g];
             }
         }
-        v += 1;
     }
     out
 }
 
-// The vertex at which the arc chosen outside enters the cycle at v.
-fn entry_vertex(
-    label: &[u8; VERTICES],
-    stamp: &[u8; VERTICES],
-    parents: &[u8; VERTICES],
-    n: usize,
-    v: Vertex,
-) -> Vertex
-    requires { (n ≤ max_vertices) × (v.0 < n) × LabelsBelow n label.now × CycleEntered label.now stamp.now parents.now n v.0 }
-    ensures { CycleEntry label.now stamp.now parents.now n v.0 result.0 }
+// The vertex at which the arc chosen outside enters the cycle.
+fn entry_vertex(groups: Groups, cycle: &Cycle, parents: &[u8; VERTICES]) -> Vertex
+    requires { (groups.n ≤ max_vertices) × (cycle.now.at.0 < groups.n) × LabelsBelow groups.n groups.label.now × CycleEntered groups.label.now cycle.now.stamp parents.now groups.n cycle.now.at.0 }
+    ensures { CycleEntry groups.entry.label.now cycle.now.stamp parents.now groups.entry.n cycle.now.at.0 result.0 }
 {
-    let at = v.0 as usize;
+    let label = groups.label;
+    let stamp = &cycle.stamp;
+    let n = groups.n;
+    let at = cycle.at.0 as usize;
     let first = stamp[at];
     let bound = n as u8;
-    let mut u: usize = 0;
-    while u < n {
+    for u in 0..n {
         let g = label[u] as usize;
         if first <= stamp[g] {
             if parents[u] < bound {
                 return Vertex(u as u32);
             }
         }
-        u += 1;
     }
     Vertex(0)
 }
 
 // Each group of the cycle but the entry's takes its own arc again.
 fn take_arcs(
-    label: &[u8; VERTICES], // the group of each vertex, before the cycle was contracted
-    stamp: &[u8; VERTICES], // when the search came by each group
-    tails: &[u8; VERTICES], // the tail of each group's own arc
-    heads: &[u8; VERTICES], // and its head
-    n: usize, // the number of vertices
-    v: Vertex, // a group on the cycle: the others are stamped no earlier
+    groups: Groups, // before the cycle was contracted
+    cycle: &Cycle,
     entry: Vertex, // where the cycle is entered
     parents: &mut [u8; VERTICES], // the tree of the contracted groups, which becomes one of these groups
 )
-    requires { (length parents.now ≡ max_vertices) × (n ≤ max_vertices) × (v.0 < n) × (entry.0 < n) × LabelsBelow n label.now }
-    ensures { Expanded label.now stamp.entry.now tails.entry.now heads.entry.now n v.0 entry.0 parents.entry.now parents.exit.now }
+    requires { (groups.n ≤ max_vertices) × (cycle.now.at.0 < groups.n) × (entry.0 < groups.n) × LabelsBelow groups.n groups.label.now }
+    ensures { Expanded groups.entry.label.now cycle.entry.now.stamp groups.entry.tails.now groups.entry.heads.now groups.entry.n cycle.entry.now.at.0 entry.0 parents.entry.now parents.exit.now }
 {
-    let at = v.0 as usize;
+    let label = groups.label;
+    let tails = groups.tails;
+    let heads = groups.heads;
+    let stamp = &cycle.stamp;
+    let n = groups.n;
+    let at = cycle.at.0 as usize;
     let first = stamp[at];
     let e = entry.0 as usize;
     let entered = label[e] as usize;
-    let mut u: usize = 0;
-    while u < n {
+    for u in 0..n {
         let g = label[u] as usize;
         if first <= stamp[g] {
             if g != entered {
@@ -93,24 +86,14 @@ fn take_arcs(
                 }
             }
         }
-        u += 1;
     }
 }
 
-// Expands the cycle at v: only the arc that the one chosen outside replaces is dropped. The parameters are those of
-// take_arcs.
-pub fn expand_cycle(
-    label: &[u8; VERTICES],
-    stamp: &[u8; VERTICES],
-    tails: &[u8; VERTICES],
-    heads: &[u8; VERTICES],
-    n: usize,
-    v: Vertex,
-    parents: &mut [u8; VERTICES],
-)
-    requires { (length parents.old ≡ max_vertices) × (n ≤ max_vertices) × (v.0 < n) × LabelsBelow n label.now × CycleEntered label.now stamp.now parents.old n v.0 }
-    ensures { Expansion label.now stamp.now tails.now heads.now n v.0 parents.old parents.new }
+// Expands the cycle: only the arc that the one chosen outside replaces is dropped.
+pub fn expand_cycle(groups: Groups, cycle: &Cycle, parents: &mut [u8; VERTICES])
+    requires { (groups.n ≤ max_vertices) × (cycle.now.at.0 < groups.n) × LabelsBelow groups.n groups.label.now × CycleEntered groups.label.now cycle.now.stamp parents.old groups.n cycle.now.at.0 }
+    ensures { Expansion groups.entry.label.now cycle.now.stamp groups.entry.tails.now groups.entry.heads.now groups.entry.n cycle.now.at.0 parents.old parents.new }
 {
-    let entry = entry_vertex(label, stamp, parents, n, v);
-    take_arcs(label, stamp, tails, heads, n, v, entry, parents);
+    let entry = entry_vertex(groups, cycle, parents);
+    take_arcs(groups, cycle, entry, parents);
 }

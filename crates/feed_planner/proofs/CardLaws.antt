@@ -9,7 +9,7 @@ use Rattle.instance.specs.Instance.{Instance}
 use Rattle.instance.specs.Limits.{cells}
 use Rattle.card_format.specs.Card.{bytes_needed, card_of}
 use Rattle.card_format.proofs.LengthLaws.{length_card_of}
-use Rattle.card.specs.declared.write.Written.{Written}
+use Rattle.card.specs.Write.{Written}
 use Rattle.card.specs.Write.{written_to, buffer_after, CardWritten}
 use Rattle.commands.specs.Valid.{valid}
 use Rattle.board.specs.ModelOf.{model_of, instance_of}

@@ -1,5 +1,6 @@
 -- Laws of the exported functions. Assumes nothing.
 pub mod StoreLaws
+pub mod RefusedLaws
 pub mod CardLaws
 pub mod SheetLaws
 pub mod PressLaws

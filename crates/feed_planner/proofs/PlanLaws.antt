@@ -14,10 +14,8 @@ use Rattle.certificate.specs.Certificate.{certificate_refusal}
 use Rattle.enumeration.specs.Walk.{limit_refused, walked, joined}
 use Rattle.board.specs.declared.Answered.{Answered}
 use Rattle.history_format.specs.HistoryCard.{open_refusal}
-use Rattle.planner.specs.declared.Listing.{Listing}
-use Rattle.planner.specs.declared.Listing.TheVariants.{Refused}
 use Rattle.planner.specs.Checking.{Checks}
-use Rattle.planner.specs.Enumerating.{Lists, list_answer, listed_as}
+use Rattle.planner.specs.Enumerating.{Listing, Refused, Lists, list_answer, listed_as}
 use Rattle.planner.specs.Opening.{opened_from}
 use Rattle.planner.proofs.OpeningLaws.{opened_answer}
 use Rattle.feed_planner.specs.Words.{Words, listing_words}

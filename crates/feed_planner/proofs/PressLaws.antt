@@ -6,7 +6,7 @@ use mathlib.Core.Logic.{◌≢◌}
 use Prim.Native.Nat.{ℕ}
 use lib.ListN.{length}
 use borrow.Author.Tests.{eq-eqb, ne_eqb}
-use Rattle.card.specs.declared.write.Written.{Written}
+use Rattle.card.specs.Write.{Written}
 use Rattle.commands.specs.Model.{Model}
 use Rattle.commands.specs.Commands.{Command, answered}
 use Rattle.commands.specs.Valid.{valid}

@@ -8,11 +8,12 @@ use lib.Dec.{ltb}
 use lib.ListN.{length}
 use borrow.Author.Tests.{eq-eqb, ne_eqb, ltb-false}
 use Rattle.base.proofs.BoolLaws.{or_false_left, or_false_right, passed}
-use Rattle.card.specs.declared.write.Written.{Written}
+use Rattle.card.specs.Write.{Written}
 use Rattle.commands.specs.Model.{Model}
 use Rattle.board.specs.ModelOf.{model_of}
 use Rattle.board.specs.declared.Answered.{Answered}
-use Rattle.command_list.specs.declared.ListAnswered.{ListAnswered}
+use Rattle.board.specs.declared.Board.{Board}
+use Rattle.feed_planner.specs.declared.press_lists.Pressed.{Pressed}
 use Rattle.history_format.specs.HistoryCard.{open_refusal, history_card_of}
 use Rattle.history_card.specs.Write.{HistoryWritten}
 use Rattle.planner.specs.Opening.{opened_from}
@@ -20,7 +21,7 @@ use Rattle.planner.specs.Replaying.{calls}
 use Rattle.planner.proofs.OpeningLaws.{opened_answer}
 use Rattle.planner.proofs.WritingLaws.{StoreCase}
 use Rattle.feed_planner.specs.Store.{kept, Stores}
-use Rattle.feed_planner.specs.PressLists.{ListPressed, list_pressed, list_left, numbers_short, list_refusal, pressed_on, PressesList}
+use Rattle.feed_planner.specs.PressLists.{ListPressed, list_pressed, left_by, numbers_short, list_refusal, pressed_on, PressesList}
 use Rattle.feed_planner.proofs.StoreLaws.{stores_refused, stores_by}
 use Rattle.feed_planner.proofs.CardLaws.{not_opened, opens, open_model}
 use Rattle.feed_planner.proofs.PressLaws.{history_stored}
@@ -56,11 +57,11 @@ module _ (ws ks fs gs : List ℕ) (o : Answered) (e : o ≡ opened_from ws) wher
         → PressesList ws ks fs gs out out n n p p q q k
     list_numbers_refused out n p q k s y = all_refused ws ks fs gs out n p q k (numbers_left ∙ sym s) y
 
-    pub list_stored : (d : ListAnswered) (out out' : List ℕ) (n p q : ℕ) (w : Written) → 0 ≡ numbers_short (length ks) (length fs) (length gs)
-        → list_left d ≡ list_pressed (calls ks fs gs) (model_of o.board) → HistoryWritten (model_of d.board) out out' w
-        → PressesList ws ks fs gs out out' n (kept w.answer w.length n) p (kept w.answer d.applied p) q (kept w.answer d.answer q) w.answer
-    list_stored d out out' n p q w s l h =
-        let r : list_left d ≡ pressed_on ws ks fs gs = l ∙ ap (list_pressed (calls ks fs gs)) (open_model ws o e z) in
+    pub list_stored : (d : Pressed) (b : Board) (out out' : List ℕ) (n p q : ℕ) (w : Written) → 0 ≡ numbers_short (length ks) (length fs) (length gs)
+        → left_by d b ≡ list_pressed (calls ks fs gs) (model_of o.board) → HistoryWritten (model_of b) out out' w
+        → PressesList ws ks fs gs out out' n (kept w.answer w.length n) p (kept w.answer d.applied p) q (kept w.answer d.stopped q) w.answer
+    list_stored d b out out' n p q w s l h =
+        let r : left_by d b ≡ pressed_on ws ks fs gs = l ∙ ap (list_pressed (calls ks fs gs)) (open_model ws o e z) in
         let m = (pressed_on ws ks fs gs).board in
         let g = history_stored m out out' w (subst (λ (x : Model). HistoryWritten x out out' w) (ap (λ (x : ListPressed). x.board) r) h) in
         record {

@@ -1,14 +1,14 @@
 -- The loop that makes a prepared list of presses, and the card after it. What was made so far and what the rest of the
 -- list would give are together the whole list. Assumes nothing.
 use mathlib.Core.Path.{◌≡◌, refl, sym, ap, ◌∙◌}
-use mathlib.Core.Bool.{Bool, true, false, cond}
+use mathlib.Core.Bool.{Bool, true, false, cond, true≢false}
 use mathlib.Core.List.{List, [], ◌∷◌, map}
 use mathlib.Core.Logic.{◌≢◌}
 use Prim.Native.Nat.{ℕ, suc, ◌+◌, ◌≤◌, ◌<◌}
 use native.Mathlib.Omega.{arith}
 use lib.Dec.{eqb}
 use lib.ListN.{length, get_or, drop_of_length-le}
-use borrow.Author.Tests.{eq-eqb, ne_eqb, eqb-true, eqb-false}
+use borrow.Author.Tests.{eq-eqb, ne_eqb}
 use Rattle.commands.specs.Model.{Model}
 use Rattle.commands.specs.Commands.{Command, answered}
 use Rattle.commands.specs.Valid.{valid}
@@ -20,8 +20,10 @@ use Rattle.board.specs.Contents.{Contents, contents_after}
 use Rattle.board.proofs.CallLaws.{call_board, call_answer, call_valid}
 use Rattle.command_list.specs.CommandList.{ListResult, none_applied, list_applied}
 use Rattle.command_list.specs.CommandList as lists
-use Rattle.planner.specs.Replaying.{Call, command, call, calls, command_kind}
-use Rattle.planner.proofs.CallKinds.{call_look, call_write, not_command}
+use Rattle.board.specs.declared.Command as declared-command
+use Rattle.planner.specs.declared.replaying.Call as declared-call
+use Rattle.planner.specs.declared.replaying.Call.TheVariants as declared-calls
+use Rattle.planner.specs.Replaying.{Call, command, look, write, call, call_of, calls}
 use Rattle.planner.proofs.ReplayingLaws.{from, split}
 use Rattle.feed_planner.specs.PressLists.{no_such_press, ListPressed, none_pressed, one_more, list_pressed}
 
@@ -49,20 +51,28 @@ none_yet ks fs gs b v =
     record { within = omega arith; good = v; made = ap (λ (x : ℕ). with_applied x r) (omega arith) }
 
 -- A KIND THAT PRESSES NOTHING
-nothing_pressed : (k x y : ℕ) (cs : List Call) (m : Model) → command_kind k ≡ false → list_pressed (call k x y ∷ cs) m ≡ none_pressed no_such_press m
+abbrev pub presses : Call → Bool
+presses (command c) = true
+presses look = false
+presses write = false
+
+pub presses_nothing : (a : declared-call.Call) → ((c : declared-command.Command) → a ≡ declared-calls.Command c → ⊥) → presses (call_of a) ≡ false
+presses_nothing (declared-calls.Command c) n = absurd (n c refl)
+presses_nothing declared-calls.Look n = refl
+presses_nothing declared-calls.Write n = refl
+
+nothing_pressed : (a : Call) (cs : List Call) (m : Model) → presses a ≡ false → list_pressed (a ∷ cs) m ≡ none_pressed no_such_press m
 unfolding list_pressed
-nothing_pressed k x y cs m h = go (eqb k 5) refl
-  where
-    go : (t : Bool) → eqb k 5 ≡ t → list_pressed (call k x y ∷ cs) m ≡ none_pressed no_such_press m
-    go true e = rw (call_look k x y (eqb-true k 5 e))
-    go false e = rw (call_write k x y (not_command k h (eqb-false k 5 e)))
+nothing_pressed (command c) cs m e = absurd (true≢false e)
+nothing_pressed look cs m e = refl
+nothing_pressed write cs m e = refl
 
 module _ (ks fs gs : List ℕ) (m : Model) (p : length ks ≤ length fs) (q : length ks ≤ length gs) (b : Board) (i : ℕ) (s : PressedSoFar ks fs gs m b i) where
-  pub stopped_at_kind : i < length ks → command_kind (get_or ks i 0) ≡ false
+  pub stopped_at_kind : i < length ks → presses (call (get_or ks i 0) (get_or fs i 0) (get_or gs i 0)) ≡ false
       → record { applied = i; answer = no_such_press; board = model_of b } ≡ list_pressed (calls ks fs gs) m
   stopped_at_kind h n =
       sym (none_more i no_such_press (model_of b))
-      ∙ ap (more_pressed i) (sym (nothing_pressed (get_or ks i 0) (get_or fs i 0) (get_or gs i 0) (from ks fs gs (suc i)) (model_of b) n))
+      ∙ ap (more_pressed i) (sym (nothing_pressed (call (get_or ks i 0) (get_or fs i 0) (get_or gs i 0)) (from ks fs gs (suc i)) (model_of b) n))
       ∙ ap (λ (cs : List Call). more_pressed i (list_pressed cs (model_of b))) (sym (split ks fs gs i h p q)) ∙ s.made
 
   -- ONE PRESS

@@ -8,7 +8,7 @@ use lib.Dec.{eqb}
 use lib.ListN.{length}
 use borrow.Author.Tests.{eq-eqb, ne_eqb, lt-ltb, le-ltb}
 use Rattle.base.specs.Lists.{in_front}
-use Rattle.card.specs.declared.write.Written.{Written}
+use Rattle.card.specs.Write.{Written}
 use Rattle.planner.proofs.WritingLaws.{StoreCase, refused_by, no_room, put}
 use Rattle.feed_planner.specs.Store.{kept, Tells, Stores}
 

@@ -2,8 +2,7 @@
 -- definitions.
 use Rattle.std.specs.Prelude.{◌≡◌, List, ℕ}
 use Rattle.spanning.specs.Graph.{Graph}
-use Rattle.runs.specs.declared.planning.RunsView.{RunsView}
-use Rattle.runs.specs.Planning.{view_number, PlansRuns}
+use Rattle.runs.specs.Planning.{RunsView, view_number, PlansRuns}
 use Rattle.feed_planner.specs.Words.{Words, runs_words}
 
 pub record TellsRuns (g : Graph) (budget : ℕ) (states₀ states costs₀ costs : List ℕ) (old new : Words) (answer : ℕ) : Type 0 where

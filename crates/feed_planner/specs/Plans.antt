@@ -5,9 +5,7 @@ use Rattle.instance.specs.Refusals.{bad_try_limit}
 use Rattle.certificate.specs.Certificate.{certificate_refusal}
 use Rattle.enumeration.specs.Walk.{limit_refused, Walked, walked, joined}
 use Rattle.history_format.specs.HistoryCard.{open_refusal, model_in}
-use Rattle.planner.specs.declared.Listing.{Listing}
-use Rattle.planner.specs.declared.Listing.TheVariants.{Refused}
-use Rattle.planner.specs.Enumerating.{list_answer, listed_as}
+use Rattle.planner.specs.Enumerating.{Listing, Refused, list_answer, listed_as}
 use Rattle.feed_planner.specs.Words.{Words, listing_words}
 
 -- the card's refusal, then that of the plan

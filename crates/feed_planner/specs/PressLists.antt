@@ -5,7 +5,8 @@ use Rattle.instance.specs.Refusals.{buffer_short}
 use Rattle.commands.specs.Model.{Model}
 use Rattle.commands.specs.Commands.{answered}
 use Rattle.board.specs.ModelOf.{model_of}
-use Rattle.command_list.specs.declared.ListAnswered.{ListAnswered}
+use Rattle.board.specs.declared.Board.{Board}
+use Rattle.feed_planner.specs.declared.press_lists.Pressed.{Pressed}
 use Rattle.history_format.specs.HistoryCard.{open_refusal, model_in, history_card_of}
 use Rattle.planner.specs.Replaying.{Call, command, look, write, calls}
 use Rattle.feed_planner.specs.Store.{kept, Stores}
@@ -36,9 +37,9 @@ list_pressed (command c ∷ cs) m =
 list_pressed (look ∷ cs) m = none_pressed no_such_press m
 list_pressed (write ∷ cs) m = none_pressed no_such_press m
 
--- what the program's list gave
-abbrev pub list_left : ListAnswered → ListPressed
-list_left r = record { applied = r.applied; answer = r.answer; board = model_of r.board }
+-- what the program's list gave, and the board that it left
+abbrev pub left_by : Pressed → Board → ListPressed
+left_by r b = record { applied = r.applied; answer = r.stopped; board = model_of b }
 
 -- THE CALL
 -- fewer numbers than kinds

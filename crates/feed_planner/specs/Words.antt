@@ -5,9 +5,9 @@ use Rattle.instance.specs.declared.Outcome.{Outcome}
 use Rattle.instance.specs.declared.Outcome.TheVariants.{Plan, Over, NoTree}
 use Rattle.enumeration.specs.declared.Ended.{Ended}
 use Rattle.enumeration.specs.declared.Ended.TheVariants.{Complete, AtLimit, NoRoom}
-use Rattle.runs.specs.declared.planning.RunsView as runs
+use Rattle.runs.specs.Planning as runs
 use Rattle.planner.specs.declared.View as view
-use Rattle.planner.specs.declared.Listing as listing
+use Rattle.planner.specs.Enumerating as listing
 use Rattle.planner.specs.declared.Reason as reason
 
 -- 0 none, 1 plan, 2 over
@@ -43,12 +43,12 @@ view_words (view.TheVariants.Shown o k) w = words (outcome_kind o) (outcome_tota
 view_words (view.TheVariants.Refused a) w = w
 
 abbrev pub listing_words : listing.Listing → Words → Words
-listing_words (listing.TheVariants.Listed e k t) w = words (ended_number e) k t
-listing_words (listing.TheVariants.Refused a) w = w
+listing_words (listing.Listed e k t) w = words (ended_number e) k t
+listing_words (listing.Refused a) w = w
 
 abbrev pub runs_words : runs.RunsView → Words → Words
-runs_words (runs.TheVariants.Shown o) w = words (outcome_kind o) (outcome_total o) w.third
-runs_words (runs.TheVariants.Refused a) w = w
+runs_words (runs.Shown o) w = words (outcome_kind o) (outcome_total o) w.third
+runs_words (runs.Refused a) w = w
 
 -- six words of a reason: 1 banned, 2 rival, 3 priced; the place of the recorded press that set the mark, from 1, or 0
 -- for the card; the rival's tail; and the three words of a look. A word that the reason has nothing for is 0.

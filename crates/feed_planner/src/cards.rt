@@ -3,7 +3,7 @@ ghost use Rattle.std.specs.Prelude.{◌≡◌};
 ghost use Rattle.history_format.specs.HistoryCard.{open_refusal};
 ghost use Rattle.feed_planner.specs.Cards.{StoresPlain, StoresToHistory, StoresToPlain};
 
-use crate::words::keep_length;
+use crate::words::keep_written;
 use card::write::write_instance;
 use planner::{open_card, to_history_card, to_plain_card};
 
@@ -11,37 +11,32 @@ use planner::{open_card, to_history_card, to_plain_card};
 pub fn feed_judge(card: &[u8]) -> u32
     ensures { result ≡ open_refusal card.now }
 {
-    let opened = open_card(card);
-    opened.answer
+    match open_card(card) {
+        Ok(_) => 0,
+        Err(refusal) => u32::from(refusal),
+    }
 }
 
 // The board that a card opens as is valid, so it is written without being judged again.
 pub fn feed_write_card(card: &[u8], out: &mut [u8], length: &mut usize) -> u32
     ensures { StoresPlain card.now out.old out.new length.old length.new result }
 {
-    let opened = open_card(card);
-    let refusal = opened.answer;
-    if refusal != 0 {
-        return refusal;
-    }
-    let b = opened.board;
-    let n = b.n;
-    let root = b.root;
-    let budget = b.budget;
-    let written = write_instance(&b.weights, &b.marks, n, root, budget, out);
-    keep_length(written.answer, written.length, length)
+    let b = match open_card(card) {
+        Ok(board) => board,
+        Err(refusal) => return u32::from(refusal),
+    };
+    let written = write_instance(&b.weights, &b.marks, b.n, b.root, b.budget, out);
+    keep_written(written, length)
 }
 
 pub fn feed_to_history_card(card: &[u8], out: &mut [u8], length: &mut usize) -> u32
     ensures { StoresToHistory card.now out.old out.new length.old length.new result }
 {
-    let moved = to_history_card(card, out);
-    keep_length(moved.answer, moved.length, length)
+    keep_written(to_history_card(card, out), length)
 }
 
 pub fn feed_to_plain_card(card: &[u8], out: &mut [u8], length: &mut usize) -> u32
     ensures { StoresToPlain card.now out.old out.new length.old length.new result }
 {
-    let moved = to_plain_card(card, out);
-    keep_length(moved.answer, moved.length, length)
+    keep_written(to_plain_card(card, out), length)
 }

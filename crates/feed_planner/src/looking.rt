@@ -23,13 +23,11 @@ pub fn feed_look(
         (buffers parents.old states.old cuts.old) (buffers parents.new states.new cuts.new)
         (words kind.old total.old pairs.old) (words kind.new total.new pairs.new) result }
 {
-    let opened = open_card(card);
-    let refusal = opened.answer;
-    if refusal != 0 {
-        return refusal;
-    }
-    let b = opened.board;
-    let view = look(b, parents, states, cuts);
+    let b = match open_card(card) {
+        Ok(board) => board,
+        Err(refusal) => return u32::from(refusal),
+    };
+    let view = look(&b, parents, states, cuts);
     keep_view(view, kind, total, pairs)
 }
 

@@ -9,13 +9,14 @@ use planner::{check_plan, list_plans, open_card};
 pub fn feed_check_plan(card: &[u8], parents: &[u8], total: u32, count: u32, cuts: &[u32]) -> u32
     ensures { result ≡ check_number card.now parents.now total count cuts.now }
 {
-    let opened = open_card(card);
-    let refusal = opened.answer;
-    if refusal != 0 {
-        return refusal;
+    let b = match open_card(card) {
+        Ok(board) => board,
+        Err(refusal) => return u32::from(refusal),
+    };
+    match check_plan(b, parents, total, count, cuts) {
+        Ok(()) => 0,
+        Err(refusal) => u32::from(refusal),
     }
-    let b = opened.board;
-    check_plan(b, parents, total, count, cuts)
 }
 
 // The trees stand in the buffer one after the other, n bytes each; the words take how the listing ended, how many trees
@@ -31,12 +32,10 @@ pub fn feed_list_plans(
     ensures { StoresListing card.now limit out.old out.new
         (words ended.old trees.old tries.old) (words ended.new trees.new tries.new) result }
 {
-    let opened = open_card(card);
-    let refusal = opened.answer;
-    if refusal != 0 {
-        return refusal;
-    }
-    let b = opened.board;
+    let b = match open_card(card) {
+        Ok(board) => board,
+        Err(refusal) => return u32::from(refusal),
+    };
     let listing = list_plans(b, limit, out);
     keep_listing(listing, ended, trees, tries)
 }

@@ -5,7 +5,7 @@ ghost use Rattle.commands.specs.Commands.{set_mark, set_marks, set_budget, undo}
 ghost use Rattle.board.specs.ModelOf.{command_of};
 ghost use Rattle.feed_planner.specs.Presses.{Presses};
 
-use crate::words::keep_length;
+use crate::words::keep_written;
 use board::Command;
 use board::calls::execute;
 use history_card::write::write_history;
@@ -16,20 +16,14 @@ use planner::open_card;
 fn press_card(card: &[u8], command: Command, out: &mut [u8], length: &mut usize) -> u32
     ensures { Presses card.now (command_of command) out.old out.new length.old length.new result }
 {
-    let opened = open_card(card);
-    let refusal = opened.answer;
-    if refusal != 0 {
-        return refusal;
+    let mut b = match open_card(card) {
+        Ok(board) => board,
+        Err(refusal) => return u32::from(refusal),
+    };
+    if let Err(refusal) = execute(&mut b, command) {
+        return u32::from(refusal);
     }
-    let b = opened.board;
-    let made = execute(b, command);
-    let answer = made.answer;
-    if answer != 0 {
-        return answer;
-    }
-    let next = made.board;
-    let written = write_history(next, out);
-    keep_length(written.answer, written.length, length)
+    keep_written(write_history(b, out), length)
 }
 
 pub fn feed_pin(card: &[u8], tail: u32, head: u32, out: &mut [u8], length: &mut usize) -> u32

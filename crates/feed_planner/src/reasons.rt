@@ -25,13 +25,11 @@ pub fn feed_why(
         (words_with reason.old setter.old rival.entry.now (words kind.entry.now total.old pairs.old))
         (words_with reason.new setter.new rival.exit.now (words kind.exit.now total.new pairs.new)) result }
 {
-    let opened = open_card(card);
-    let refusal = opened.answer;
-    if refusal != 0 {
-        return refusal;
-    }
-    let b = opened.board;
-    let found = why(b, Vertex(tail), Vertex(head), parents, cuts);
+    let b = match open_card(card) {
+        Ok(board) => board,
+        Err(refusal) => return u32::from(refusal),
+    };
+    let found = why(&b, Vertex(tail), Vertex(head), parents, cuts);
     keep_reason(found, reason, setter, rival, kind, total, pairs)
 }
 
@@ -49,12 +47,10 @@ pub fn feed_plan_without(
     ensures { PlansWithoutCard card.now tail head (tree_buffers parents.old cuts.old) (tree_buffers parents.new cuts.new)
         (words kind.old total.old pairs.old) (words kind.new total.new pairs.new) result }
 {
-    let opened = open_card(card);
-    let refusal = opened.answer;
-    if refusal != 0 {
-        return refusal;
-    }
-    let b = opened.board;
-    let view = plan_without(b, Vertex(tail), Vertex(head), parents, cuts);
+    let b = match open_card(card) {
+        Ok(board) => board,
+        Err(refusal) => return u32::from(refusal),
+    };
+    let view = plan_without(&b, Vertex(tail), Vertex(head), parents, cuts);
     keep_view(view, kind, total, pairs)
 }

@@ -48,12 +48,10 @@ pub fn feed_sheet(
         (sheet n.entry.now root.old budget.old records.old prices.old marks.entry.now)
         (sheet n.exit.now root.new budget.new records.new prices.new marks.exit.now) result }
 {
-    let opened = open_card(card);
-    let refusal = opened.answer;
-    if refusal != 0 {
-        return refusal;
-    }
-    let b = opened.board;
+    let b = match open_card(card) {
+        Ok(board) => board,
+        Err(refusal) => return u32::from(refusal),
+    };
     let count = b.n;
     if is_sheet_short(count, prices.len(), marks.len()) {
         return BUFFER_SHORT;

@@ -1,8 +1,9 @@
 // Second results go into words that the caller lends: set where a call is accepted, and left as they were where it is
 // refused.
 ghost use Rattle.std.specs.Prelude.{◌≡◌};
-ghost use Rattle.runs.specs.Planning.{view_number};
-ghost use Rattle.planner.specs.Enumerating.{list_answer};
+ghost use Rattle.card.specs.Write.{written_of};
+ghost use Rattle.runs.specs.Planning.{view_of, view_number};
+ghost use Rattle.planner.specs.Enumerating.{listing_from, list_answer};
 ghost use Rattle.feed_planner.specs.Store.{kept};
 ghost use Rattle.feed_planner.specs.Words.{words, outcome_kind, outcome_total, ended_number, listing_words, runs_words, words_with};
 ghost use Rattle.feed_planner.specs.Looking.{Views};
@@ -10,7 +11,8 @@ ghost use Rattle.feed_planner.specs.Reasons.{ReasonInWords};
 
 use enumeration::Ended;
 use instance::Outcome;
-use planner::{Listing, Reason, RunsView, View};
+use instance::refusals::Refusal;
+use planner::{Listing, Reason, View};
 
 pub fn keep_length(answer: u32, length: usize, word: &mut usize) -> u32
     ensures { (result ≡ answer) × (word.new ≡ kept answer length word.old) }
@@ -19,6 +21,19 @@ pub fn keep_length(answer: u32, length: usize, word: &mut usize) -> u32
         *word = length;
     }
     answer
+}
+
+// The same of a card that was written, or refused.
+pub fn keep_written(written: Result<usize, Refusal>, word: &mut usize) -> u32
+    ensures { (result ≡ (written_of written).answer) × (word.new ≡ kept (written_of written).answer (written_of written).length word.old) }
+{
+    match written {
+        Ok(length) => {
+            *word = length;
+            0
+        }
+        Err(refusal) => u32::from(refusal),
+    }
 }
 
 fn outcome_kind(outcome: Outcome) -> u32
@@ -55,16 +70,16 @@ pub fn keep_view(view: View, kind: &mut u32, total: &mut u32, pairs: &mut u32) -
     }
 }
 
-pub fn keep_runs(view: RunsView, kind: &mut u32, total: &mut u32) -> u32
-    ensures { (result ≡ view_number view) × (words kind.new total.new 0 ≡ runs_words view (words kind.old total.old 0)) }
+pub fn keep_runs(view: Result<Outcome, Refusal>, kind: &mut u32, total: &mut u32) -> u32
+    ensures { (result ≡ view_number (view_of view)) × (words kind.new total.new 0 ≡ runs_words (view_of view) (words kind.old total.old 0)) }
 {
     match view {
-        RunsView::Shown(outcome) => {
+        Ok(outcome) => {
             *kind = outcome_kind(outcome);
             *total = outcome_total(outcome);
             0
         }
-        RunsView::Refused(answer) => answer,
+        Err(refusal) => u32::from(refusal),
     }
 }
 
@@ -78,17 +93,22 @@ fn ended_number(ended: Ended) -> u32
     }
 }
 
-pub fn keep_listing(listing: Listing, ended: &mut u32, trees: &mut u32, tries: &mut u32) -> u32
-    ensures { (result ≡ list_answer listing) × (words ended.new trees.new tries.new ≡ listing_words listing (words ended.old trees.old tries.old)) }
+pub fn keep_listing(
+    listing: Result<Listing, Refusal>,
+    ended: &mut u32,
+    trees: &mut u32,
+    tries: &mut u32,
+) -> u32
+    ensures { (result ≡ list_answer (listing_from listing)) × (words ended.new trees.new tries.new ≡ listing_words (listing_from listing) (words ended.old trees.old tries.old)) }
 {
     match listing {
-        Listing::Listed(how, count, made) => {
-            *ended = ended_number(how);
-            *trees = count;
-            *tries = made;
+        Ok(listed) => {
+            *ended = ended_number(listed.ended);
+            *trees = listed.trees;
+            *tries = listed.tries;
             0
         }
-        Listing::Refused(answer) => answer,
+        Err(refusal) => u32::from(refusal),
     }
 }
 

@@ -25,12 +25,12 @@ use Rattle.theory.specs.Usable.{restricted}
 use Rattle.theory.proofs.Duality.{no_entry, weak_duality}
 use Rattle.theory.proofs.Restriction.{restricted_arborescence, restricted_total}
 use Rattle.edmonds.specs.declared.Planned.{Planned}
-use Rattle.edmonds.specs.Planned.{PlannedMatrix}
+use Rattle.edmonds.specs.Planned.{PlannedMatrix, NonePlanned}
 use Rattle.paths.specs.Tree.{MatrixTree}
 use Rattle.paths.proofs.TreeLaws.{own_weight}
-use Rattle.narrowing.specs.Narrowed.{OfTotal, Admissible}
+use Rattle.narrowing.specs.Narrowed.{Admissible}
 use Rattle.first_tree.specs.Tails.{admissible_by, TailsOk}
-use Rattle.first_tree.specs.Attempt.{NoCheaper}
+use Rattle.first_tree.specs.Attempt.{NoCheaper, AdmissibleTree, NoneAdmissible}
 
 pub cell_weight : (n root : ℕ) (m : List ℕ) (t h : ℕ) → length m ≡ cells → t < 32 → h < 32 → weight (unmarked n root m) t h ≡ get_or m (cell t h) 0
 unfolding unmarked
@@ -125,10 +125,12 @@ module _ (m zs : List ℕ) (n root : ℕ) where
       }
 
 -- BY PLANNING: the arborescences of the matrix of the admissible arcs are those of admissible arcs
-module _ (m zs : List ℕ) (n root w : ℕ) (ok : MatrixOk n root m) (least : NoCheaper (unmarked n root m) w) (reduced cuts cuts' : List ℕ) (r : Planned)
-    (p : PlannedMatrix (matrix_where (unmarked n root m) (admissible_by zs)) reduced n root cuts cuts' r) where
+module _ (m zs : List ℕ) (n root w : ℕ) (ok : MatrixOk n root m) where
   abbrev s : Instance
   s = unmarked n root m
+
+  abbrev admissible : List ℕ
+  admissible = matrix_where (unmarked n root m) (admissible_by zs)
 
   small : s.n ≤ 32
   unfolding unmarked
@@ -137,35 +139,38 @@ module _ (m zs : List ℕ) (n root w : ℕ) (ok : MatrixOk n root m) (least : No
   there : (qs : List ℕ) → is_arborescence s qs ≡ true → Admissible s (admissible_by zs) qs → is_arborescence (restricted s (admissible_by zs)) qs ≡ true
   there qs a k = (restricted_arborescence s (admissible_by zs) small qs).1 (a, k)
 
-  pub plan_none : r.found ≡ false → (qs : List ℕ) → OfTotal s w qs → Admissible s (admissible_by zs) qs → ⊥
+  pub plan_none : (set : ℕ) → NonePlanned admissible n root set → NoneAdmissible s w (admissible_by zs)
   unfolding unmarked
-  plan_none f qs o k = no_entry (restricted s (admissible_by zs)) qs (there qs o.arborescence k) (record { set = r.set; value = 0 }) (p.no_entry f)
+  plan_none set p qs o k = no_entry (restricted s (admissible_by zs)) qs (there qs o.arborescence k) (record { set = set; value = 0 }) p
 
-  module _ (f : r.found ≡ true) where
+  module _ (least : NoCheaper s w) (reduced cuts cuts' : List ℕ) (r : Planned) (p : PlannedMatrix admissible reduced n root cuts cuts' r) where
     found_in : is_arborescence (restricted s (admissible_by zs)) (take n r.parents) ≡ true
     unfolding unmarked
-    found_in = (p.minimum f).arborescence
-
-    pub plan_admissible : Admissible s (admissible_by zs) (take n r.parents)
-    plan_admissible = ((restricted_arborescence s (admissible_by zs) small (take n r.parents)).0 found_in).1
+    found_in = p.minimum.arborescence
 
     found_there : is_arborescence s (take n r.parents) ≡ true
     found_there = ((restricted_arborescence s (admissible_by zs) small (take n r.parents)).0 found_in).0
 
     same_total : r.total ≡ total s (take n r.parents)
     unfolding unmarked
-    same_total = p.is_total f ∙ restricted_total s (admissible_by zs) small (take n r.parents) found_in
+    same_total = p.is_total ∙ restricted_total s (admissible_by zs) small (take n r.parents) found_in
 
-    pub plan_of_total : r.total ≡ w → OfTotal s w (take n r.parents)
-    plan_of_total e = record { arborescence = found_there; attained = sym same_total ∙ e }
+    pub plan_of_total : r.total ≡ w → AdmissibleTree s w (admissible_by zs) r.parents
+    unfolding unmarked
+    plan_of_total e =
+        record {
+          places = p.parents_size;
+          tree = record { arborescence = found_there; attained = sym same_total ∙ e };
+          admissible = ((restricted_arborescence s (admissible_by zs) small (take n r.parents)).0 found_in).1;
+        }
 
     -- a dearer one is cheapest among these, so none of them has the total w
-    pub plan_dearer : r.total ≢ w → (qs : List ℕ) → OfTotal s w qs → Admissible s (admissible_by zs) qs → ⊥
+    pub plan_dearer : r.total ≢ w → NoneAdmissible s w (admissible_by zs)
     unfolding unmarked
     plan_dearer d qs o k =
         let a = there qs o.arborescence k in
-        let l = weak_duality (restricted s (admissible_by zs)) qs a (cuts_in r.count cuts') (p.minimum f).proved.feasible in
-        let v = (p.minimum f).proved.adds in
+        let l = weak_duality (restricted s (admissible_by zs)) qs a (cuts_in r.count cuts') p.minimum.proved.feasible in
+        let v = p.minimum.proved.adds in
         let t = restricted_total s (admissible_by zs) small qs a in
         let u = restricted_total s (admissible_by zs) small (take n r.parents) found_in in
         let e = same_total in

@@ -1,6 +1,5 @@
 -- For callers: a planning is what the search for the first cheapest arborescence starts from. Assumes nothing.
-use mathlib.Core.Path.{◌≡◌, sym, ap, ◌∙◌, subst}
-use mathlib.Core.Bool.{true}
+use mathlib.Core.Path.{sym, ap, ◌∙◌, subst}
 use mathlib.Core.List.{List}
 use Prim.Native.Nat.{ℕ}
 use native.Mathlib.Omega.{arith}
@@ -16,12 +15,12 @@ use Rattle.edmonds.specs.Planned.{PlannedMatrix}
 use Rattle.edmonds.proofs.ReducedLaws.{reduced_arc}
 use Rattle.first_tree.specs.Search.{Search, PlannedTree}
 
-module _ (n root : ℕ) (m m' cuts cuts' : List ℕ) (p : Planned) (ok : MatrixOk n root m) (k : PlannedMatrix m m' n root cuts cuts' p) (e : p.found ≡ true) where
+module _ (n root : ℕ) (m m' cuts cuts' : List ℕ) (p : Planned) (ok : MatrixOk n root m) (k : PlannedMatrix m m' n root cuts cuts' p) where
   pub planned_search : Search m cuts' n root p.total 0 p.count
   planned_search =
       record {
         matrix_ok = ok;
-        proves = subst (λ (v : ℕ). Proves (unmarked n root m) (cuts_in p.count cuts') v) (sym (k.is_total e)) (k.minimum e).proved;
+        proves = subst (λ (v : ℕ). Proves (unmarked n root m) (cuts_in p.count cuts') v) (sym k.is_total) k.minimum.proved;
         from_within = omega arith;
         few = let l = k.few in let s = ok.small in omega arith;
       }
@@ -30,7 +29,7 @@ module _ (n root : ℕ) (m m' cuts cuts' : List ℕ) (p : Planned) (ok : MatrixO
   planned_tree =
       record {
         places = k.parents_size;
-        tree = record { arborescence = (k.minimum e).arborescence; attained = sym (k.is_total e) };
+        tree = record { arborescence = k.minimum.arborescence; attained = sym k.is_total };
         size = k.matrix_size;
         costs =
             λ t h r.
@@ -38,6 +37,6 @@ module _ (n root : ℕ) (m m' cuts cuts' : List ℕ) (p : Planned) (ok : MatrixO
             let tail = (matrix_ends n root m t h r).tail_below in
             let head = (matrix_ends n root m t h r).head_below in
             let size = k.matrix_size in
-            default m' (cell t h) 0 no_arc (omega arith) ∙ ap (λ (w : List ℕ). get_or w (cell t h) no_arc) (k.reduced e)
+            default m' (cell t h) 0 no_arc (omega arith) ∙ ap (λ (w : List ℕ). get_or w (cell t h) no_arc) k.reduced
             ∙ reduced_arc (unmarked n root m) (cuts_in p.count cuts') t h (omega arith) (omega arith) r;
       }

@@ -31,7 +31,7 @@ use Rattle.narrowing.proofs.GrownLaws.{grown_admissible, grown_whole, exhausted_
 use Rattle.first_tree.specs.Tails.{admissible_by, TailsOk, TightTails}
 use Rattle.first_tree.specs.Fixing.{FixedTails}
 use Rattle.first_tree.specs.Growth.{GrownTree}
-use Rattle.first_tree.specs.Attempt.{LeadsBack, Exchangeable, NoCheaper, Attempted, Tried}
+use Rattle.first_tree.specs.Attempt.{LeadsBack, Exchangeable, NoCheaper, AdmissibleTree, NoneAdmissible, TreeWith}
 use Rattle.first_tree.specs.Search.{Search, PlannedTree, Settled, LeastParent}
 use Rattle.first_tree.proofs.TailLaws.{tight_ok, tight_admissible}
 
@@ -105,16 +105,9 @@ module _ (m cuts : List ℕ) (n root w from count : ℕ) (k : Search m cuts n ro
       not_root = eqb-false v root admissible_ends.not_root
 
       -- settled parents lead back
-      pub tried_cycle : LeadsBack (take n ps) t v → Tried m n root w v zs ps t false ps
+      pub tried_cycle : LeadsBack (take n ps) t v → Refuted (unmarked n root m) w v (take n ps) t
       unfolding unmarked
-      tried_cycle b =
-          record {
-            places = d.places;
-            tree = λ e. absurd (not_both false e refl);
-            admissible = λ e. absurd (not_both false e refl);
-            has_tail = λ e. absurd (not_both false e refl);
-            none = λ _. refute_cycle s cs w k.proves v (admissible_by zs) (take n ps) d.narrowed below admissible_ends.not_root root_below small t b;
-          }
+      tried_cycle b = refute_cycle s cs w k.proves v (admissible_by zs) (take n ps) d.narrowed below admissible_ends.not_root root_below small t b
 
       -- an exchange
       module _ (x : Exchangeable m n root (take n ps) t v) where
@@ -137,15 +130,14 @@ module _ (m cuts : List ℕ) (n root w from count : ℕ) (k : Search m cuts n ro
             let h = d.narrowed.tree.attained in
             record { arborescence = exchange s (take n ps) root_below a t v arc x.apart; attained = omega arith }
 
-        pub tried_exchange : Tried m n root w v zs ps t true (set ps v t)
+        pub tried_exchange : TreeWith m n root w v zs t (set ps v t)
         tried_exchange =
             let e = take-set-lt n ps v t below in
             record {
               places = length-set ps v t ∙ d.places;
-              tree = λ _. rw e others_total;
-              admissible = λ _. rw e others_admissible;
-              has_tail = λ _. rw e (exchange_uses s (take n ps) root_below d.narrowed.tree.arborescence t v arc x.apart);
-              none = λ z. absurd (not_both true refl z);
+              tree = rw e others_total;
+              admissible = rw e others_admissible;
+              has_tail = rw e (exchange_uses s (take n ps) root_below d.narrowed.tree.arborescence t v arc x.apart);
             }
 
       -- the arc fixed
@@ -153,26 +145,28 @@ module _ (m cuts : List ℕ) (n root w from count : ℕ) (k : Search m cuts n ro
         pub fixed_ok : TailsOk (unmarked n root m) zs'
         fixed_ok = record { size = f.size; arcs = λ g h e. d.tails_ok.arcs g h (f.less g h e) }
 
-        pub tried_fixed : (found : Bool) (others : List ℕ) → Attempted (unmarked n root m) w (admissible_by zs') found others → Tried m n root w v zs ps t found others
+        pub tried_fixed : (others : List ℕ) → AdmissibleTree (unmarked n root m) w (admissible_by zs') others → TreeWith m n root w v zs t others
         unfolding unmarked
-        tried_fixed found others a =
+        tried_fixed others a =
             record {
               places = a.places;
               tree = a.tree;
-              admissible = λ e. fixed_less s cs (admissible_by zs) (admissible_by zs') t v f.fixed (take n others) (a.admissible e);
-              has_tail =
-                  λ e. fixed_tail s cs w k.proves v (admissible_by zs) (take n ps) d.narrowed below admissible_ends.not_root (admissible_by zs') t f.fixed (take n others) (a.admissible e);
-              none = λ e. refute_fixed s cs w k.proves v (admissible_by zs) (take n ps) d.narrowed below admissible_ends.not_root (admissible_by zs') t f.fixed (a.none e);
+              admissible = fixed_less s cs (admissible_by zs) (admissible_by zs') t v f.fixed (take n others) a.admissible;
+              has_tail = fixed_tail s cs w k.proves v (admissible_by zs) (take n ps) d.narrowed below admissible_ends.not_root (admissible_by zs') t f.fixed (take n others) a.admissible;
             }
 
+        pub fixed_refuted : NoneAdmissible (unmarked n root m) w (admissible_by zs') → Refuted (unmarked n root m) w v (take n ps) t
+        unfolding unmarked
+        fixed_refuted none = refute_fixed s cs w k.proves v (admissible_by zs) (take n ps) d.narrowed below admissible_ends.not_root (admissible_by zs') t f.fixed none
+
   -- A TAIL TAKEN, when those below it cannot be had
-  pub settled_take : (v : ℕ) (zs ps : List ℕ) → Settled m n root w v zs ps → (t : ℕ) (others : List ℕ) → Tried m n root w v zs ps t true others
+  pub settled_take : (v : ℕ) (zs ps : List ℕ) → Settled m n root w v zs ps → (t : ℕ) (others : List ℕ) → TreeWith m n root w v zs t others
       → NoneBelow (unmarked n root m) w v (take n ps) t → Settled m n root w v zs others × LeastParent m n root w v others
   settled_take v zs ps d t others a b =
-      let o = a.tree refl in
-      let x = a.admissible refl in (
+      let o = a.tree in
+      let x = a.admissible in (
         record { places = a.places; tails_ok = d.tails_ok; narrowed = narrowed_take s cs w k.proves v (admissible_by zs) (take n ps) d.narrowed (take n others) o x },
-        rw (a.has_tail refl) (none_below_take s cs w k.proves v (admissible_by zs) (take n ps) d.narrowed (take n others) o x t b),
+        rw a.has_tail (none_below_take s cs w k.proves v (admissible_by zs) (take n ps) d.narrowed (take n others) o x t b),
       )
 
   -- START AND FINISH

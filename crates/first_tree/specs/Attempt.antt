@@ -1,11 +1,11 @@
 -- Attempts to have a tail: what each test says. Assumes nothing: these are definitions.
-use Rattle.std.specs.Prelude.{◌≡◌, Bool, true, false, List, ℕ, ◌≤◌, length, take}
+use Rattle.std.specs.Prelude.{◌≡◌, Bool, true, List, ℕ, ◌≤◌, length, take}
 use Rattle.instance.specs.Limits.{max_vertices}
 use Rattle.instance.specs.Instance.{Instance, weight}
 use Rattle.instance.specs.Arborescence.{parent, is_arborescence, total}
 use Rattle.instance.specs.Matrix.{unmarked}
 use Rattle.paths.specs.Paths.{Descends, Avoids}
-use Rattle.narrowing.specs.Narrowed.{OfTotal, Agree, Admissible, Refuted}
+use Rattle.narrowing.specs.Narrowed.{OfTotal, Agree, Admissible}
 use Rattle.first_tree.specs.Tails.{admissible_by}
 
 -- in every tree that begins like this one below v, the path from t meets v
@@ -21,17 +21,19 @@ pub record Exchangeable (m : List ℕ) (n root : ℕ) (parents : List ℕ) (t v 
 abbrev pub NoCheaper : Instance → (w : ℕ) → Type 0
 NoCheaper s w = (qs : List ℕ) → is_arborescence s qs ≡ true → w ≤ total s qs
 
--- an arborescence of total w that passes a test, or that there is none
-pub record Attempted (s : Instance) (w : ℕ) (keep : (tail head : ℕ) → Bool) (found : Bool) (parents : List ℕ) : Type 0 where
+-- an arborescence of total w that passes a test
+pub record AdmissibleTree (s : Instance) (w : ℕ) (keep : (tail head : ℕ) → Bool) (parents : List ℕ) : Type 0 where
   pub places : length parents ≡ max_vertices
-  pub tree : found ≡ true → OfTotal s w (take s.n parents)
-  pub admissible : found ≡ true → Admissible s keep (take s.n parents)
-  pub none : found ≡ false → (qs : List ℕ) → OfTotal s w qs → Admissible s keep qs → ⊥
+  pub tree : OfTotal s w (take s.n parents)
+  pub admissible : Admissible s keep (take s.n parents)
 
--- one that begins like the tree at hand and has the arc from t to v, or that the arc cannot be had
-pub record Tried (m : List ℕ) (n root w v : ℕ) (tails parents : List ℕ) (t : ℕ) (found : Bool) (others : List ℕ) : Type 0 where
+-- there is none
+abbrev pub NoneAdmissible : Instance → (w : ℕ) → (keep : (tail head : ℕ) → Bool) → Type 0
+NoneAdmissible s w keep = (qs : List ℕ) → OfTotal s w qs → Admissible s keep qs → ⊥
+
+-- an admissible one that has the arc from t to v
+pub record TreeWith (m : List ℕ) (n root w v : ℕ) (tails : List ℕ) (t : ℕ) (others : List ℕ) : Type 0 where
   pub places : length others ≡ max_vertices
-  pub tree : found ≡ true → OfTotal (unmarked n root m) w (take n others)
-  pub admissible : found ≡ true → Admissible (unmarked n root m) (admissible_by tails) (take n others)
-  pub has_tail : found ≡ true → parent (take n others) v ≡ t
-  pub none : found ≡ false → Refuted (unmarked n root m) w v (take n parents) t
+  pub tree : OfTotal (unmarked n root m) w (take n others)
+  pub admissible : Admissible (unmarked n root m) (admissible_by tails) (take n others)
+  pub has_tail : parent (take n others) v ≡ t

@@ -1,32 +1,27 @@
 // Whether a tail can be had: whether some cheapest arborescence that begins like the tree at hand has it. Each test is
 // right by itself, and planning decides what the others leave open.
-ghost use Rattle.std.specs.Prelude.{◌≡◌, true, ◌≢◌, ◌≤◌, ◌<◌, length, take};
+ghost use Rattle.std.specs.Prelude.{◌≡◌, true, ◌≢◌, ◌≤◌, ◌<◌, length, take, IfSome, IfNone};
 ghost use Rattle.instance.specs.Limits.{max_vertices};
 ghost use Rattle.instance.specs.Arborescence.{total as total_of};
 ghost use Rattle.instance.specs.Matrix.{matrix_where, unmarked, MatrixOk};
 ghost use Rattle.paths.specs.Paths.{Rooted};
 ghost use Rattle.paths.specs.Tree.{MatrixTree};
 ghost use Rattle.first_tree.specs.Tails.{admissible_by, TailsOk};
-ghost use Rattle.first_tree.specs.Attempt.{LeadsBack, Exchangeable, NoCheaper, Attempted, Tried};
+ghost use Rattle.first_tree.specs.Attempt.{LeadsBack, Exchangeable, NoCheaper, AdmissibleTree, NoneAdmissible, TreeWith};
+ghost use Rattle.narrowing.specs.Narrowed.{Refuted};
 ghost use Rattle.first_tree.specs.Search.{Search, Settled};
 
+use super::Cheapest;
 use super::fixing::fix_arc;
 use super::growth::{all_reached, grow};
 use checks::sets::is_inside;
 use detours::descendants::is_descendant;
-use instance::limits::{CELLS, CUT_WORDS, NO_ARC, NO_PARENT, VERTICES};
+use instance::limits::{CELLS, CUT_WORDS, NO_ARC, VERTICES};
 use instance::{CutIndex, Vertex};
-
-// An arborescence, or that there is none.
-#[derive(Clone, Copy)]
-pub struct Attempt {
-    pub found: bool,
-    pub parents: [u8; VERTICES],
-}
 
 // Whether the parents of vertices below this one, which are settled, lead from the tail back to it.
 fn leads_back(parents: &[u8; VERTICES], n: u32, root: u32, tail: u32, vertex: u32) -> bool
-    requires { (n ≤ max_vertices) × (length parents.now ≡ max_vertices) × Rooted n root (take n parents.now) × (tail < n) × (vertex < n) }
+    requires { (n ≤ max_vertices) × Rooted n root (take n parents.now) × (tail < n) × (vertex < n) }
     ensures { result ≡ true → LeadsBack (take n parents.now) tail vertex }
 {
     let mut v = tail;
@@ -55,7 +50,7 @@ fn can_exchange(
     if m[(32 * tail + vertex) as usize] != m[(32 * own + vertex) as usize] {
         return false;
     }
-    is_descendant(parents, n, root, vertex, tail) != 1
+    !is_descendant(parents, n, root, vertex, tail)
 }
 
 // What an arborescence costs.
@@ -64,13 +59,11 @@ fn tree_total(m: &[u32; CELLS], parents: &[u8; VERTICES], n: u32, root: u32) -> 
     ensures { result ≡ total_of (unmarked n root m.now) (take n parents.now) }
 {
     let mut sum: u32 = 0;
-    let mut v: u32 = 0;
-    while v < n {
+    for v in 0..n {
         if v != root {
             let tail = parents[v as usize] as u32;
             sum += m[(32 * tail + v) as usize];
         }
-        v += 1;
     }
     sum
 }
@@ -81,110 +74,81 @@ fn admissible_matrix(m: &[u32; CELLS], tails: &[u32; VERTICES], n: u32, root: u3
     ensures { result ≡ matrix_where (unmarked n root m.now) (admissible_by tails.now) }
 {
     let mut w = [NO_ARC; CELLS];
-    let mut i: usize = 0;
-    while i < CELLS {
+    for i in 0..CELLS {
         if is_inside(tails[i % 32], (i / 32) as u32) {
             w[i] = m[i];
         }
-        i += 1;
     }
     w
 }
 
 // A cheapest arborescence of the admissible arcs, if it has that total; else there is none of it.
-fn plan_admissible(
-    m: &[u32; CELLS],
-    tails: &[u32; VERTICES],
-    n: u32,
-    root: u32,
-    total: u32,
-) -> Attempt
-    requires { MatrixOk n root m.now × TailsOk (unmarked n root m.now) tails.now × NoCheaper (unmarked n root m.now) total }
-    ensures { Attempted (unmarked n root m.now) total (admissible_by tails.now) result.found result.parents }
+fn plan_admissible(search: Cheapest, tails: &[u32; VERTICES]) -> Option<[u8; VERTICES]>
+    requires { MatrixOk search.n search.root search.m.now × TailsOk (unmarked search.n search.root search.m.now) tails.now × NoCheaper (unmarked search.n search.root search.m.now) search.total }
+    ensures some { IfSome result (AdmissibleTree (unmarked search.entry.n search.entry.root search.entry.m.now) search.entry.total (admissible_by tails.entry.now)) }
+    ensures none { IfNone result (NoneAdmissible (unmarked search.entry.n search.entry.root search.entry.m.now) search.entry.total (admissible_by tails.entry.now)) }
 {
-    let mut w = admissible_matrix(m, tails, n, root);
+    let mut w = admissible_matrix(search.m, tails, search.n, search.root);
     let mut cuts = [0u32; CUT_WORDS];
-    let planned = edmonds::plan_matrix(&mut w, n as usize, Vertex(root), &mut cuts);
-    let parents = planned.parents;
-    if !planned.found {
-        return Attempt {
-            found: false,
-            parents,
-        };
-    }
-    Attempt {
-        found: planned.total == total,
-        parents,
+    match edmonds::plan_matrix(&mut w, search.n as usize, Vertex(search.root), &mut cuts) {
+        Ok(planned) => {
+            if planned.total != search.total {
+                return None;
+            }
+            let parents = planned.parents;
+            Some(parents)
+        }
+        Err(_) => None,
     }
 }
 
-// With an arc fixed: a tree of admissible arcs, of the cheapest total, or that there is none.
-fn tree_admissible(
-    m: &[u32; CELLS], // the weights of the remaining arcs
-    cuts: &[u32; CUT_WORDS], // the cuts that prove the total
-    tails: &[u32; VERTICES], // the tails that each vertex can have
-    n: u32, // the number of vertices
-    root: u32, // one of them
-    total: u32, // the cheapest total
-    from: CutIndex, // the cuts from this one on are looked at
-    count: u32, // the number of cuts
-) -> Attempt
-    requires { Search m.now cuts.now n root total from.0 count × TailsOk (unmarked n root m.now) tails.now }
-    ensures { Attempted (unmarked n root m.now) total (admissible_by tails.entry.now) result.found result.parents }
+// With an arc fixed: a tree of admissible arcs, of the cheapest total, if there is one. Where no cut is looked at,
+// growing comes to every vertex that admissible arcs lead to.
+fn tree_admissible(search: Cheapest, tails: &[u32; VERTICES]) -> Option<[u8; VERTICES]>
+    requires { Search search.m.now search.cuts.now search.n search.root search.total search.from.0 search.count × TailsOk (unmarked search.n search.root search.m.now) tails.now }
+    ensures some { IfSome result (AdmissibleTree (unmarked search.entry.n search.entry.root search.entry.m.now) search.entry.total (admissible_by tails.entry.now)) }
+    ensures none { IfNone result (NoneAdmissible (unmarked search.entry.n search.entry.root search.entry.m.now) search.entry.total (admissible_by tails.entry.now)) }
 {
-    let all = grow(cuts, tails, n, root, CutIndex(count), count);
-    if !all_reached(all.reached, n) {
-        return Attempt {
-            found: false,
-            parents: [NO_PARENT; VERTICES],
-        };
+    let no_cuts = Cheapest {
+        from: CutIndex(search.count),
+        ..search
+    };
+    let all = grow(no_cuts, tails);
+    if !all_reached(all.reached, search.n) {
+        return None;
     }
-    let tree = grow(cuts, tails, n, root, from, count);
-    if all_reached(tree.reached, n) {
+    let tree = grow(search, tails);
+    if all_reached(tree.reached, search.n) {
         let parents = tree.parents;
-        if tree_total(m, &parents, n, root) == total {
-            return Attempt {
-                found: true,
-                parents,
-            };
+        if tree_total(search.m, &parents, search.n, search.root) == search.total {
+            return Some(parents);
         }
     }
-    plan_admissible(m, tails, n, root, total)
+    plan_admissible(search, tails)
 }
 
-// A cheapest arborescence that begins like the tree at hand below the vertex and has this tail into it, or that there
-// is none.
+// A cheapest arborescence that begins like the tree at hand below the vertex and has this tail into it, if there is
+// one.
 pub fn try_tail(
-    m: &[u32; CELLS], // the weights of the remaining arcs
-    cuts: &[u32; CUT_WORDS], // the cuts that prove the total
+    search: Cheapest, // what the search goes by
     tails: &[u32; VERTICES], // the tails that each vertex can have
     parents: [u8; VERTICES], // the tree at hand
-    n: u32, // the number of vertices
-    root: u32, // one of them
-    total: u32, // the cheapest total
-    from: CutIndex, // the cuts from this one on are looked at
-    count: u32, // the number of cuts
     tail: u32, // the arc, which is admissible
     vertex: u32, // into this vertex
-) -> Attempt
-    requires { Search m.now cuts.now n root total from.0 count × Settled m.now n root total vertex tails.now parents × (vertex < n) × (admissible_by tails.now tail vertex ≡ true) }
-    ensures { Tried m.now n root total vertex tails.entry.now parents tail result.found result.parents }
+) -> Option<[u8; VERTICES]>
+    requires { Search search.m.now search.cuts.now search.n search.root search.total search.from.0 search.count × Settled search.m.now search.n search.root search.total vertex tails.now parents × (vertex < search.n) × (admissible_by tails.now tail vertex ≡ true) }
+    ensures some { IfSome result (TreeWith search.entry.m.now search.entry.n search.entry.root search.entry.total vertex tails.entry.now tail) }
+    ensures none { IfNone result (Refuted (unmarked search.entry.n search.entry.root search.entry.m.now) search.entry.total vertex (take search.entry.n parents) tail) }
 {
-    if leads_back(&parents, n, root, tail, vertex) {
-        return Attempt {
-            found: false,
-            parents,
-        };
+    if leads_back(&parents, search.n, search.root, tail, vertex) {
+        return None;
     }
-    if can_exchange(m, &parents, n, root, tail, vertex) {
+    if can_exchange(search.m, &parents, search.n, search.root, tail, vertex) {
         let mut other = parents;
         other[vertex as usize] = tail as u8;
-        return Attempt {
-            found: true,
-            parents: other,
-        };
+        return Some(other);
     }
     let mut fixed = *tails;
-    fix_arc(cuts, n, from, count, tail, vertex, &mut fixed);
-    tree_admissible(m, cuts, &fixed, n, root, total, from, count)
+    fix_arc(search, tail, vertex, &mut fixed);
+    tree_admissible(search, &fixed)
 }

@@ -6,6 +6,7 @@ ghost use Rattle.instance.specs.Limits.{max_vertices, max_cuts};
 ghost use Rattle.first_tree.specs.Tails.{admissible_by};
 ghost use Rattle.first_tree.specs.Fixing.{Within, FixedTails};
 
+use super::Cheapest;
 use checks::sets::{is_entering, is_inside};
 use instance::CutIndex;
 use instance::limits::{CUT_WORDS, VERTICES};
@@ -16,51 +17,42 @@ pub fn first_group(cuts: &[u32; CUT_WORDS], count: u32) -> CutIndex
     requires { count ≤ max_cuts }
     ensures { result.0 ≤ count }
 {
-    let mut k: u32 = 0;
-    while k < count {
+    for k in 0..count {
         if 1 < u32::count_ones(cuts[(2 * k) as usize]) {
             return CutIndex(k);
         }
-        k += 1;
     }
     CutIndex(count)
 }
 
 // Into the vertices of a set no arc from outside it stays admissible.
 fn keep_within(n: u32, set: u32, tails: &mut [u32; VERTICES])
-    requires { (n ≤ max_vertices) × (length tails.old ≡ max_vertices) }
+    requires { n ≤ max_vertices }
     ensures { Within n set tails.old tails.new }
 {
-    let mut h: u32 = 0;
-    while h < n {
+    for h in 0..n {
         if is_inside(set, h) {
             let i = h as usize;
             tails[i] = tails[i] & set;
         }
-        h += 1;
     }
 }
 
 // Fixes an admissible arc.
 pub fn fix_arc(
-    cuts: &[u32; CUT_WORDS], // the cuts
-    n: u32, // the number of vertices
-    from: CutIndex, // the cuts from this one on are looked at
-    count: u32, // the number of cuts
+    search: Cheapest, // what the search goes by
     tail: u32, // the arc
     head: u32, // into this vertex
     tails: &mut [u32; VERTICES], // the tails that each vertex can have
 )
-    requires { (n ≤ max_vertices) × (from.0 ≤ count) × (count ≤ max_cuts) × (tail < n) × (head < n) × (length tails.now ≡ max_vertices) × (admissible_by tails.now tail head ≡ true) }
-    ensures { FixedTails cuts.now n from.0 count tail head tails.entry.now tails.exit.now }
+    requires { (search.n ≤ max_vertices) × (search.from.0 ≤ search.count) × (search.count ≤ max_cuts) × (tail < search.n) × (head < search.n) × (admissible_by tails.now tail head ≡ true) }
+    ensures { FixedTails search.entry.cuts.now search.entry.n search.entry.from.0 search.entry.count tail head tails.entry.now tails.exit.now }
 {
-    let low = from.0;
-    let mut k = count;
-    while low < k {
-        k -= 1;
-        let set = cuts[(2 * k) as usize];
+    let low = search.from.0;
+    for k in (low..search.count).rev() {
+        let set = search.cuts[(2 * k) as usize];
         if is_entering(set, tail, head) {
-            keep_within(n, set, tails);
+            keep_within(search.n, set, tails);
         }
     }
     tails[head as usize] = 1u32 << tail;

@@ -7,10 +7,10 @@ ghost use Rattle.instance.specs.Limits.{max_vertices, max_cuts};
 ghost use Rattle.instance.specs.Cuts.{inside};
 ghost use Rattle.first_tree.specs.Growth.{InRange, Grows, GrownTree};
 
+use super::Cheapest;
 use super::fixing::fix_arc;
 use checks::sets::is_inside;
-use instance::CutIndex;
-use instance::limits::{CUT_WORDS, NO_PARENT, VERTICES};
+use instance::limits::{NO_PARENT, VERTICES};
 
 // The vertices that are reached, as a set, and the parents of those.
 #[derive(Clone, Copy)]
@@ -21,17 +21,14 @@ pub struct Growth {
 
 // Looks at one vertex: where it is not reached and an arc leads to it from one that is, it is reached now.
 fn grow_into(
-    cuts: &[u32; CUT_WORDS], // the cuts
-    n: u32, // the number of vertices
-    from: CutIndex, // the cuts from this one on are looked at
-    count: u32, // the number of cuts
+    search: Cheapest, // what the search goes by
     reached: u32, // the vertices that are reached
     head: u32, // the vertex
     tails: &mut [u32; VERTICES], // the tails that each vertex can have
     parents: &mut [u8; VERTICES], // the parents of the vertices that are reached
 ) -> u32
-    requires { InRange n from.0 count tails.now reached parents.now × (head < n) }
-    ensures { Grows n from.0 count head (suc head) tails.entry.now tails.exit.now reached result parents.entry.now parents.exit.now }
+    requires { InRange search.n search.from.0 search.count tails.now reached parents.now × (head < search.n) }
+    ensures { Grows search.entry.n search.entry.from.0 search.entry.count head (suc head) tails.entry.now tails.exit.now reached result parents.entry.now parents.exit.now }
 {
     if is_inside(reached, head) {
         return reached;
@@ -41,7 +38,7 @@ fn grow_into(
         return reached;
     }
     let tail = u32::trailing_zeros(sources);
-    fix_arc(cuts, n, from, count, tail, head, tails);
+    fix_arc(search, tail, head, tails);
     parents[head as usize] = tail as u8;
     reached | (1u32 << head)
 }
@@ -49,45 +46,33 @@ fn grow_into(
 // Looks at every vertex once, the highest first: in a first tree a vertex is often fed from a higher one, so that going
 // upwards would take a round for each such step.
 fn grow_round(
-    cuts: &[u32; CUT_WORDS],
-    n: u32,
-    from: CutIndex,
-    count: u32,
+    search: Cheapest,
     reached: u32,
     tails: &mut [u32; VERTICES],
     parents: &mut [u8; VERTICES],
 ) -> u32
-    requires { InRange n from.0 count tails.old reached parents.old }
-    ensures { Grows n from.0 count 0 n tails.old tails.new reached result parents.old parents.new }
+    requires { InRange search.n search.from.0 search.count tails.old reached parents.old }
+    ensures { Grows search.entry.n search.entry.from.0 search.entry.count 0 search.entry.n tails.old tails.new reached result parents.old parents.new }
 {
     let mut more = reached;
-    let mut head = n;
-    while 0 < head {
-        head -= 1;
-        more = grow_into(cuts, n, from, count, more, head, tails, parents);
+    for head in (0..search.n).rev() {
+        more = grow_into(search, more, head, tails, parents);
     }
     more
 }
 
-// Grows a tree until a round adds nothing.
-pub fn grow(
-    cuts: &[u32; CUT_WORDS], // the cuts
-    tails: &[u32; VERTICES], // the tails that each vertex can have
-    n: u32, // the number of vertices
-    root: u32, // one of them
-    from: CutIndex, // the cuts from this one on are looked at
-    count: u32, // the number of cuts
-) -> Growth
-    requires { (n ≤ max_vertices) × (root < n) × (from.0 ≤ count) × (count ≤ max_cuts) × (length tails.now ≡ max_vertices) }
-    ensures { GrownTree n root from.0 count tails.entry.now result.reached result.parents }
+// Grows a tree until a round adds nothing, from the tails that each vertex can have.
+pub fn grow(search: Cheapest, tails: &[u32; VERTICES]) -> Growth
+    requires { (search.n ≤ max_vertices) × (search.root < search.n) × (search.from.0 ≤ search.count) × (search.count ≤ max_cuts) }
+    ensures { GrownTree search.entry.n search.entry.root search.entry.from.0 search.entry.count tails.entry.now result.reached result.parents }
 {
     let mut left = *tails;
     let mut parents = [NO_PARENT; VERTICES];
-    let mut reached = 1u32 << root;
+    let mut reached = 1u32 << search.root;
     let mut last: u32 = 0;
     while last != reached {
         last = reached;
-        reached = grow_round(cuts, n, from, count, reached, &mut left, &mut parents);
+        reached = grow_round(search, reached, &mut left, &mut parents);
     }
     Growth { reached, parents }
 }
@@ -97,9 +82,7 @@ pub fn all_reached(reached: u32, n: u32) -> bool
     requires { n ≤ max_vertices }
     ensures { result ≡ all_below n (inside reached) }
 {
-    let mut v = n;
-    while 0 < v {
-        v -= 1;
+    for v in (0..n).rev() {
         if !is_inside(reached, v) {
             return false;
         }

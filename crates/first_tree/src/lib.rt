@@ -24,35 +24,36 @@ use instance::CutIndex;
 use instance::limits::{CELLS, CUT_WORDS, VERTICES};
 use tails::tight_tails;
 
+// What the search goes by.
+#[derive(Clone, Copy)]
+pub struct Cheapest<'a> {
+    pub m: &'a [u32; CELLS], // the weights of the remaining arcs
+    pub cuts: &'a [u32; CUT_WORDS], // the cuts that prove the total
+    pub n: u32, // the number of vertices
+    pub root: u32, // one of them
+    pub total: u32, // the cheapest total
+    pub from: CutIndex, // the cuts from this one on are looked at
+    pub count: u32, // the number of cuts
+}
+
 // The tree at hand, or another, with the least tail into the vertex that can be had.
 fn least_parent(
-    m: &[u32; CELLS], // the weights of the remaining arcs
-    cuts: &[u32; CUT_WORDS], // the cuts that prove the total
+    search: Cheapest, // what the search goes by
     tails: &[u32; VERTICES], // the tails that each vertex can still have
     parents: [u8; VERTICES], // the tree at hand
-    n: u32, // the number of vertices
-    root: u32, // one of them
-    total: u32, // the cheapest total
-    from: CutIndex, // the cuts from this one on are looked at
-    count: u32, // the number of cuts
     vertex: u32, // the one to be settled
 ) -> [u8; VERTICES]
-    requires { Search m.now cuts.now n root total from.0 count × Settled m.now n root total vertex tails.now parents × (vertex < n) × (vertex ≢ root) }
-    ensures { Settled m.now n root total vertex tails.entry.now result × LeastParent m.now n root total vertex result }
+    requires { Search search.m.now search.cuts.now search.n search.root search.total search.from.0 search.count × Settled search.m.now search.n search.root search.total vertex tails.now parents × (vertex < search.n) × (vertex ≢ search.root) }
+    ensures { Settled search.entry.m.now search.entry.n search.entry.root search.entry.total vertex tails.entry.now result × LeastParent search.entry.m.now search.entry.n search.entry.root search.entry.total vertex result }
 {
     let own = parents[vertex as usize] as u32;
     let set = tails[vertex as usize];
-    let mut t: u32 = 0;
-    while t < own {
+    for t in 0..own {
         if is_inside(set, t) {
-            let tried = try_tail(
-                m, cuts, tails, parents, n, root, total, from, count, t, vertex,
-            );
-            if tried.found {
-                return tried.parents;
+            if let Some(tree) = try_tail(search, tails, parents, t, vertex) {
+                return tree;
             }
         }
-        t += 1;
     }
     parents
 }
@@ -71,16 +72,23 @@ pub fn first_tree(
     ensures { (length result ≡ max_vertices) × (take n result ≡ first_tree (unmarked n root m.now)) }
 {
     let from = first_group(cuts, count);
+    let search = Cheapest {
+        m,
+        cuts,
+        n,
+        root,
+        total,
+        from,
+        count,
+    };
     let mut tails = tight_tails(m, reduced, n, root);
     let mut first = parents;
-    let mut v: u32 = 0;
-    while v < n {
+    for v in 0..n {
         if v != root {
-            first = least_parent(m, cuts, &tails, first, n, root, total, from, count, v);
+            first = least_parent(search, &tails, first, v);
             let tail = first[v as usize] as u32;
-            fix_arc(cuts, n, from, count, tail, v, &mut tails);
+            fix_arc(search, tail, v, &mut tails);
         }
-        v += 1;
     }
     first
 }

@@ -14,7 +14,7 @@ fn is_tight(
     tail: u32,
     head: u32,
 ) -> bool
-    requires { (n ≤ max_vertices) × (tail < n) × (head < n) × (length m.now ≡ cells) × (length reduced.now ≡ cells) }
+    requires { (n ≤ max_vertices) × (tail < n) × (head < n) }
     ensures { result ≡ tight m.now reduced.now n root tail head }
 {
     if reduced[(32 * tail + head) as usize] != 0 {
@@ -24,29 +24,25 @@ fn is_tight(
 }
 
 fn tails_into(m: &[u32; CELLS], reduced: &[u32; CELLS], n: u32, root: u32, head: u32) -> u32
-    requires { (n ≤ max_vertices) × (head < n) × (length m.now ≡ cells) × (length reduced.now ≡ cells) }
+    requires { (n ≤ max_vertices) × (head < n) }
     ensures { result ≡ tight_set m.now reduced.now n root n head }
 {
     let mut set: u32 = 0;
-    let mut t: u32 = 0;
-    while t < n {
+    for t in 0..n {
         if is_tight(m, reduced, n, root, t, head) {
             set += 1u32 << t;
         }
-        t += 1;
     }
     set
 }
 
 pub fn tight_tails(m: &[u32; CELLS], reduced: &[u32; CELLS], n: u32, root: u32) -> [u32; VERTICES]
-    requires { (n ≤ max_vertices) × (length m.now ≡ cells) × (length reduced.now ≡ cells) }
+    requires { n ≤ max_vertices }
     ensures { TightTails m.now reduced.now n root result }
 {
     let mut tails = [0u32; VERTICES];
-    let mut head: u32 = 0;
-    while head < n {
+    for head in 0..n {
         tails[head as usize] = tails_into(m, reduced, n, root, head);
-        head += 1;
     }
     tails
 }

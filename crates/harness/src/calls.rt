@@ -1,12 +1,14 @@
 // The planner's calls, without their contracts, which no test needs.
 use crate::buffers;
+use board::create::blank_board;
 use board::{Answered, Board};
+use instance::refusals::Refusal;
 use instance::{Outcome, Vertex};
 use planner::View;
-use reference::call::Call;
+use reference::call::{Call, Kind};
 use reference::card::{CARD_ROOM, Card};
 use reference::certificate::Certificate;
-use reference::{access, call, outcome};
+use reference::{access, outcome};
 
 // The kind of a look that is refused, beside those of the reference.
 pub const REFUSED: u32 = 3;
@@ -38,20 +40,20 @@ fn of_outcome(o: Outcome, pairs: u32) -> Summary {
         Outcome::Plan(total) => Summary {
             kind: outcome::PLAN,
             answer: 0,
-            total: total,
-            pairs: pairs,
+            total,
+            pairs,
         },
         Outcome::Over(total) => Summary {
             kind: outcome::OVER,
             answer: 0,
-            total: total,
-            pairs: pairs,
+            total,
+            pairs,
         },
         Outcome::NoTree => Summary {
             kind: outcome::NONE,
             answer: 0,
             total: 0,
-            pairs: pairs,
+            pairs,
         },
     }
 }
@@ -61,7 +63,7 @@ fn of_view(v: View) -> Summary {
         View::Shown(o, pairs) => of_outcome(o, pairs),
         View::Refused(answer) => Summary {
             kind: REFUSED,
-            answer: answer,
+            answer,
             total: 0,
             pairs: 0,
         },
@@ -80,9 +82,9 @@ pub fn as_shown(
         answer: s.answer,
         total: s.total,
         pairs: s.pairs,
-        parents: parents,
-        states: states,
-        cuts: cuts,
+        parents,
+        states,
+        cuts,
     }
 }
 
@@ -92,10 +94,10 @@ pub fn look_with(b: Board, parents_room: u32, states_room: u32, cuts_room: u32) 
     let mut states = [buffers::BYTE; buffers::STATES];
     let mut cuts = [buffers::WORD; buffers::CUTS];
     let v = planner::look(
-        b,
-        buffers::front_mut(&mut parents, parents_room),
-        buffers::front_mut(&mut states, states_room),
-        buffers::front_words_mut(&mut cuts, cuts_room),
+        &b,
+        access::front_mut(&mut parents, parents_room as usize),
+        access::front_mut(&mut states, states_room as usize),
+        access::front_mut(&mut cuts, cuts_room as usize),
     );
     as_shown(v, parents, states, cuts)
 }
@@ -117,54 +119,87 @@ pub struct CardOut {
     pub bytes: [u8; CARD_ROOM],
 }
 
+pub fn card_out(written: Result<usize, Refusal>, bytes: [u8; CARD_ROOM]) -> CardOut {
+    match written {
+        Ok(length) => CardOut {
+            answer: 0,
+            length,
+            bytes,
+        },
+        Err(refusal) => CardOut {
+            answer: u32::from(refusal),
+            length: 0,
+            bytes,
+        },
+    }
+}
+
 // A write with the first so many bytes of the buffer lent.
 pub fn write_with(b: Board, room: u32) -> CardOut {
     let mut bytes = [buffers::BYTE; CARD_ROOM];
-    let w = planner::write_card(b, buffers::front_mut(&mut bytes, room));
-    CardOut {
-        answer: w.answer,
-        length: w.length,
-        bytes: bytes,
-    }
+    let written = planner::write_card(b, access::front_mut(&mut bytes, room as usize));
+    card_out(written, bytes)
 }
 
 pub fn write(b: Board) -> CardOut {
     write_with(b, CARD_ROOM as u32)
 }
 
-pub fn open(c: Card) -> Answered {
-    let bytes = c.bytes;
-    planner::open_card(access::front(&bytes, c.length))
+// What opening a card gave, as the tests compare it with the reference: the answer as its number, and the board; the
+// blank one where the card is refused.
+#[derive(Clone, Copy)]
+pub struct Opened {
+    pub answer: u32,
+    pub board: Board,
+}
+
+pub fn open(c: Card) -> Opened {
+    match planner::open_card(c.as_slice()) {
+        Ok(board) => Opened { answer: 0, board },
+        Err(refusal) => Opened {
+            answer: u32::from(refusal),
+            board: blank_board(),
+        },
+    }
 }
 
 // A check of a plan, with as much of it lent as was sent.
 pub fn check(b: Board, o: Certificate) -> u32 {
-    let parents = o.parents;
-    let words = o.words;
-    planner::check_plan(
+    number(planner::check_plan(
         b,
-        access::front(&parents, o.parents_sent),
+        access::front(&o.parents, o.parents_sent as usize),
         o.total,
         o.count,
-        buffers::front_words(&words, o.words_sent),
-    )
+        access::front(&o.words, o.words_sent as usize),
+    ))
 }
 
-// A call that changes a board, by its kind.
-pub fn made(b: Board, c: Call) -> Answered {
-    let kind = c.kind;
-    let first = c.first;
-    let heads = c.second;
-    let tail = Vertex(first);
-    let head = Vertex(heads);
-    match kind {
-        call::PIN => planner::pin(b, tail, head),
-        call::BAN => planner::ban(b, tail, head),
-        call::CLEAR => planner::clear(b, tail, head),
-        call::BUDGET => planner::set_budget(b, first),
-        call::PIN_GROUP => planner::pin_group(b, tail, heads),
-        call::BAN_GROUP => planner::ban_group(b, tail, heads),
-        call::CLEAR_GROUP => planner::clear_group(b, tail, heads),
+// The number that a call answers with.
+pub fn number(given: Result<(), Refusal>) -> u32 {
+    match given {
+        Ok(()) => 0,
+        Err(refusal) => u32::from(refusal),
+    }
+}
+
+// A call that changes a board, by its kind, made on a copy: what it answered, and the board that it left.
+pub fn made(before: Board, c: Call) -> Answered {
+    let mut board = before;
+    let b = &mut board;
+    let tail = Vertex(c.first);
+    let head = Vertex(c.second);
+    let result = match c.kind {
+        Kind::Pin => planner::pin(b, tail, head),
+        Kind::Ban => planner::ban(b, tail, head),
+        Kind::Clear => planner::clear(b, tail, head),
+        Kind::Budget => planner::set_budget(b, c.first),
+        Kind::PinGroup => planner::pin_group(b, tail, c.second),
+        Kind::BanGroup => planner::ban_group(b, tail, c.second),
+        Kind::ClearGroup => planner::clear_group(b, tail, c.second),
         _ => planner::take_back(b),
+    };
+    Answered {
+        answer: number(result),
+        board,
     }
 }

@@ -2,9 +2,9 @@
 use crate::records;
 use board::{Board, UndoRecord};
 use reference::history::RECORDS;
+use reference::problem;
 use reference::problem::{MAX_BUDGET, MAX_VERTICES, MAX_WEIGHT, NO_ARC};
 use reference::random::Random;
-use reference::{access, problem, random};
 
 // The changes: 9 of a number, 6 of a cell and 6 of a record are damage; 7 are none.
 pub const KINDS: u32 = 28;
@@ -26,7 +26,7 @@ fn other_vertex(g: Random, n: u32, v: u32) -> u32 {
     if n < 2 {
         return 0;
     }
-    access::plus(v, access::plus(random::below(g, n - 1), 1)) % n
+    v.wrapping_add(g.below(n - 1).wrapping_add(1)) % n
 }
 
 #[derive(Clone, Copy)]
@@ -39,8 +39,8 @@ pub struct Arc {
 pub fn some_arc(g: Random, n: u32, root: u32) -> Arc {
     let head = other_vertex(g, n, root);
     Arc {
-        tail: other_vertex(random::next(g), n, head),
-        head: head,
+        tail: other_vertex(g.next(), n, head),
+        head,
     }
 }
 
@@ -80,7 +80,7 @@ pub fn with_record(b: Board, g: Random, record: UndoRecord) -> Board {
     if c.count == 0 {
         c.count = 1;
     }
-    let below = random::below(g, (c.count % (RECORDS + 1)) as u32);
+    let below = g.below((c.count % (RECORDS + 1)) as u32);
     c.records[(below % RECORDS as u32) as usize] = record;
     c
 }
@@ -176,7 +176,7 @@ fn changed(b: Board, kind: u32, g: Random) -> Board {
     let arc = some_arc(g, b.n, b.root);
     let tail = arc.tail;
     let head = arc.head;
-    let h = random::next(random::next(g));
+    let h = g.next().next();
     if kind < CELLS_FROM {
         return number_damaged(b, kind);
     }

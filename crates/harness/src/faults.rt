@@ -3,7 +3,7 @@
 use crate::records;
 use board::{Board, Replaced, UndoRecord};
 use reference::history::RECORDS;
-use reference::{access, group, problem, shown};
+use reference::{group, problem, shown};
 
 // The faults: 5 of the board's fields, then 3 of its latest record.
 pub const KINDS: u32 = 8;
@@ -29,7 +29,7 @@ fn group_changed(tail: u32, heads: u32, marks: u64, kind: u32, head: u32) -> Und
     let member = group::member_from(heads, head);
     let other = other_mark(records::mark_at(marks, member));
     match kind {
-        TAIL => records::marks_record(access::plus(tail, 1), heads, marks),
+        TAIL => records::marks_record(tail.wrapping_add(1), heads, marks),
         HEADS => records::marks_record(tail, heads ^ shown::only(head), marks),
         _ => records::marks_record(tail, heads, records::with_mark_at(marks, member, other)),
     }
@@ -38,29 +38,23 @@ fn group_changed(tail: u32, heads: u32, marks: u64, kind: u32, head: u32) -> Und
 // A single record with another tail, head or mark.
 fn mark_changed(tail: u32, head: u32, mark: u8, kind: u32) -> UndoRecord {
     match kind {
-        TAIL => records::mark_record(access::plus(tail, 1), head, mark),
-        HEADS => records::mark_record(tail, access::plus(head, 1), mark),
+        TAIL => records::mark_record(tail.wrapping_add(1), head, mark),
+        HEADS => records::mark_record(tail, head.wrapping_add(1), mark),
         _ => records::mark_record(tail, head, other_mark(mark)),
     }
 }
 
 fn record_changed(r: UndoRecord, kind: u32, head: u32) -> UndoRecord {
-    let x = r.replaced;
-    match x {
-        Replaced::OldMark(t, h, mark) => mark_changed(
-            access::of_byte(t),
-            access::of_byte(h),
-            mark,
-            kind,
-        ),
+    match r.replaced {
+        Replaced::OldMark(t, h, mark) => mark_changed(u32::from(t), u32::from(h), mark, kind),
         Replaced::OldMarks(t, heads, marks) => group_changed(
-            access::of_byte(t),
+            u32::from(t),
             heads,
             marks,
             kind,
             head,
         ),
-        Replaced::OldBudget(budget) => records::budget_record(access::plus(budget, kind)),
+        Replaced::OldBudget(budget) => records::budget_record(budget.wrapping_add(kind)),
     }
 }
 
@@ -78,8 +72,8 @@ pub fn with_fault(b: Board, kind: u32, tail: u32, head: u32) -> Board {
     let own = problem::cell(tail, tail);
     match kind {
         MARK => c.marks[at] = other_mark(c.marks[at]),
-        1 => c.weights[at] = access::plus(c.weights[at], 1),
-        BUDGET => c.budget = access::plus(c.budget, 1),
+        1 => c.weights[at] = c.weights[at].wrapping_add(1),
+        BUDGET => c.budget = c.budget.wrapping_add(1),
         COUNT => c.count = c.count % RECORDS + 1,
         4 => c.marks[own] = other_mark(c.marks[own]),
         _ => return with_record_fault(c, kind, head),
@@ -109,14 +103,13 @@ pub fn with_fault_past(b: Board, head: u32) -> Board {
 
 // The record with another mark at a head that it does not name, if it is a group's.
 fn with_other_head(r: UndoRecord, head: u32) -> UndoRecord {
-    let x = r.replaced;
-    match x {
+    match r.replaced {
         Replaced::OldMark(_, _, _) => r,
         Replaced::OldMarks(t, heads, marks) => {
             let other = group::member_from(heads ^ 4294967295, head);
             let mark = records::mark_at(marks, other) ^ 3;
             records::marks_record(
-                access::of_byte(t),
+                u32::from(t),
                 heads,
                 records::with_mark_at(marks, other, mark),
             )

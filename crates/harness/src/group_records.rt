@@ -7,7 +7,7 @@ use board::{Board, UndoRecord};
 use reference::history::RECORDS;
 use reference::problem::{BANNED, MAX_VERTICES, NO_ARC, NO_MARK};
 use reference::random::Random;
-use reference::{access, group, random, shown};
+use reference::{access, group, shown};
 
 // The changes of a board: 8 are damage, 3 are none.
 pub const KINDS: u32 = 11;
@@ -33,11 +33,11 @@ pub fn record_of(r: GroupRecord) -> UndoRecord {
 // Any lawful marks at the heads of a set, and any bits at the others.
 fn some_marks(seed: Random, heads: u32) -> u64 {
     let mut marks = seed.state;
-    let mut g = random::next(seed);
+    let mut g = seed.next();
     for head in 0..MAX_VERTICES {
         if shown::holds(heads, head) {
-            marks = records::with_mark_at(marks, head, access::narrow(random::below(g, 3)));
-            g = random::next(g);
+            marks = records::with_mark_at(marks, head, access::narrow(g.below(3)));
+            g = g.next();
         }
     }
     marks
@@ -45,12 +45,12 @@ fn some_marks(seed: Random, heads: u32) -> u64 {
 
 // A sound record: some of the arcs from a tail, with that to a head, which is one of them.
 pub fn some_record(b: Board, tail: u32, head: u32, g: Random) -> GroupRecord {
-    let set = random::word(g) | shown::only(head);
-    let heads = group::links(boards::problem_of(b), tail, set);
+    let set = g.word() | shown::only(head);
+    let heads = group::links(&boards::problem_of(b), tail, set);
     GroupRecord {
-        tail: tail,
-        heads: heads,
-        marks: some_marks(random::next(g), heads),
+        tail,
+        heads,
+        marks: some_marks(g.next(), heads),
     }
 }
 
@@ -66,7 +66,7 @@ fn with_head(r: GroupRecord, head: u32) -> GroupRecord {
 fn past_the_vertices(r: GroupRecord, n: u32) -> GroupRecord {
     let mut s = r;
     if n < MAX_VERTICES {
-        return with_head(r, access::plus(n, r.heads % (MAX_VERTICES - n)));
+        return with_head(r, n.wrapping_add(r.heads % (MAX_VERTICES - n)));
     }
     s.tail = n;
     s
@@ -128,7 +128,7 @@ fn with_kind(b: Board, kind: u32, g: Random, tail: u32, head: u32) -> Board {
 pub fn nth_damage(b: Board, kind: u32, g: Random) -> Damaged {
     let arc = damage::some_arc(g, b.n, b.root);
     let c = damage::with_cell(b, arc.tail, arc.head, 5, 0);
-    let h = random::next(random::next(g));
+    let h = g.next().next();
     Damaged {
         is_damaged: kind < SOUND_FROM,
         board: with_kind(c, kind, h, arc.tail, arc.head),

@@ -1,20 +1,17 @@
 // The planner's calls on cards with records (02, A8): a board written as a history card, and cards moved from one
 // kind to the other; and what the old console says of a card.
 use crate::buffers;
-use crate::calls::CardOut;
+use crate::calls::{CardOut, card_out};
 use board::Board;
 use reference::access;
 use reference::card::{CARD_ROOM, Card};
+use reference::moves::Move;
 
 // A board written as a history card, with the first so many bytes of the buffer lent.
 pub fn write_with(b: Board, room: u32) -> CardOut {
     let mut bytes = [buffers::BYTE; CARD_ROOM];
-    let w = planner::write_history_card(b, buffers::front_mut(&mut bytes, room));
-    CardOut {
-        answer: w.answer,
-        length: w.length,
-        bytes: bytes,
-    }
+    let written = planner::write_history_card(b, access::front_mut(&mut bytes, room as usize));
+    card_out(written, bytes)
 }
 
 pub fn write(b: Board) -> CardOut {
@@ -23,36 +20,36 @@ pub fn write(b: Board) -> CardOut {
 
 // A plain card moved to a history card.
 pub fn to_history_with(c: Card, room: u32) -> CardOut {
-    let from = c.bytes;
     let mut bytes = [buffers::BYTE; CARD_ROOM];
-    let w = planner::to_history_card(
-        access::front(&from, c.length),
-        buffers::front_mut(&mut bytes, room),
+    let written = planner::to_history_card(
+        c.as_slice(),
+        access::front_mut(&mut bytes, room as usize),
     );
-    CardOut {
-        answer: w.answer,
-        length: w.length,
-        bytes: bytes,
-    }
+    card_out(written, bytes)
 }
 
 // A history card moved to a plain card.
 pub fn to_plain_with(c: Card, room: u32) -> CardOut {
-    let from = c.bytes;
     let mut bytes = [buffers::BYTE; CARD_ROOM];
-    let w = planner::to_plain_card(
-        access::front(&from, c.length),
-        buffers::front_mut(&mut bytes, room),
+    let written = planner::to_plain_card(
+        c.as_slice(),
+        access::front_mut(&mut bytes, room as usize),
     );
-    CardOut {
-        answer: w.answer,
-        length: w.length,
-        bytes: bytes,
-    }
+    card_out(written, bytes)
 }
 
 // What the old console answers, which knows nothing of history cards.
 pub fn old_console_answer(c: Card) -> u32 {
-    let bytes = c.bytes;
-    card::read::read_card(access::front(&bytes, c.length)).answer
+    match card::read::read_card(c.as_slice()) {
+        Ok(_) => 0,
+        Err(refusal) => u32::from(refusal),
+    }
+}
+
+// A card moved, into the first so many bytes of a buffer.
+pub fn moved_with(c: Card, way: Move, room: u32) -> CardOut {
+    match way {
+        Move::ToHistory => to_history_with(c, room),
+        Move::ToPlain => to_plain_with(c, room),
+    }
 }

@@ -6,7 +6,6 @@ pub mod boards; // boards.rt: boards and the reference's instances
 pub mod buffers; // buffers.rt: what stands in a buffer before a call
 pub mod calls; // calls.rt: the planner's calls
 pub mod changes; // changes.rt: a board with a change of any kind, damaged or not
-pub mod counts; // counts.rt: conditions as numbers
 pub mod damage; // damage.rt: a board with one field changed
 pub mod faults; // faults.rt: a board with a fault planted
 pub mod group_records; // group_records.rt: records of group presses, sound and damaged

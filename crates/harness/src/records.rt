@@ -28,8 +28,8 @@ pub fn mark_at(marks: u64, head: u32) -> u8 {
 }
 
 pub fn with_mark_at(marks: u64, head: u32, mark: u8) -> u64 {
-    let changed = access::of_byte(mark_at(marks, head) ^ mark % 4);
-    marks ^ access::wide(changed) << (head % MAX_VERTICES * 2)
+    let changed = u32::from(mark_at(marks, head) ^ mark % 4);
+    marks ^ u64::from(changed) << (head % MAX_VERTICES * 2)
 }
 
 // The marks that an instance has from a tail into a set, and 0 at the other heads.
@@ -44,47 +44,21 @@ pub fn marks_into(p: Problem, tail: u32, heads: u32) -> u64 {
     marks
 }
 
-fn is_mark(x: Replaced, tail: u8, head: u8, mark: u8) -> bool {
-    match x {
-        Replaced::OldMark(t, h, m) => t == tail && h == head && m == mark,
-        Replaced::OldMarks(_, _, _) => false,
-        Replaced::OldBudget(_) => false,
-    }
-}
-
-fn is_marks(x: Replaced, tail: u8, heads: u32, marks: u64) -> bool {
-    match x {
-        Replaced::OldMark(_, _, _) => false,
-        Replaced::OldMarks(t, h, m) => t == tail && h == heads && m == marks,
-        Replaced::OldBudget(_) => false,
-    }
-}
-
-fn is_budget(x: Replaced, budget: u32) -> bool {
-    match x {
-        Replaced::OldMark(_, _, _) => false,
-        Replaced::OldMarks(_, _, _) => false,
-        Replaced::OldBudget(b) => b == budget,
-    }
-}
-
 // Whether two records are the same in every bit.
 pub fn equal(a: UndoRecord, b: UndoRecord) -> bool {
-    let x = a.replaced;
-    let y = b.replaced;
-    match x {
-        Replaced::OldMark(tail, head, mark) => is_mark(y, tail, head, mark),
-        Replaced::OldMarks(tail, heads, marks) => is_marks(y, tail, heads, marks),
-        Replaced::OldBudget(budget) => is_budget(y, budget),
+    match (a.replaced, b.replaced) {
+        (Replaced::OldMark(t, h, m), Replaced::OldMark(u, i, n)) => t == u && h == i && m == n,
+        (Replaced::OldMarks(t, h, m), Replaced::OldMarks(u, i, n)) => t == u && h == i && m == n,
+        (Replaced::OldBudget(x), Replaced::OldBudget(y)) => x == y,
+        _ => false,
     }
 }
 
 // Whether a record names the arc from a tail to a head.
 pub fn names(r: UndoRecord, tail: u32, head: u32) -> bool {
-    let x = r.replaced;
-    match x {
-        Replaced::OldMark(t, h, _) => access::of_byte(t) == tail && access::of_byte(h) == head,
-        Replaced::OldMarks(t, heads, _) => access::of_byte(t) == tail && shown::holds(heads, head),
+    match r.replaced {
+        Replaced::OldMark(t, h, _) => u32::from(t) == tail && u32::from(h) == head,
+        Replaced::OldMarks(t, heads, _) => u32::from(t) == tail && shown::holds(heads, head),
         Replaced::OldBudget(_) => false,
     }
 }

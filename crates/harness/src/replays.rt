@@ -45,26 +45,22 @@ pub struct Replayed {
 }
 
 pub fn replay(c: Card, list: Calls, rooms: Rooms) -> Replayed {
-    let bytes = c.bytes;
-    let kinds = list.kinds;
-    let firsts = list.firsts;
-    let seconds = list.seconds;
     let mut answers = [buffers::WORD; CALLS];
     let mut parents = [buffers::BYTE; buffers::PARENTS];
     let mut states = [buffers::BYTE; buffers::STATES];
     let mut cuts = [buffers::WORD; buffers::CUTS];
     let v = planner::replay(
-        access::front(&bytes, c.length),
-        &kinds,
-        buffers::front_words(&firsts, rooms.firsts),
-        buffers::front_words(&seconds, rooms.seconds),
-        buffers::front_words_mut(&mut answers, rooms.answers),
-        buffers::front_mut(&mut parents, rooms.parents),
-        buffers::front_mut(&mut states, rooms.states),
-        buffers::front_words_mut(&mut cuts, rooms.cuts),
+        c.as_slice(),
+        &list.kinds,
+        access::front(&list.firsts, rooms.firsts as usize),
+        access::front(&list.seconds, rooms.seconds as usize),
+        access::front_mut(&mut answers, rooms.answers as usize),
+        access::front_mut(&mut parents, rooms.parents as usize),
+        access::front_mut(&mut states, rooms.states as usize),
+        access::front_mut(&mut cuts, rooms.cuts as usize),
     );
     Replayed {
         shown: calls::as_shown(v, parents, states, cuts),
-        answers: answers,
+        answers,
     }
 }

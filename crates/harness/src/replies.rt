@@ -2,7 +2,7 @@
 use crate::{boards, buffers, calls, history_calls, verdict};
 use board::{Answered, Board};
 use reference::card::CARD_ROOM;
-use reference::certificate;
+use reference::certificate::Certificate;
 
 #[derive(Clone, Copy)]
 pub struct Reply {
@@ -12,13 +12,7 @@ pub struct Reply {
 
 // Whether a call gave this answer, and touched nothing if it is a refusal.
 pub fn is_reply(r: Reply, answer: u32) -> bool {
-    if r.answer != answer {
-        return false;
-    }
-    if answer == 0 {
-        return true;
-    }
-    r.untouched
+    r.answer == answer && (answer == 0 || r.untouched)
 }
 
 // Of a call that changes a board.
@@ -42,26 +36,24 @@ pub fn of_look(b: Board, parents: u32, states: u32, cuts: u32) -> Reply {
 // Of a write with so many bytes lent.
 pub fn of_write(b: Board, room: u32) -> Reply {
     let w = calls::write_with(b, room);
-    let bytes = w.bytes;
     Reply {
         answer: w.answer,
-        untouched: buffers::bytes_untouched(&bytes, 0, CARD_ROOM as u32),
+        untouched: buffers::bytes_untouched(&w.bytes, 0, CARD_ROOM as u32),
     }
 }
 
 // Of a write as a history card.
 pub fn of_history_write(b: Board, room: u32) -> Reply {
     let w = history_calls::write_with(b, room);
-    let bytes = w.bytes;
     Reply {
         answer: w.answer,
-        untouched: buffers::bytes_untouched(&bytes, 0, CARD_ROOM as u32),
+        untouched: buffers::bytes_untouched(&w.bytes, 0, CARD_ROOM as u32),
     }
 }
 
 // Of a check of a list that is no tree, with so many bytes of it lent. What it is lent it can not write.
 pub fn of_check(b: Board, parents: u32) -> Reply {
-    let mut o = certificate::empty();
+    let mut o = Certificate::empty();
     o.parents_sent = parents;
     Reply {
         answer: calls::check(b, o),

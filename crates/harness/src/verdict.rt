@@ -1,36 +1,27 @@
-// Whether what a look showed is right: 0, or the number of the first thing that is not.
+// Whether what a look showed is right, or the first thing that is not.
 use crate::calls::Shown;
 use crate::{buffers, calls};
 use reference::problem::{CELLS, Problem};
 use reference::trees::Listing;
-use reference::{access, outcome, problem, shown, trees};
+use reference::{access, outcome, shown, trees};
 
-pub const KIND: u32 = 1;
-
-pub const TOTAL: u32 = 2;
-
-pub const PARENTS: u32 = 3;
-
-pub const CUTS: u32 = 4;
-
-pub const STATES: u32 = 5;
-
-pub const TOUCHED: u32 = 6;
-
-pub const FIRST: u32 = 7;
+// The first thing that is not right.
+#[derive(Clone, Copy, PartialEq, Eq)]
+pub enum Wrong {
+    Kind,
+    Total,
+    Parents,
+    Cuts,
+    States,
+    Touched,
+    First,
+}
 
 // Whether the buffers are as before from these places on.
 fn untouched_from(s: Shown, parents_from: u32, states_from: u32, cuts_from: u32) -> bool {
-    let parents = s.parents;
-    let states = s.states;
-    let cuts = s.cuts;
-    if !buffers::bytes_untouched(&parents, parents_from, buffers::PARENTS as u32) {
-        return false;
-    }
-    if !buffers::bytes_untouched(&states, states_from, buffers::STATES as u32) {
-        return false;
-    }
-    buffers::words_untouched(&cuts, cuts_from, buffers::CUTS as u32)
+    buffers::bytes_untouched(&s.parents, parents_from, buffers::PARENTS as u32)
+        && buffers::bytes_untouched(&s.states, states_from, buffers::STATES as u32)
+        && buffers::words_untouched(&s.cuts, cuts_from, buffers::CUTS as u32)
 }
 
 pub fn all_untouched(s: Shown) -> bool {
@@ -39,22 +30,20 @@ pub fn all_untouched(s: Shown) -> bool {
 
 // The parents and the cuts of what was shown, by the documents' conditions, for any n: a cheapest tree, but not which
 // one. The table holds the weights of the remaining arcs. A refused look is not right, whatever stands in the buffers.
-pub fn certified(table: &[u32; CELLS], n: u32, root: u32, s: Shown) -> u32 {
-    let parents = s.parents;
-    let cuts = s.cuts;
+pub fn certified(table: &[u32; CELLS], n: u32, root: u32, s: Shown) -> Result<(), Wrong> {
     if s.kind == calls::REFUSED {
-        return KIND;
+        return Err(Wrong::Kind);
     }
-    if !shown::parents_right(table, &parents, n, root, s.kind, s.total) {
-        return PARENTS;
+    if !shown::parents_right(table, &s.parents, n, root, s.kind, s.total) {
+        return Err(Wrong::Parents);
     }
-    if !shown::cuts_right(table, &cuts, n, root, s.pairs, s.kind, s.total) {
-        return CUTS;
+    if !shown::cuts_right(table, &s.cuts, n, root, s.pairs, s.kind, s.total) {
+        return Err(Wrong::Cuts);
     }
-    if !untouched_from(s, n, access::times(n, n), shown::CUT_WORDS) {
-        return TOUCHED;
+    if !untouched_from(s, n, n.wrapping_mul(n), shown::CUT_WORDS) {
+        return Err(Wrong::Touched);
     }
-    0
+    Ok(())
 }
 
 // Whether every state is that of the listing.
@@ -63,48 +52,36 @@ fn states_right(states: &[u8], list: Listing, p: Problem) -> bool {
     if n == 0 {
         return false;
     }
-    let count = access::times(n, n);
-    for k in 0..count {
-        if access::byte(states, k) != outcome::state(list, p, k / n, k % n) {
-            return false;
-        }
-    }
-    true
+    let count = n.wrapping_mul(n);
+    (0..count).all(|k| access::byte(states, k) == outcome::state(list, p, k / n, k % n))
 }
 
 // Whether the parents are those of the listing's first cheapest tree.
 fn shows_first(list: Listing, n: u32, s: Shown) -> bool {
-    let parents = s.parents;
-    outcome::is_first(list, &parents, n)
+    outcome::is_first(list, &s.parents, n)
 }
 
 // Everything that a look shows of an instance of at most six vertices, against its table of costs and its listing.
-pub fn against(table: &[u32; CELLS], list: Listing, p: Problem, s: Shown) -> u32 {
+pub fn against(table: &[u32; CELLS], list: Listing, p: Problem, s: Shown) -> Result<(), Wrong> {
     let kind = outcome::kind(list, p.budget);
     if s.kind != kind {
-        return KIND;
+        return Err(Wrong::Kind);
     }
-    if kind != outcome::NONE {
-        if s.total != list.cheapest {
-            return TOTAL;
-        }
+    if kind != outcome::NONE && s.total != list.cheapest {
+        return Err(Wrong::Total);
     }
-    let states = s.states;
-    if !states_right(&states, list, p) {
-        return STATES;
+    if !states_right(&s.states, list, p) {
+        return Err(Wrong::States);
     }
-    let unproved = certified(table, p.n, p.root, s);
-    if unproved != 0 {
-        return unproved;
-    }
+    certified(table, p.n, p.root, s)?;
     if !shows_first(list, p.n, s) {
-        return FIRST;
+        return Err(Wrong::First);
     }
-    0
+    Ok(())
 }
 
 // The same where the listing is wanted only once.
-pub fn judged(p: Problem, s: Shown) -> u32 {
-    let table = problem::costs(p);
+pub fn judged(p: Problem, s: Shown) -> Result<(), Wrong> {
+    let table = p.costs();
     against(&table, trees::list(&table, p.n, p.root), p, s)
 }

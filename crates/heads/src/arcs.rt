@@ -29,12 +29,10 @@ pub fn arc_heads(weights: &[u32; CELLS], n: u32, root: u32, tail: u32, heads: u3
     ensures { result ≡ heads_of (names_arc (unmarked n root weights.now) tail heads) }
 {
     let mut arcs: u32 = 0;
-    let mut head: u32 = 0;
-    while head < MAX_VERTICES {
+    for head in 0..MAX_VERTICES {
         if names_arc(weights, n, root, tail, heads, head) {
             arcs += 1u32 << head;
         }
-        head += 1;
     }
     arcs
 }
@@ -76,9 +74,7 @@ pub fn are_heads_ok(
     if heads == 0 {
         return false;
     }
-    let mut head: u32 = MAX_VERTICES;
-    while 0 < head {
-        head -= 1;
+    for head in (0..MAX_VERTICES).rev() {
         if !is_head_ok(weights, n, root, tail, heads, old, head) {
             return false;
         }

@@ -16,13 +16,11 @@ pub fn read_marks(marks: &[u8; CELLS], tail: u32, heads: u32) -> u64
     ensures { result ≡ from_digits 4 max_vertices (λ h. cond (inside heads h) (get_or marks.now (cell tail h) free) free) }
 {
     let mut value: u64 = 0;
-    let mut head: u32 = 0;
-    while head < MAX_VERTICES {
+    for head in 0..MAX_VERTICES {
         if is_inside(heads, head) {
             let mark = marks[(32 * tail + head) as usize];
             value += (mark as u64) << (2 * head);
         }
-        head += 1;
     }
     value
 }
@@ -32,11 +30,9 @@ pub fn put_marks(tail: u32, heads: u32, new: u64, marks: &mut [u8; CELLS])
     requires { (tail < max_vertices) × (length marks.old ≡ cells) }
     ensures { marks.new ≡ marks_put tail (inside heads) (digit 4 new) marks.old }
 {
-    let mut head: u32 = 0;
-    while head < MAX_VERTICES {
+    for head in 0..MAX_VERTICES {
         if is_inside(heads, head) {
             marks[(32 * tail + head) as usize] = ((new >> (2 * head)) % 4) as u8;
         }
-        head += 1;
     }
 }

@@ -9,7 +9,8 @@ use Prim.Native.Nat.{ℕ, zero, suc, ◌+◌, ◌*◌, ◌≤◌, ◌<◌}
 use native.Mathlib.Omega.{arith}
 use native.Mathlib.Nat.{eq-or-lt_of_le}
 use native.Mathlib.Numerals.{add-one}
-use lib.ListN.{length, get_or, length-append}
+use lib.ListN.{length, get_or, take, length-append}
+use Rattle.std.proofs.lemmas.List.{get_or-take, length-take-le}
 use Rattle.bits.specs.Bits.{bits_of}
 use Rattle.bits.specs.Writer.{Ready, Put}
 use Rattle.bits.specs.declared.BitWriter.{BitWriter}
@@ -108,3 +109,12 @@ module _ (rs : List UndoRecord) where
   record_room xs ys p q k n l u r =
       next_room xs ys p q (records_to k) (record_at k) (length (records_to n)) u
       (omega (arith, length_next k, records_rise (k + 1) n (omega arith))) r
+
+-- the first records, taken out of all the places
+history_taken : (rs : List UndoRecord) (k n : ℕ) → k ≤ n → history_of k (take n rs) ≡ history_of k rs
+unfolding history_of
+history_taken rs zero n h = refl
+history_taken rs (suc k) n h = rw (get_or-take n rs k blank_record (omega arith), history_taken rs k n (omega arith))
+
+pub history_sliced : (rs : List UndoRecord) (k : ℕ) → k ≤ length rs → history_of (length (take k rs)) (take k rs) ≡ history_of k rs
+history_sliced rs k h = rw (length-take-le k rs h) (history_taken rs k k (omega arith))

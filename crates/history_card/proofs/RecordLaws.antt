@@ -10,6 +10,7 @@ use native.Mathlib.Decide.{dec_lt}
 use lib.Dec.{ltb}
 use lib.ListN.{length, get_or, drop, length-drop}
 use borrow.Author.Tests.{lt-ltb, le-ltb, ltb-true, ltb-false, eq-eqb, ne_eqb}
+use Rattle.std.specs.Prelude.{Ok, Err}
 use Rattle.base.specs.Digits.{from_digits, digit}
 use Rattle.base.proofs.DigitLaws.{digits_same, digit_of}
 use Rattle.base.proofs.ListLaws.{length_tabulate, get_d_tabulate, tabulate_is}
@@ -18,9 +19,11 @@ use Rattle.bits.proofs.ByteLaws.{length_bits_in, bits_in_are_bits}
 use Rattle.bits.proofs.FieldLaws.{field_drop, field_below}
 use Rattle.base.proofs.AllOfLaws.{all_of_drop}
 use Rattle.instance.specs.Limits.{max_vertices, free}
-use Rattle.instance.specs.Refusals.{bad_length, bad_record}
+use Rattle.instance.specs.declared.refusals.Refusal.{Refusal}
+use Rattle.instance.specs.declared.refusals.Refusal.TheVariants.{BadLength, BadRecord}
 use Rattle.instance.specs.Instance.{Instance}
 use Rattle.instance.specs.Cuts.{inside}
+use Rattle.instance.proofs.RefusalLaws.{eqb_0}
 use Rattle.card_format.specs.Widths.{budget_width, mark_width}
 use Rattle.commands.specs.Model.{Replaced, old_mark, old_marks, old_budget}
 use Rattle.commands.specs.Valid.{record_ok}
@@ -35,7 +38,7 @@ use Rattle.history_format.specs.RecordBits.{kind_in, heads_in, mark_offset, memb
 use Rattle.history_format.proofs.MemberMarks.{of_members, member_at}
 use Rattle.history_format.proofs.RecordFits.{Writable, read_fits}
 use Rattle.history_format.proofs.RecordLaws.{whole_passes, read_mark_length, read_budget_length, read_marks_length, read_mark, read_budget, read_marks}
-use Rattle.history_card.specs.Record.{no_record, ReadsRecord}
+use Rattle.history_card.specs.Record.{ReadsRecord}
 use Rattle.history_card.specs.declared.record.RecordRead.{RecordRead}
 
 -- PAST THE END
@@ -86,21 +89,21 @@ module _ (ws : List ℕ) (at : ℕ) where
   whole_here k h e = omega (arith, rest_length, ltb-false (8 * length ws) (at + k) e)
 
   -- REFUSED: a part of the record runs past the end
-  pub past_read : (k : ℕ) → 0 < k → k ≤ record_length rest → ltb (8 * length ws) (at + k) ≡ true → ReadsRecord (form_refusal rest) rest at (no_record bad_length)
+  pub past_read : (k : ℕ) → 0 < k → k ≤ record_length rest → ltb (8 * length ws) (at + k) ≡ true → ReadsRecord (form_refusal rest) rest at (Err BadLength)
   unfolding form_refusal
   past_read k pos l e =
       let h : length rest < record_length rest = omega (arith, short_here k pos e) in
-      record { judged = simp (lt-ltb _ _ h); said = λ z. absurd (omega arith); its_end = λ z. absurd (omega arith) }
+      record { judged = simp (lt-ltb _ _ h); said = tt; its_end = tt }
 
   -- READ: the record is whole, and of a kind that there is
   whole_read : (k : ℕ) (x : declared-replaced.Replaced) → record_length rest ≡ k → 0 < k → kind_in rest < 3 → ltb (8 * length ws) (at + k) ≡ false →
       ◌≡◌ {A = UndoRecord} (record { replaced = x }) (record_of (replaced_in rest)) →
-      ReadsRecord (form_refusal rest) rest at (record { answer = 0; replaced = x; next = at + k })
+      ReadsRecord (form_refusal rest) rest at (Ok (record { replaced = x; next = at + k }))
   whole_read k x l pos kind e q =
       record {
         judged = sym (whole_passes rest (record { within = omega (arith, whole_here k pos e); known = kind }));
-        said = λ z. q;
-        its_end = λ z. rw l;
+        said = q;
+        its_end = rw l;
       }
 
   abbrev here : (a k : ℕ) → ℕ
@@ -110,17 +113,16 @@ module _ (ws : List ℕ) (at : ℕ) where
   same_field a k = sym (field_drop at a k (bits_in ws))
 
   pub mark_read : kind_in rest ≡ 0 → ltb (8 * length ws) (at + mark_record_width) ≡ false →
-      ReadsRecord (form_refusal rest) rest at (record {
-        answer = 0;
+      ReadsRecord (form_refusal rest) rest at (Ok (record {
         replaced = OldMark (here kind_width vertex_width) (here head_start vertex_width) (here mark_start mark_width);
         next = at + mark_record_width;
-      })
+      }))
   mark_read k e =
       whole_read mark_record_width _ (read_mark_length rest k) (omega arith) (omega (arith, k)) e
       (rw (read_mark rest k, same_field kind_width vertex_width, same_field head_start vertex_width, same_field mark_start mark_width))
 
   pub budget_read : kind_in rest ≡ 1 → ltb (8 * length ws) (at + budget_record_width) ≡ false →
-      ReadsRecord (form_refusal rest) rest at (record { answer = 0; replaced = OldBudget (here kind_width budget_width); next = at + budget_record_width })
+      ReadsRecord (form_refusal rest) rest at (Ok (record { replaced = OldBudget (here kind_width budget_width); next = at + budget_record_width }))
   budget_read k e =
       whole_read budget_record_width _ (read_budget_length rest k) (omega arith) (omega (arith, k)) e
       (rw (read_budget rest k, same_field kind_width budget_width))
@@ -141,7 +143,7 @@ module _ (ws : List ℕ) (at : ℕ) where
     pub marks_read : (v : ℕ) → v ≡ from_digits 4 max_vertices (λ h. cond (inside c h) (field (at + marks_start + mark_offset c h) mark_width (bits_in ws)) free) →
         ltb (8 * length ws) (at + marks_start + mark_offset c max_vertices) ≡ false →
         ReadsRecord (form_refusal rest) rest at
-        (record { answer = 0; replaced = OldMarks (here kind_width vertex_width) c v; next = at + marks_start + mark_offset c max_vertices })
+        (Ok (record { replaced = OldMarks (here kind_width vertex_width) c v; next = at + marks_start + mark_offset c max_vertices }))
     marks_read v d e =
         let p : at + marks_start + mark_offset c max_vertices ≡ at + (marks_start + mark_offset c max_vertices) = omega arith in
         let m = d ∙ digits_same 4 max_vertices _ (λ h. get_or (member_marks c rest) h free) mark_same in
@@ -151,46 +153,31 @@ module _ (ws : List ℕ) (at : ℕ) where
 
   -- KIND 3 is two bits long
   pub three_read : kind_width ≤ length rest → (kind_in rest ≡ 0 → ⊥) → (kind_in rest ≡ 1 → ⊥) → (kind_in rest ≡ 2 → ⊥) →
-      ReadsRecord (form_refusal rest) rest at (no_record bad_record)
+      ReadsRecord (form_refusal rest) rest at (Err BadRecord)
   unfolding form_refusal record_length
   three_read l a b c =
       let k = field_below 0 kind_width rest rest_bits in
       let three : kind_in rest ≡ 3 = omega arith in
       record {
         judged = simp (ne_eqb _ _ a, ne_eqb _ _ b, ne_eqb _ _ c, le-ltb _ _ l, eq-eqb _ _ three);
-        said = λ z. absurd (omega arith);
-        its_end = λ z. absurd (omega arith);
+        said = tt;
+        its_end = tt;
       }
 
   -- JUDGED
-  module _ (s : Instance) (r : RecordRead) (k : ReadsRecord (form_refusal rest) rest at r) where
-    pub form_refused : (r.answer ≡ 0 → ⊥) → ReadsRecord (record_refusal s rest) rest at (no_record r.answer)
+  module _ (s : Instance) where
+    pub form_refused : (e : Refusal) → ReadsRecord (form_refusal rest) rest at (Err e) → ReadsRecord (record_refusal s rest) rest at (Err e)
     unfolding record_refusal
-    form_refused n =
-        record {
-          judged = rw (← k.judged, ne_eqb r.answer 0 n);
-          said = λ z. absurd (n z);
-          its_end = λ z. absurd (n z);
-        }
+    form_refused e k = record { judged = rw (← k.judged, eqb_0 e); said = tt; its_end = tt }
 
-    module _ (z : r.answer ≡ 0) where
+    module _ (r : RecordRead) (k : ReadsRecord (form_refusal rest) rest at (Ok r)) where
       pub same_record : replaced_of r.replaced ≡ replaced_in rest
-      same_record = ap (λ (u : UndoRecord). replaced_of u.replaced) (k.said z) ∙ stored_back (replaced_in rest) (read_fits rest rest_bits)
+      same_record = ap (λ (u : UndoRecord). replaced_of u.replaced) k.said ∙ stored_back (replaced_in rest) (read_fits rest rest_bits)
 
-      pub record_refused : record_ok s (replaced_in rest) ≡ false → ReadsRecord (record_refusal s rest) rest at (no_record bad_record)
+      pub record_refused : record_ok s (replaced_in rest) ≡ false → ReadsRecord (record_refusal s rest) rest at (Err BadRecord)
       unfolding record_refusal
-      record_refused e =
-          record {
-            judged = rw (← k.judged, eq-eqb r.answer 0 z, e);
-            said = λ y. absurd (omega arith);
-            its_end = λ y. absurd (omega arith);
-          }
+      record_refused e = record { judged = rw (← k.judged, e); said = tt; its_end = tt }
 
-      pub record_taken : record_ok s (replaced_in rest) ≡ true → ReadsRecord (record_refusal s rest) rest at (record { answer = 0; replaced = r.replaced; next = r.next })
+      pub record_taken : record_ok s (replaced_in rest) ≡ true → ReadsRecord (record_refusal s rest) rest at (Ok r)
       unfolding record_refusal
-      record_taken e =
-          record {
-            judged = rw (← k.judged, eq-eqb r.answer 0 z, e);
-            said = λ y. k.said z;
-            its_end = λ y. k.its_end z;
-          }
+      record_taken e = record { judged = rw (← k.judged, e); said = k.said; its_end = k.its_end }

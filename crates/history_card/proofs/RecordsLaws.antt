@@ -11,12 +11,17 @@ use lib.Dec.{ltb, eqb}
 use lib.ListN.{length, set, drop, replicate, length-drop}
 use lib.Seq.{drop-drop}
 use borrow.Author.Tests.{ltb-false, lt-ltb, le-ltb, le-leb, lt-leb, eq-eqb, ne_eqb}
+use Rattle.std.specs.Prelude.{Ok, Err}
 use Rattle.bits.specs.Bits.{bits_in, field}
 use Rattle.bits.proofs.ByteLaws.{length_bits_in}
 use Rattle.bits.proofs.FieldLaws.{field_rest_zero, field_drop}
 use Rattle.instance.specs.Limits.{max_records}
 use Rattle.instance.specs.Refusals.{bad_length, bad_filling, bad_record}
+use Rattle.instance.specs.RefusalNumbers.{refusal_number}
+use Rattle.instance.specs.declared.refusals.Refusal.{Refusal}
+use Rattle.instance.specs.declared.refusals.Refusal.TheVariants.{BadLength, BadRecord}
 use Rattle.instance.specs.Instance.{Instance}
+use Rattle.instance.proofs.RefusalLaws.{eqb_0}
 use Rattle.commands.specs.Model.{Replaced}
 use Rattle.board.specs.ModelOf.{blank_record}
 use Rattle.board.specs.Create.{stored}
@@ -27,8 +32,7 @@ use Rattle.history_format.specs.HistoryCard.{count_in, history_in, end_refusal, 
 use Rattle.history_format.proofs.RecordLaws.{whole}
 use Rattle.history_format.proofs.RecordLength.{longest_record, record_length_most, refusal_passed}
 use Rattle.history_card.specs.Record.{ReadsRecord}
-use Rattle.history_card.specs.Records.{no_count, counted_in, RecordsRead}
-use Rattle.history_card.specs.declared.records.Counted.{Counted}
+use Rattle.history_card.specs.Records.{count_refusal, CountRead, RecordsRead}
 use Rattle.history_card.specs.declared.record.RecordRead.{RecordRead}
 use Rattle.history_card.proofs.RecordLaws.{rest_bits, short_here, whole_here}
 
@@ -92,32 +96,28 @@ module _ (ws : List ℕ) (s : Instance) (start count : ℕ) where
     abbrev here : List ℕ
     here = drop at (bits_in ws)
 
-    module _ (more : k < count) (r : RecordRead) (x : ReadsRecord (record_refusal s here) here at r) where
+    module _ (more : k < count) where
       one_left : count - k ≡ suc (count - (k + 1))
       one_left = omega arith
 
-      pub record_stops : (r.answer ≡ 0 → ⊥) → (held : ℕ) →
-          RecordsRead (records_refusal count s (drop start (bits_in ws))) count (drop start (bits_in ws)) (record { answer = r.answer; count = held; records = records })
+      pub record_stops : (r : Refusal) → ReadsRecord (record_refusal s here) here at (Err r) →
+          RecordsRead (records_refusal count s (drop start (bits_in ws))) count (drop start (bits_in ws)) (Err r)
       unfolding records_refusal
-      record_stops n held =
-          let e : records_refusal (suc (count - (k + 1))) s here ≡ r.answer = rw (← x.judged, ne_eqb r.answer 0 n) in
-          record {
-            judged = sym (g.judged_so_far ∙ rw one_left e);
-            its_count = λ z. absurd (n z);
-            all_records = λ z. absurd (n z);
-          }
+      record_stops r x =
+          let e : records_refusal (suc (count - (k + 1))) s here ≡ refusal_number r = rw (← x.judged, eqb_0 r) in
+          record { judged = sym (g.judged_so_far ∙ rw one_left e); all_records = tt }
 
-      module _ (z : r.answer ≡ 0) where
+      module _ (r : RecordRead) (x : ReadsRecord (record_refusal s here) here at (Ok r)) where
         passes : record_refusal s here ≡ 0
-        passes = sym x.judged ∙ z
+        passes = sym x.judged
 
         pub read_within : r.next ≤ 8 * length ws
         read_within =
             let w = (whole here (rest_bits ws at) (refusal_passed s here passes).0).within in
-            omega (arith, x.its_end z, length-drop at (bits_in ws), length_bits_in ws, g.at_in)
+            omega (arith, x.its_end, length-drop at (bits_in ws), length_bits_in ws, g.at_in)
 
         next_rest : drop (record_length here) here ≡ drop r.next (bits_in ws)
-        next_rest = drop-drop (record_length here) at (bits_in ws) ∙ ap (λ (a : ℕ). drop a (bits_in ws)) (sym (x.its_end z))
+        next_rest = drop-drop (record_length here) at (bits_in ws) ∙ ap (λ (a : ℕ). drop a (bits_in ws)) (sym (x.its_end))
 
         pub record_more : Reading ws s start count (set records k (record { replaced = r.replaced })) r.next (k + 1)
         unfolding records_refusal history_in stored
@@ -129,81 +129,91 @@ module _ (ws : List ℕ) (s : Instance) (start count : ℕ) where
             record {
               k_in = omega arith;
               at_in = read_within;
-              near = omega (arith, x.its_end z, g.near, record_length_most here);
+              near = omega (arith, x.its_end, g.near, record_length_most here);
               read = replaced_in here ∷ g.read;
               read_many = ap suc g.read_many ∙ sym (add-one k);
-              in_places = rw (g.in_places, x.said z, g.read_many);
+              in_places = rw (g.in_places, x.said, g.read_many);
               judged_so_far = g.judged_so_far ∙ rw one_left e;
               said_so_far = g.said_so_far ∙ rw one_left f;
             }
 
-    pub all_read : k ≡ count → (a : ℕ) → a ≡ end_refusal here →
-        RecordsRead (records_refusal count s (drop start (bits_in ws))) count (drop start (bits_in ws)) (record { answer = a; count = count; records = records })
-    unfolding records_refusal history_in
-    all_read e a q =
-        let n : count - k ≡ 0 = omega arith in
-        record {
-          judged = q ∙ sym (rw n at g.judged_so_far);
-          its_count = λ z. refl;
-          all_records = λ z. rw (g.in_places, rw n at g.said_so_far);
-        }
+    module _ (last : k ≡ count) where
+      none_left : count - k ≡ 0
+      none_left = omega arith
+
+      pub end_refused : (r : Refusal) → refusal_number r ≡ end_refusal here →
+          RecordsRead (records_refusal count s (drop start (bits_in ws))) count (drop start (bits_in ws)) (Err r)
+      unfolding records_refusal
+      end_refused r q = record { judged = q ∙ sym (rw none_left at g.judged_so_far); all_records = tt }
+
+      pub all_read : 0 ≡ end_refusal here →
+          RecordsRead (records_refusal count s (drop start (bits_in ws))) count (drop start (bits_in ws)) (Ok records)
+      unfolding records_refusal history_in
+      all_read q =
+          record {
+            judged = q ∙ sym (rw none_left at g.judged_so_far);
+            all_records = rw (g.in_places, rw none_left at g.said_so_far);
+          }
 
 -- THE COUNT
 module _ (ws : List ℕ) (start : ℕ) where
   abbrev behind : List ℕ
   behind = drop start (bits_in ws)
 
-  pub count_past : ltb (8 * length ws) (start + count_width) ≡ true → no_count bad_length ≡ counted_in behind
-  unfolding counted_in
-  count_past e = let h = short_here ws start count_width (omega arith) e in simp (lt-ltb _ _ h)
+  pub count_past : ltb (8 * length ws) (start + count_width) ≡ true → CountRead behind (Err BadLength)
+  unfolding count_refusal
+  count_past e =
+      let h = short_here ws start count_width (omega arith) e in
+      record { judged = simp (lt-ltb _ _ h); said = tt }
 
   module _ (inside : ltb (8 * length ws) (start + count_width) ≡ false) (count : ℕ) (f : count ≡ field start count_width (bits_in ws)) where
     same_count : count_in behind ≡ count
     same_count = field_drop start 0 count_width (bits_in ws) ∙ sym (f ∙ rw (add-zero start))
 
-    pub count_above : max_records < count → no_count bad_record ≡ counted_in behind
-    unfolding counted_in
+    pub count_above : max_records < count → CountRead behind (Err BadRecord)
+    unfolding count_refusal
     count_above h =
         let l = whole_here ws start count_width (omega arith) inside in
-        rw (le-ltb (length behind) count_width l, same_count, lt-ltb max_records count h)
+        record { judged = rw (le-ltb (length behind) count_width l, same_count, lt-ltb max_records count h); said = tt }
 
-    pub count_read : count ≤ max_records → ◌≡◌ {A = Counted} (record { answer = 0; count = count }) (counted_in behind)
-    unfolding counted_in
+    pub count_read : count ≤ max_records → CountRead behind (Ok count)
+    unfolding count_refusal
     count_read h =
         let l = whole_here ws start count_width (omega arith) inside in
-        rw (le-ltb (length behind) count_width l, same_count, le-ltb max_records count h)
+        record { judged = rw (le-ltb (length behind) count_width l, same_count, le-ltb max_records count h); said = sym same_count }
 
 -- what a count tells: a refusal of all that stands behind the cells, or how many records are left to judge
-module _ (s : Instance) (bs : List ℕ) (c : Counted) (e : c ≡ counted_in bs) where
-  pub record CountPassed : Type 0 where
+module _ (s : Instance) (bs : List ℕ) where
+  by_count : behind_refusal s bs ≡ cond (eqb (count_refusal bs) 0) (records_refusal (count_in bs) s (drop count_width bs)) (count_refusal bs)
+  unfolding count_refusal behind_refusal
+  by_count = go (ltb (length bs) count_width) (ltb max_records (count_in bs)) (records_refusal (count_in bs) s (drop count_width bs))
+    where
+      go : (a b : Bool) (rest : ℕ) → let k = cond a bad_length (cond b bad_record 0) in
+          cond a bad_length (cond b bad_record rest) ≡ cond (eqb k 0) rest k
+      go true b rest = refl
+      go false true rest = refl
+      go false false rest = refl
+
+  pub count_refused : (e : Refusal) → CountRead bs (Err e) → behind_refusal s bs ≡ refusal_number e
+  count_refused e c = by_count ∙ rw (← c.judged, eqb_0 e)
+
+  pub record CountPassed (k : ℕ) : Type 0 where
     pub long : count_width ≤ length bs
-    pub few : c.count ≤ max_records
-    pub same : c.count ≡ count_in bs
-    pub rest : behind_refusal s bs ≡ records_refusal (count_in bs) s (drop count_width bs)
+    pub few : k ≤ max_records
+    pub same : k ≡ count_in bs
+    pub rest : behind_refusal s bs ≡ records_refusal k s (drop count_width bs)
 
-  pub count_refused : (c.answer ≡ 0 → ⊥) → behind_refusal s bs ≡ c.answer
-  unfolding counted_in behind_refusal
-  count_refused n = go (ltb (length bs) count_width) (ltb max_records (count_in bs)) (ap (λ (x : Counted). x.answer) e)
+  pub count_passed : (k : ℕ) → CountRead bs (Ok k) → CountPassed k
+  unfolding count_refusal
+  count_passed k c = go (ltb (length bs) count_width) (ltb max_records (count_in bs)) refl refl c.judged
     where
-      go : (a b : Bool) → c.answer ≡ (cond a (no_count bad_length) (cond b (no_count bad_record) (record { answer = 0; count = count_in bs }))).answer →
-          cond a bad_length (cond b bad_record (records_refusal (count_in bs) s (drop count_width bs))) ≡ c.answer
-      go true b q = sym q
-      go false true q = sym q
-      go false false q = absurd (n q)
-
-  pub count_passed : c.answer ≡ 0 → CountPassed
-  unfolding counted_in behind_refusal
-  count_passed z = go (ltb (length bs) count_width) (ltb max_records (count_in bs)) refl refl
-    where
-      go : (a b : Bool) → ltb (length bs) count_width ≡ a → ltb max_records (count_in bs) ≡ b → CountPassed
-      go true b p q = let k : (counted_in bs).answer ≡ bad_length = rw p in absurd (omega (arith, sym z ∙ ap (λ (x : Counted). x.answer) e ∙ k))
-      go false true p q = let k : (counted_in bs).answer ≡ bad_record = rw (p, q) in absurd (omega (arith, sym z ∙ ap (λ (x : Counted). x.answer) e ∙ k))
-      go false false p q =
-          let k : (counted_in bs).count ≡ count_in bs = rw (p, q) in
-          let same : c.count ≡ count_in bs = ap (λ (x : Counted). x.count) e ∙ k in
+      go : (a b : Bool) → ltb (length bs) count_width ≡ a → ltb max_records (count_in bs) ≡ b → 0 ≡ cond a bad_length (cond b bad_record 0) → CountPassed k
+      go true b p q z = absurd (omega (arith, z))
+      go false true p q z = absurd (omega (arith, z))
+      go false false p q z =
           record {
             long = ltb-false (length bs) count_width p;
-            few = omega (arith, ltb-false max_records (count_in bs) q);
-            same = same;
-            rest = rw (p, q);
+            few = omega (arith, c.said, ltb-false max_records (count_in bs) q);
+            same = c.said;
+            rest = by_count ∙ rw (← c.judged, c.said);
           }

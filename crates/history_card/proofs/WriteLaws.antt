@@ -8,10 +8,10 @@ use native.Mathlib.Omega.{arith}
 use lib.ListN.{length, replicate}
 use borrow.Author.Tests.{lt-ltb, le-ltb}
 use Rattle.bits.specs.Bits.{bits_of, are_bytes}
-use Rattle.bits.specs.Writer.{filling, Ready, Put}
+use Rattle.bits.specs.Writer.{new_writer, filling, Ready, Put}
 use Rattle.bits.specs.declared.BitWriter.{BitWriter}
 use Rattle.bits.proofs.NumberLaws.{length_bits_of}
-use Rattle.bits.proofs.WriterLaws.{new_writer, put_then, filled_bytes}
+use Rattle.bits.proofs.WriterLaws.{put_then, filled_bytes}
 use Rattle.instance.specs.Refusals.{buffer_short}
 use Rattle.card_format.specs.Card.{bits_needed, instance_bits}
 use Rattle.card_format.proofs.LengthLaws.{length_known}

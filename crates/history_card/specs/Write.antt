@@ -2,7 +2,7 @@
 use Rattle.std.specs.Prelude.{◌≡◌, cond, List, ltb, length, ℕ}
 use Rattle.base.specs.Lists.{in_front}
 use Rattle.instance.specs.Refusals.{buffer_short}
-use Rattle.card.specs.declared.write.Written.{Written}
+use Rattle.card.specs.Write.{Written}
 use Rattle.commands.specs.Model.{Model}
 use Rattle.history_format.specs.HistoryCard.{history_bytes, history_card_of}
 

@@ -21,12 +21,10 @@ pub fn marks_width(heads: u32) -> usize
     ensures { result ≡ mark_offset heads max_vertices }
 {
     let mut width: usize = 0;
-    let mut head: u32 = 0;
-    while head < MAX_VERTICES {
+    for head in 0..MAX_VERTICES {
         if is_inside(heads, head) {
             width += MARK_WIDTH;
         }
-        head += 1;
     }
     width
 }
@@ -38,14 +36,12 @@ pub fn read_marks(card: &[u8], at: usize, heads: u32) -> u64
 {
     let mut value: u64 = 0;
     let mut place = at;
-    let mut head: u32 = 0;
-    while head < MAX_VERTICES {
+    for head in 0..MAX_VERTICES {
         if is_inside(heads, head) {
             let mark = bits::read_bits(card, place, MARK_WIDTH);
             value += (mark as u64) << (2 * head);
             place += MARK_WIDTH;
         }
-        head += 1;
     }
     value
 }
@@ -56,7 +52,7 @@ fn put_mark(heads: u32, marks: u64, head: u32, w: BitWriter, out: &mut [u8]) -> 
     ensures { Put (one_mark heads marks head) w out.old out.new result }
 {
     if is_inside(heads, head) {
-        return bits::put_bits(((marks >> (2 * head)) % 4) as u32, MARK_WIDTH, w, out);
+        return w.put_bits(((marks >> (2 * head)) % 4) as u32, MARK_WIDTH, out);
     }
     w
 }
@@ -67,10 +63,8 @@ pub fn put_marks(heads: u32, marks: u64, start: BitWriter, out: &mut [u8]) -> Bi
     ensures { Put (mark_bits max_vertices heads (record_marks heads marks)) start out.old out.new result }
 {
     let mut w = start;
-    let mut head: u32 = 0;
-    while head < MAX_VERTICES {
+    for head in 0..MAX_VERTICES {
         w = put_mark(heads, marks, head, w, out);
-        head += 1;
     }
     w
 }

@@ -17,7 +17,6 @@ use crate::widths::{
 use bits::BitWriter;
 use board::{Replaced, UndoRecord};
 use card::widths::{BUDGET_WIDTH, MARK_WIDTH};
-use instance::limits::MAX_RECORDS;
 
 // How many bits a record takes.
 fn record_width(replaced: Replaced) -> usize
@@ -30,18 +29,14 @@ fn record_width(replaced: Replaced) -> usize
     }
 }
 
-// How many bits the first `count` records take.
-pub fn records_width(records: [UndoRecord; MAX_RECORDS], count: usize) -> usize
-    requires { count ≤ max_records }
-    ensures { result ≡ length (records_bits (history_of count records)) }
+// How many bits these records take.
+pub fn records_width(records: &[UndoRecord]) -> usize
+    requires { length records.now ≤ max_records }
+    ensures { result ≡ length (records_bits (history_of (length records.now) records.now)) }
 {
     let mut width: usize = 0;
-    let mut k: usize = 0;
-    while k < count {
-        let record = records[k];
-        let replaced = record.replaced;
-        width += record_width(replaced);
-        k += 1;
+    for record in records {
+        width += record_width(record.replaced);
     }
     width
 }
@@ -51,8 +46,8 @@ fn put_two(first: u32, j: usize, second: u32, k: usize, w: BitWriter, out: &mut 
     requires { Ready (j + k) w out.old × (j ≤ 32) × (k ≤ 32) }
     ensures { Put (bits_of j first ++ bits_of k second) w out.old out.new result }
 {
-    let between = bits::put_bits(first, j, w, out);
-    bits::put_bits(second, k, between, out)
+    let between = w.put_bits(first, j, out);
+    between.put_bits(second, k, out)
 }
 
 fn put_mark_record(tail: u8, head: u8, mark: u8, w: BitWriter, out: &mut [u8]) -> BitWriter
@@ -82,7 +77,7 @@ fn put_marks_record(tail: u8, heads: u32, marks: u64, w: BitWriter, out: &mut [u
     ensures { Put (record_bits (old_marks tail heads (record_marks heads marks))) w out.old out.new result }
 {
     let after_tail = put_two(MARKS_KIND, KIND_WIDTH, tail as u32, VERTEX_WIDTH, w, out);
-    let after_heads = bits::put_bits(heads, HEADS_WIDTH, after_tail, out);
+    let after_heads = after_tail.put_bits(heads, HEADS_WIDTH, out);
     put_marks(heads, marks, after_heads, out)
 }
 
@@ -97,23 +92,14 @@ fn put_record(replaced: Replaced, w: BitWriter, out: &mut [u8]) -> BitWriter
     }
 }
 
-// The first `count` records, the oldest first.
-pub fn put_records(
-    records: [UndoRecord; MAX_RECORDS],
-    count: usize,
-    start: BitWriter,
-    out: &mut [u8],
-) -> BitWriter
-    requires { (count ≤ max_records) × Ready (length (records_bits (history_of count records))) start out.old }
-    ensures { Put (records_bits (history_of count records)) start out.old out.new result }
+// The records, the oldest first.
+pub fn put_records(records: &[UndoRecord], start: BitWriter, out: &mut [u8]) -> BitWriter
+    requires { Ready (length (records_bits (history_of (length records.now) records.now))) start out.old }
+    ensures { Put (records_bits (history_of (length records.now) records.now)) start out.old out.new result }
 {
     let mut w = start;
-    let mut k: usize = 0;
-    while k < count {
-        let record = records[k];
-        let replaced = record.replaced;
-        w = put_record(replaced, w, out);
-        k += 1;
+    for record in records {
+        w = put_record(record.replaced, w, out);
     }
     w
 }

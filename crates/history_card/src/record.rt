@@ -5,7 +5,7 @@ ghost use Rattle.instance.specs.Limits.{max_vertices, cells};
 ghost use Rattle.instance.specs.Matrix.{unmarked};
 ghost use Rattle.history_format.specs.RecordBits.{kind_in, form_refusal, record_refusal};
 ghost use Rattle.history_card.specs.Marks.{last_place, last_bit};
-ghost use Rattle.history_card.specs.Record.{no_record, ReadsRecord};
+ghost use Rattle.history_card.specs.Record.{ReadsRecord};
 
 use crate::marks::{marks_width, read_marks};
 use crate::widths::{
@@ -16,7 +16,7 @@ use board::Replaced;
 use board::valid::record_ok;
 use card::widths::{BUDGET_WIDTH, MARK_WIDTH};
 use instance::limits::CELLS;
-use instance::refusals::{BAD_LENGTH, BAD_RECORD};
+use instance::refusals::Refusal;
 
 // Whether bits that end at `end` run past the end of the card: counted in bytes, since a card may have more bits than
 // a word can count.
@@ -27,121 +27,100 @@ pub fn runs_past(card: &[u8], end: usize) -> bool
     card.len() < (end + 7) / 8
 }
 
-// A refusal and nothing else, or 0, what the record says and where it ends.
+// What a record says and where it ends.
 #[derive(Clone, Copy)]
 pub struct RecordRead {
-    pub answer: u32,
     pub replaced: Replaced,
     pub next: usize,
 }
 
-fn no_record(answer: u32) -> RecordRead
-    ensures { result ≡ no_record answer }
-{
-    RecordRead {
-        answer,
-        replaced: Replaced::OldMark(0, 0, 0),
-        next: 0,
-    }
-}
-
 // A record of one arc, which begins at `at`.
-fn read_mark_record(card: &[u8], at: usize) -> RecordRead
+fn read_mark_record(card: &[u8], at: usize) -> Result<RecordRead, Refusal>
     requires { (kind_in (drop at (bits_in card.now)) ≡ 0) × (at ≤ last_place) }
     ensures { ReadsRecord (form_refusal (drop at (bits_in card.now))) (drop at (bits_in card.now)) at result }
 {
     let next = at + MARK_RECORD_WIDTH;
     if runs_past(card, next) {
-        return no_record(BAD_LENGTH);
+        return Err(Refusal::BadLength);
     }
     let tail = bits::read_bits(card, at + KIND_WIDTH, VERTEX_WIDTH);
     let head = bits::read_bits(card, at + HEAD_START, VERTEX_WIDTH);
     let mark = bits::read_bits(card, at + MARK_START, MARK_WIDTH);
-    RecordRead {
-        answer: 0,
+    Ok(RecordRead {
         replaced: Replaced::OldMark(tail as u8, head as u8, mark as u8),
         next,
-    }
+    })
 }
 
 // A record of the budget.
-fn read_budget_record(card: &[u8], at: usize) -> RecordRead
+fn read_budget_record(card: &[u8], at: usize) -> Result<RecordRead, Refusal>
     requires { (kind_in (drop at (bits_in card.now)) ≡ 1) × (at ≤ last_place) }
     ensures { ReadsRecord (form_refusal (drop at (bits_in card.now))) (drop at (bits_in card.now)) at result }
 {
     let next = at + BUDGET_RECORD_WIDTH;
     if runs_past(card, next) {
-        return no_record(BAD_LENGTH);
+        return Err(Refusal::BadLength);
     }
     let budget = bits::read_bits(card, at + KIND_WIDTH, BUDGET_WIDTH);
-    RecordRead {
-        answer: 0,
+    Ok(RecordRead {
         replaced: Replaced::OldBudget(budget),
         next,
-    }
+    })
 }
 
 // A record of several arcs: as long as its set has members, whether or not there are such arcs.
-fn read_marks_record(card: &[u8], at: usize) -> RecordRead
+fn read_marks_record(card: &[u8], at: usize) -> Result<RecordRead, Refusal>
     requires { (kind_in (drop at (bits_in card.now)) ≡ 2) × (at ≤ last_place) }
     ensures { ReadsRecord (form_refusal (drop at (bits_in card.now))) (drop at (bits_in card.now)) at result }
 {
     let start = at + MARKS_START;
     if runs_past(card, start) {
-        return no_record(BAD_LENGTH);
+        return Err(Refusal::BadLength);
     }
     let heads = bits::read_bits(card, at + HEAD_START, HEADS_WIDTH);
     let next = start + marks_width(heads);
     if runs_past(card, next) {
-        return no_record(BAD_LENGTH);
+        return Err(Refusal::BadLength);
     }
     let tail = bits::read_bits(card, at + KIND_WIDTH, VERTEX_WIDTH);
     let marks = read_marks(card, start, heads);
-    RecordRead {
-        answer: 0,
+    Ok(RecordRead {
         replaced: Replaced::OldMarks(tail as u8, heads, marks),
         next,
-    }
+    })
 }
 
 // The record that begins at `at`, not judged yet.
-fn read_any_record(card: &[u8], at: usize) -> RecordRead
+fn read_any_record(card: &[u8], at: usize) -> Result<RecordRead, Refusal>
     requires { at ≤ last_place }
     ensures { ReadsRecord (form_refusal (drop at (bits_in card.now))) (drop at (bits_in card.now)) at result }
 {
     if runs_past(card, at + KIND_WIDTH) {
-        return no_record(BAD_LENGTH);
+        return Err(Refusal::BadLength);
     }
     let kind = bits::read_bits(card, at, KIND_WIDTH);
-    if kind == MARK_KIND {
-        return read_mark_record(card, at);
+    match kind {
+        MARK_KIND => read_mark_record(card, at),
+        BUDGET_KIND => read_budget_record(card, at),
+        MARKS_KIND => read_marks_record(card, at),
+        _ => Err(Refusal::BadRecord),
     }
-    if kind == BUDGET_KIND {
-        return read_budget_record(card, at);
-    }
-    if kind == MARKS_KIND {
-        return read_marks_record(card, at);
-    }
-    no_record(BAD_RECORD)
 }
 
-// The record that begins at `at`, judged: 3 where it runs past the end, else 27, or 0.
-pub fn read_record(card: &[u8], weights: &[u32; CELLS], n: u32, root: u32, at: usize) -> RecordRead
+// The record that begins at `at`, judged: refused with 3 where it runs past the end, else with 27.
+pub fn read_record(
+    card: &[u8],
+    weights: &[u32; CELLS],
+    n: u32,
+    root: u32,
+    at: usize,
+) -> Result<RecordRead, Refusal>
     requires { (n ≤ max_vertices) × (length weights.now ≡ cells) × (at ≤ last_place) }
     ensures { ReadsRecord (record_refusal (unmarked n root weights.now) (drop at (bits_in card.now))) (drop at (bits_in card.now)) at result }
 {
-    let read = read_any_record(card, at);
-    let refusal = read.answer;
-    if refusal != 0 {
-        return no_record(refusal);
+    let read = read_any_record(card, at)?;
+    if !record_ok(weights, n, root, read.replaced) {
+        return Err(Refusal::BadRecord);
     }
-    let replaced = read.replaced;
-    if !record_ok(weights, n, root, replaced) {
-        return no_record(BAD_RECORD);
-    }
-    RecordRead {
-        answer: 0,
-        replaced,
-        next: read.next,
-    }
+    Ok(read)
 }

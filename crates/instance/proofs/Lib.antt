@@ -12,3 +12,4 @@ pub mod ReachLaws
 pub mod SetBits
 pub mod CutLaws
 pub mod MatrixLaws
+pub mod RefusalLaws

@@ -2,11 +2,13 @@
 -- states.
 pub mod Limits
 pub mod Refusals
+pub mod RefusalNumbers
 pub mod Marks
 pub mod Instance
 pub mod Arborescence
 pub mod Candidates
 pub mod States
+pub mod StateNumbers
 pub mod Cuts
 pub mod Valid
 pub mod Matrix

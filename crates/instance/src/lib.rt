@@ -13,15 +13,15 @@ use limits::{BANNED, FREE, PINNED};
 
 // A vertex of an instance (document 01: a position). A vertex and a cut are kept apart, so that neither can be handed
 // in where the other is meant.
-#[derive(Clone, Copy)]
+#[derive(Clone, Copy, Debug, PartialEq, Eq)]
 pub struct Vertex(pub u32);
 
 // The place of a cut among the cuts found, from 0.
-#[derive(Clone, Copy)]
+#[derive(Clone, Copy, Debug, PartialEq, Eq)]
 pub struct CutIndex(pub u32);
 
 // A mark to set. The cells of an instance hold its number.
-#[derive(Clone, Copy)]
+#[derive(Clone, Copy, Debug, PartialEq, Eq)]
 pub enum Mark {
     Free,
     Pinned,
@@ -30,19 +30,21 @@ pub enum Mark {
 
 // What planning an instance comes to: the total of a plan, or the cheapest total where it is over the budget, or that
 // there is no tree.
-#[derive(Clone, Copy)]
+#[derive(Clone, Copy, Debug, PartialEq, Eq)]
 pub enum Outcome {
     Plan(u32),
     Over(u32),
     NoTree,
 }
 
-pub fn mark_number(mark: Mark) -> u8
-    ensures { result ≡ mark_number mark }
-{
-    match mark {
-        Mark::Free => FREE,
-        Mark::Pinned => PINNED,
-        Mark::Banned => BANNED,
+impl From<Mark> for u8 {
+    ghost from_gives = { λ m k. k ≡ mark_number m };
+
+    fn from(mark: Mark) -> u8 {
+        match mark {
+            Mark::Free => FREE,
+            Mark::Pinned => PINNED,
+            Mark::Banned => BANNED,
+        }
     }
 }

@@ -22,11 +22,9 @@ fn put_parents(parents: &[u8], n: u32, out: &mut [u8], at: usize) -> usize
     requires room { Room (join_below n (parent_text parents.now)) out.old at }
     ensures { Puts (join_below n (parent_text parents.now)) out.old out.new at result }
 {
-    let mut v = 0;
     let mut next = at;
-    while v < n as usize {
+    for v in 0..n as usize {
         next = put_labelled(b" ", parents[v] as u32, out, next);
-        v += 1;
     }
     next
 }
@@ -50,10 +48,8 @@ fn tree_total(weights: &[u32; CELLS], parents: &[u8], n: u32, root: u32) -> u32
     ensures { result ≡ total (unmarked n root weights.now) parents.now }
 {
     let mut sum = 0;
-    let mut v = 0;
-    while v < n {
+    for v in 0..n {
         sum += weight_into(weights, parents, n, root, v);
-        v += 1;
     }
     sum
 }

@@ -14,8 +14,7 @@ use Rattle.board.specs.ModelOf.{model_of, instance_of}
 use Rattle.board.specs.declared.Board.{Board}
 use Rattle.backtracking.specs.Listing.{ListsTrees}
 use Rattle.backtracking.specs.declared.Progress.{Progress}
-use Rattle.planner.specs.declared.Listing.TheVariants.{Listed, Refused}
-use Rattle.planner.specs.Enumerating.{Lists}
+use Rattle.planner.specs.Enumerating.{Listed, Refused, Lists}
 
 pub limit_high : (limit : ℕ) → limit_refused limit ≡ false → limit ≤ max_tries
 unfolding limit_refused

@@ -14,7 +14,6 @@ use Rattle.instance.specs.Limits.{max_vertices, max_records, cut_words, banned}
 use Rattle.instance.specs.Instance.{Instance, instance_with, without_budget, mark, weight, is_arc}
 use Rattle.instance.specs.Matrix.{unmarked}
 use Rattle.instance.specs.Arborescence.{is_pinned, other_pinned}
-use Rattle.instance.specs.States.{outcome}
 use Rattle.instance.specs.declared.Outcome.{Outcome}
 use Rattle.instance.proofs.ValidLaws.{valid_small}
 use Rattle.commands.specs.Model.{Model}

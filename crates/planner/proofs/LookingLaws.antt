@@ -26,15 +26,15 @@ use Rattle.planner.specs.Displaying.{Displays}
 pub shows :
     (s : Instance) (r : Survey) (old new : Buffers) → Surveys s r → Displays r s.weights s.n s.root old new →
     states_by r.used s.weights s.n s.root ≡ states s →
-    Shows s old new (Shown r.outcome r.pairs)
+    Shows s old new (Shown r.plan.outcome r.plan.pairs)
 shows s r old new f d right =
     record {
-      cut_list = f.cut_list;
-      result = λ i. Shown (f.result i) (f.counted i);
-      cuts_shown = f.cuts_found;
-      parents_buffer = d.parents ∙ ap (λ (l : List ℕ). in_front l old.parents) f.parents_found;
+      cut_list = f.plan.cut_list;
+      result = λ i. Shown (f.plan.result i) (f.plan.counted i);
+      cuts_shown = f.plan.cuts_found;
+      parents_buffer = d.plan.parents ∙ ap (λ (l : List ℕ). in_front l old.parents) f.plan.parents_found;
       states_buffer = d.states ∙ ap (λ (l : List ℕ). in_front l old.states) right;
-      cuts_buffer = d.cuts ∙ ap (λ (l : List ℕ). in_front l old.cuts) f.words;
+      cuts_buffer = d.plan.cuts ∙ ap (λ (l : List ℕ). in_front l old.cuts) f.plan.words;
     }
 
 -- THE THREE WAYS of a look

@@ -12,7 +12,7 @@ use Rattle.card_format.specs.Card.{bytes_needed, card_refusal, instance_in, card
 use Rattle.card_format.proofs.LengthLaws.{length_card_of}
 use Rattle.card_format.proofs.OpensLaws.{card_valid}
 use Rattle.card.specs.Write.{written_to, buffer_after, CardWritten}
-use Rattle.card.specs.declared.write.Written.{Written}
+use Rattle.card.specs.Write.{Written}
 use Rattle.commands.specs.Model.{Model, opened}
 use Rattle.commands.specs.Valid.{valid}
 use Rattle.commands.proofs.ValidLaws.{opened_valid}

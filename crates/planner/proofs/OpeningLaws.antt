@@ -6,16 +6,19 @@ use Prim.Native.Nat.{ℕ}
 use native.Mathlib.Omega.{arith}
 use lib.Dec.{eqb}
 use borrow.Author.Tests.{eq-eqb, ne_eqb, eqb-true}
+use Rattle.std.specs.Prelude.{Ok, Err}
 use Rattle.instance.specs.Refusals.{bad_count}
+use Rattle.instance.specs.declared.refusals.Refusal.{Refusal}
 use Rattle.card_format.specs.Card.{card_refusal, instance_in}
-use Rattle.card.specs.Read.{contents_of, contents_with, no_contents}
+use Rattle.card.specs.Read.{CardRead}
 use Rattle.card.specs.declared.read.Contents.{Contents}
+use Rattle.instance.proofs.RefusalLaws.{eqb_0}
 use Rattle.commands.specs.Model.{Model, opened}
 use Rattle.commands.specs.Valid.{valid}
 use Rattle.commands.proofs.LogLaws.{Tied, opened_tied}
 use Rattle.commands.proofs.ValidLaws.{valid_parts}
 use Rattle.board.specs.ModelOf.{model_of, instance_of}
-use Rattle.board.specs.Create.{board_with, blank, stored, board-of, answered_with, opened_as}
+use Rattle.board.specs.Create.{board_with, blank, stored, board-of, answered_with, opened_as, opening_of}
 use Rattle.board.specs.declared.Board.{Board}
 use Rattle.board.specs.declared.Answered.{Answered}
 use Rattle.history_format.specs.HistoryCard.{is_history, open_refusal, model_in, history_refusal}
@@ -95,26 +98,10 @@ opened_starts ws o e z =
     }
 
 -- WHAT A PLAIN CARD SAYS
--- contents with the refusal they come with
-refusal_said : (ws : List ℕ) → (contents_of ws).answer ≡ card_refusal ws
-unfolding contents_of no_contents
-refusal_said ws = go (eqb (card_refusal ws) 0) refl
-  where
-    go : (b : Bool) → eqb (card_refusal ws) 0 ≡ b → (cond b (contents_with (instance_in ws)) (no_contents (card_refusal ws))).answer ≡ card_refusal ws
-    go true e = sym (eqb-true (card_refusal ws) 0 e)
-    go false e = refl
+pub open_refused : (ws : List ℕ) (e : Refusal) → CardRead ws (Err e) → opening_of (Err e) ≡ plain_opened ws
+unfolding plain_opened opened_as
+open_refused ws e c = rw (← c.judged, eqb_0 e)
 
-module _ (ws : List ℕ) (c : Contents) (e : c ≡ contents_of ws) where
-  said : c.answer ≡ card_refusal ws
-  said = ap (λ (x : Contents). x.answer) e ∙ refusal_said ws
-
-  pub open_refused : (c.answer ≡ 0 → ⊥) → answered_with c.answer blank ≡ plain_opened ws
-  unfolding plain_opened opened_as
-  open_refused n = rw (← said, ne_eqb c.answer 0 n)
-
-  pub open_accepted : c.answer ≡ 0 → answered_with 0 (board_with c.n c.root c.budget c.weights c.marks) ≡ plain_opened ws
-  unfolding plain_opened opened_as contents_of board_with board-of opened stored
-  open_accepted z =
-      let q : eqb (card_refusal ws) 0 ≡ true = eq-eqb (card_refusal ws) 0 (sym said ∙ z) in
-      let a : c ≡ contents_with (instance_in ws) = e ∙ rw q in
-      rw (a, q)
+pub open_accepted : (ws : List ℕ) (c : Contents) → CardRead ws (Ok c) → opening_of (Ok (board_with c.n c.root c.budget c.weights c.marks)) ≡ plain_opened ws
+unfolding plain_opened opened_as board_with board-of opened stored
+open_accepted ws c r = rw (r.said, ← r.judged)

@@ -16,7 +16,7 @@ use Rattle.instance.specs.Refusals.{buffer_short, invalid_board}
 use Rattle.card_format.specs.Card.{bytes_needed, max_card, card_of}
 use Rattle.card_format.proofs.LengthLaws.{longest_card, length_card_of}
 use Rattle.card.specs.Write.{written_to, buffer_after}
-use Rattle.card.specs.declared.write.Written.{Written}
+use Rattle.card.specs.Write.{Written}
 use Rattle.commands.specs.Valid.{valid}
 use Rattle.board.specs.ModelOf.{model_of, instance_of}
 use Rattle.board.specs.declared.Board.{Board}

@@ -11,6 +11,5 @@ pub record DisplaysPlan (r : FirstPlan) (n : ℕ) (ps ps' cs cs' : List ℕ) : T
   pub cuts : cs' ≡ in_front r.cuts cs
 
 pub record Displays (r : Survey) (weights : List ℕ) (n root : ℕ) (old new : Buffers) : Type 0 where
-  pub parents : new.parents ≡ in_front (take n r.parents) old.parents
+  pub plan : DisplaysPlan r.plan n old.parents new.parents old.cuts new.cuts
   pub states : new.states ≡ in_front (states_by r.used weights n root) old.states
-  pub cuts : new.cuts ≡ in_front r.cuts old.cuts

@@ -16,7 +16,7 @@ use Rattle.commands.specs.Valid.{valid}
 use Rattle.commands.specs.Setters.{setter}
 use Rattle.board.specs.ModelOf.{model_of, instance_of}
 use Rattle.board.specs.declared.Board.{Board}
-use Rattle.survey.specs.Survey.{CutsShown}
+use Rattle.survey.specs.FirstPlan.{CutsShown}
 use Rattle.witness.specs.Witness.{rival, forced_instance, deleted_instance}
 use Rattle.planner.specs.declared.View.{View}
 use Rattle.planner.specs.declared.View.TheVariants.{Shown}

@@ -13,7 +13,7 @@ use Rattle.instance.specs.Cuts.{Cut, words_of}
 use Rattle.commands.specs.Valid.{valid}
 use Rattle.board.specs.ModelOf.{model_of, instance_of}
 use Rattle.board.specs.declared.Board.{Board}
-use Rattle.survey.specs.Survey.{CutsShown}
+use Rattle.survey.specs.FirstPlan.{CutsShown}
 use Rattle.planner.specs.declared.View.{View}
 use Rattle.planner.specs.declared.View.TheVariants.{Shown, Refused}
 

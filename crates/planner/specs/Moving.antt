@@ -3,7 +3,7 @@
 use Rattle.std.specs.Prelude.{◌≡◌, cond, List, ℕ, eqb}
 use Rattle.card_format.specs.Card.{card_refusal, instance_in}
 use Rattle.card.specs.Write.{written_to, buffer_after}
-use Rattle.card.specs.declared.write.Written.{Written}
+use Rattle.card.specs.Write.{Written}
 use Rattle.commands.specs.Model.{opened}
 use Rattle.history_format.specs.HistoryCard.{history_model, to_plain_refusal}
 use Rattle.history_card.specs.Write.{history_written_to, history_buffer_after}

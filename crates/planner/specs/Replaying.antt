@@ -1,20 +1,21 @@
 -- Demand 3 in one definition: the card, the list of calls and the log; the board's own record is not named. Assumes
 -- nothing: these are definitions.
-use Rattle.std.specs.Prelude.{◌≡◌, Bool, true, false, ◌||◌, not, cond, List, [], ◌∷◌, ℕ, zero, suc, ltb, eqb, length}
+use Rattle.std.specs.Prelude.{◌≡◌, Bool, true, false, ◌||◌, cond, List, [], ◌∷◌, ℕ, zero, suc, ltb, length}
 use Rattle.base.specs.Lists.{in_front}
 use Rattle.instance.specs.Refusals.{buffer_short, invalid_board}
-use Rattle.instance.specs.Instance.{Instance}
 use Rattle.instance.specs.declared.Mark.TheVariants.{Free, Pinned, Banned}
 use Rattle.commands.specs.Commands.{Command, set_mark, set_marks, set_budget, undo, answered}
 use Rattle.commands.specs.Valid.{valid}
 use Rattle.commands.specs.Log.{Log, new_log, Noted, unnoted, note}
 use Rattle.commands.specs.Effective.{effective}
-use Rattle.board.specs.ModelOf.{model_of, instance_of}
+use Rattle.board.specs.ModelOf.{model_of, command_of}
 use Rattle.board.specs.Calls.{Answers}
 use Rattle.board.specs.declared.Board.{Board}
 use Rattle.board.specs.declared.Answered.{Answered}
 use Rattle.history_format.specs.HistoryCard.{open_refusal, model_in}
 use Rattle.planner.specs.declared.View.{View}
+use Rattle.planner.specs.declared.replaying.Call as declared-call
+use Rattle.planner.specs.declared.replaying.Call.TheVariants as declared-calls
 use Rattle.planner.specs.Looking.{Buffers, answer_of, short_for, Shows, Untouched, Looks}
 
 -- THE LIST
@@ -39,13 +40,11 @@ call (suc (suc (suc (suc (suc (suc (suc (suc zero)))))))) a b = command (set_mar
 call (suc (suc (suc (suc (suc (suc (suc (suc (suc zero))))))))) a b = command (set_marks Free a b)
 call (suc (suc (suc (suc (suc (suc (suc (suc (suc (suc k)))))))))) a b = write
 
--- the numbers for which `call` gives a write (`call_write`, `not_write`)
-unfoldable pub write_kind : (kind : ℕ) → Bool
-write_kind k = eqb k 6 || ltb 9 k
-
--- any other number gives a command
-unfoldable pub command_kind : (kind : ℕ) → Bool
-command_kind k = cond (eqb k 5) false (not (write_kind k))
+-- the program's call
+abbrev pub call_of : declared-call.Call → Call
+call_of (declared-calls.Command c) = command (command_of c)
+call_of declared-calls.Look = look
+call_of declared-calls.Write = write
 
 unfoldable pub calls : (kinds firsts seconds : List ℕ) → List Call
 calls [] as' bs = []
@@ -73,11 +72,6 @@ unfoldable pub Makes : Board → Call → (old new : Buffers) → Answered → T
 Makes b (command c) old new r = Answers (answered c (model_of b)) b r × (new ≡ old)
 Makes b look old new r = (v : View) × (r.answer ≡ answer_of v) × (r.board ≡ b) × Looks b old new v
 Makes b write old new r = (r.answer ≡ cond (valid (model_of b)) 0 invalid_board) × (r.board ≡ b) × (new ≡ old)
-
--- a look or a write at any valid board with this instance: the board stays
-unfoldable pub MakesOn : Instance → (kind : ℕ) → (old new : Buffers) → (answer : ℕ) → Type 0
-MakesOn s k old new a =
-    (b : Board) → instance_of b ≡ s → valid (model_of b) ≡ true → (first second : ℕ) → Makes b (call k first second) old new (record { answer = a; board = b })
 
 -- THE WHOLE LIST on a freshly opened card, and a look at the end
 -- fewer numbers than kinds, or no room for the answers

@@ -2,7 +2,7 @@
 use Rattle.std.specs.Prelude.{◌≡◌, cond, List, ℕ}
 use Rattle.instance.specs.Refusals.{invalid_board}
 use Rattle.card.specs.Write.{written_to, buffer_after}
-use Rattle.card.specs.declared.write.Written.{Written}
+use Rattle.card.specs.Write.{Written}
 use Rattle.commands.specs.Valid.{valid}
 use Rattle.board.specs.ModelOf.{model_of, instance_of}
 use Rattle.board.specs.declared.Board.{Board}

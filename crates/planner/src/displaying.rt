@@ -1,11 +1,10 @@
-// What planning found, copied into the caller's buffers.
+// What planning found, copied into the caller's buffers: the first places are filled, all others keep their contents.
 ghost use Rattle.std.specs.Prelude.{◌≡◌, ◌*◌, ◌≤◌, length};
 ghost use Rattle.instance.specs.Limits.{max_vertices, cut_words};
 ghost use Rattle.planner.specs.Displaying.{DisplaysPlan, Displays};
 ghost use Rattle.planner.specs.Looking.{buffers};
 
-use crate::copies;
-use instance::limits::CELLS;
+use instance::limits::{CELLS, CUT_WORDS};
 use survey::Survey;
 use survey::first_plan::FirstPlan;
 
@@ -14,10 +13,9 @@ pub fn display_plan(plan: FirstPlan, n: u32, parents: &mut [u8], cuts: &mut [u32
     requires { (n ≤ max_vertices) × (n ≤ length parents.old) × (cut_words ≤ length cuts.old) }
     ensures { DisplaysPlan plan n parents.old parents.new cuts.old cuts.new }
 {
-    let tree = plan.parents;
-    let words = plan.cuts;
-    copies::copy_bytes(&tree, n as usize, parents);
-    copies::copy_words(&words, cuts);
+    let count = n as usize;
+    parents[..count].copy_from_slice(&plan.parents[..count]);
+    cuts[..CUT_WORDS].copy_from_slice(&plan.cuts);
 }
 
 pub fn display(
@@ -32,10 +30,6 @@ pub fn display(
     requires { (n ≤ max_vertices) × (n ≤ length parents.now) × (n * n ≤ length states.now) × (cut_words ≤ length cuts.now) }
     ensures { Displays surveyed weights.entry.now n root (buffers parents.entry.now states.entry.now cuts.entry.now) (buffers parents.exit.now states.exit.now cuts.exit.now) }
 {
-    let tree = surveyed.parents;
-    let words = surveyed.cuts;
-    let used = surveyed.used;
-    copies::copy_bytes(&tree, n as usize, parents);
-    copies::copy_words(&words, cuts);
-    states::show::write_states(&used, weights, n, root, states);
+    display_plan(surveyed.plan, n, parents, cuts);
+    states::show::write_states(&surveyed.used, weights, n, root, states);
 }

@@ -7,7 +7,6 @@
 #![tactic(auto)]
 
 mod checking; // checking.rt: a plan made elsewhere, checked for a board
-mod copies; // copies.rt: copies into the caller's buffers
 mod displaying; // displaying.rt: what planning found, copied there
 mod enumerating; // enumerating.rt: all plans of a board
 mod explaining; // explaining.rt: why a link is closed, open or sure
@@ -20,21 +19,21 @@ mod writing; // writing.rt: a board written as a card
 pub use board::calls::{ban, ban_group, clear, clear_group, pin, pin_group, set_budget, take_back};
 pub use board::{Answered, Board, Command};
 pub use card::MAX_CARD;
-pub use card::write::Written;
 pub use checking::check_plan;
-pub use command_list::{ListAnswered, Press, press_list};
+pub use command_list::{Applied, Press, press_list};
 pub use enumerating::list_plans;
 pub use enumeration::Ended;
 pub use explaining::{plan_without, why};
 pub use history_card::MAX_HISTORY_CARD;
+pub use instance::refusals::Refusal;
 pub use instance::{Mark, Outcome, Vertex};
 pub use looking::look;
 pub use moving::{to_history_card, to_plain_card};
 pub use opening::open_card;
-pub use price_list::{ListWritten, PricesRead, read_prices, write_prices};
+pub use price_list::{Refused, read_prices, write_prices};
 pub use price_row::row_used;
 pub use replaying::replay;
-pub use runs::{RunsView, plan_runs};
+pub use runs::plan_runs;
 pub use writing::{write_card, write_history_card};
 
 // What a look shows: the outcome and the number of cuts that prove it, or of the one pair that shows that there is no
@@ -57,10 +56,10 @@ pub enum Reason {
     Refused(u32),
 }
 
-// What a listing of all plans gives: how it ended, how many trees stand in the buffer and how many tries were made; or
-// the number of a refusal.
+// What a listing of all plans gives: how it ended, how many trees stand in the buffer and how many tries were made.
 #[derive(Clone, Copy)]
-pub enum Listing {
-    Listed(Ended, u32, u32),
-    Refused(u32),
+pub struct Listing {
+    pub ended: Ended,
+    pub trees: u32,
+    pub tries: u32,
 }

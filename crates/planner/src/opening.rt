@@ -1,34 +1,30 @@
 // A board from a card of either kind.
 ghost use Rattle.std.specs.Prelude.{◌≡◌};
+ghost use Rattle.board.specs.Create.{opening_of};
 ghost use Rattle.planner.specs.Opening.{plain_opened, opened_from};
 
-use board::Answered;
+use board::Board;
+use board::create::new_board;
+use card::read::{Contents, read_card};
 use history_card::open::{is_history_card, open_history};
+use instance::refusals::Refusal;
 
 // A plain card as a board with no history; a history card is refused with 2.
-pub fn open_plain(bytes: &[u8]) -> Answered
-    ensures { result ≡ plain_opened bytes.now }
+pub fn open_plain(bytes: &[u8]) -> Result<Board, Refusal>
+    ensures { opening_of result ≡ plain_opened bytes.now }
 {
-    let c = card::read::read_card(bytes);
-    let answer = c.answer;
-    if answer != 0 {
-        let blank = board::create::blank_board();
-        return Answered {
-            answer,
-            board: blank,
-        };
-    }
-    let weights = c.weights;
-    let marks = c.marks;
-    let fresh = board::create::new_board(c.n, c.root, c.budget, weights, marks);
-    Answered {
-        answer: 0,
-        board: fresh,
-    }
+    let Contents {
+        n,
+        root,
+        budget,
+        weights,
+        marks,
+    } = read_card(bytes)?;
+    Ok(new_board(n, root, budget, weights, marks))
 }
 
-pub fn open_card(bytes: &[u8]) -> Answered
-    ensures { result ≡ opened_from bytes.now }
+pub fn open_card(bytes: &[u8]) -> Result<Board, Refusal>
+    ensures { opening_of result ≡ opened_from bytes.now }
 {
     if is_history_card(bytes) {
         return open_history(bytes);

@@ -2,7 +2,7 @@
 -- refused. Assumes nothing.
 use mathlib.Core.Path.{◌≡◌, refl, sym, ap, ◌∙◌, subst}
 use mathlib.Core.Bool.{Bool, true, false, ◌&&◌, ◌||◌, not, cond}
-use mathlib.Core.Logic.{⊎_elim}
+use mathlib.Core.Logic.{⊎_elim, ◌≢◌}
 use mathlib.Core.List.{List}
 use Prim.Native.Nat.{ℕ, ◌+◌, ◌*◌, ◌/◌, ◌%◌, ◌≤◌, ◌<◌}
 use native.Mathlib.Omega.{arith}
@@ -10,6 +10,8 @@ use native.Mathlib.Nat.{mul-le-mul}
 use lib.Dec.{ltb, leb, eqb}
 use lib.ListN.{length, get_or, drop, length-append, get_or-append}
 use borrow.Author.Tests.{eqb-true, eqb-false, eq-eqb, ne_eqb, le-ltb, lt-leb}
+use Rattle.std.specs.Bool.{MatchBool}
+use Rattle.std.specs.List.{AllWithin, HoldsAt}
 use Rattle.base.specs.Bounded.{all_below}
 use Rattle.base.specs.Lists.{tabulate, in_front}
 use Rattle.base.proofs.BoolLaws.{test}
@@ -33,13 +35,12 @@ use Rattle.history_format.proofs.HistoryAgain.{model_in_valid, model_in_as_read}
 use Rattle.price_format.specs.Reading.{count_refusal, room_refusal}
 use Rattle.price_format.specs.Writing.{price_at, is_written, place_text, list_text, place_ok, prices_refusal, write_refusal}
 use Rattle.price_list.specs.Reads.{dense}
-use Rattle.price_list.specs.Writes.{write_result, Writes}
-use Rattle.price_list.specs.declared.write.ListWritten.{ListWritten}
+use Rattle.price_list.specs.Writes.{ListWritten, write_result, Writes}
 use Rattle.planner.specs.Opening.{opened_from}
 use Rattle.planner.proofs.OpeningLaws.{opened_answer, opened_model, opened_starts}
 use Rattle.price_card.specs.declared.from_card.CardPrices.{CardPrices}
 use Rattle.price_card.specs.declared.from_card.CardWeights.{CardWeights}
-use Rattle.price_card.specs.FromCard.{is_marked, prices_on, instance_list, PricesIn, WeightsTaken, WeightsOn, refused, weights_listed, ListsWeights, listed, ListsCard}
+use Rattle.price_card.specs.FromCard.{marked_by, is_marked, prices_on, instance_list, PricesIn, WeightsTaken, WeightsOn, refused, weights_listed, ListsWeights, listed, ListsCard}
 
 -- a cell that a valid instance may hold has a price that may be listed, or none
 ok_listed : (w m : ℕ) → cell_ok w m ≡ true → not (not (eqb w no_arc)) || leb w max_weight ≡ true
@@ -111,6 +112,34 @@ price_same s ps small long p i h =
     let t = grid_row s.n i h in
     let d = grid_column s.n i h in
     default ps i no_arc 0 (omega (arith, p.long)) ∙ p.at i h ∙ default s.weights (cell (i / s.n) (i % s.n)) 0 no_arc (omega arith)
+
+-- A MARK OTHER THAN FREE is found among the marks, or none is
+module _ (ms : List ℕ) (l : length ms ≡ cells) where
+  pub marks_found : (r : Bool) → MatchBool r ((k : ℕ) × (k < length ms) × HoldsAt (λ m. m ≢ free) ms k) (AllWithin (λ m. m ≡ free) ms 0 (length ms))
+      → r ≡ not (all_below cells (λ i. eqb (get_or ms i free) free))
+  marks_found true (k, h, a) = go (all_below cells (λ i. eqb (get_or ms i free) free)) refl
+    where
+      go : (c : Bool) → all_below cells (λ i. eqb (get_or ms i free) free) ≡ c → true ≡ not c
+      go true e = absurd (a free (eqb-true (get_or ms k free) free (all_at cells (λ i. eqb (get_or ms i free) free) k (omega (arith, l)) e)))
+      go false e = refl
+  marks_found false h =
+      rw (all_intro cells (λ i. eqb (get_or ms i free) free) (λ i q. eq-eqb (get_or ms i free) free (h i free (omega arith) (omega (arith, l)))))
+
+  pub marked_found : (r : Bool) (k : ℕ) → k ≡ 0 → r ≡ not (all_below cells (λ i. eqb (get_or ms i free) free)) → r ≡ marked_by ms k
+  unfolding marked_by
+  marked_found r k z e = rw (z, e) (by (all_below cells (λ i. eqb (get_or ms i free) free)))
+    where
+      by : (c : Bool) → not c ≡ not (c && true)
+      by true = refl
+      by false = refl
+
+pub records_marked : (ms : List ℕ) (k : ℕ) → (k ≡ 0 → ⊥) → not (eqb k 0) ≡ marked_by ms k
+unfolding marked_by
+records_marked ms k z = rw (ne_eqb k 0 z) (by (all_below cells (λ i. eqb (get_or ms i free) free)))
+  where
+    by : (c : Bool) → true ≡ not (c && false)
+    by true = refl
+    by false = refl
 
 -- AN OPENED CARD
 module _ (ws : List ℕ) (o : Answered) (e : o ≡ opened_from ws) where

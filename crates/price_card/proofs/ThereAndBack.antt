@@ -21,9 +21,8 @@ use Rattle.history_format.specs.HistoryCard.{open_refusal, model_in}
 use Rattle.history_format.proofs.HistoryAgain.{model_of_card}
 use Rattle.history_format.proofs.Moves.{card_not_history, plain_card_opens}
 use Rattle.price_format.specs.Reading.{read_list, in_order}
-use Rattle.price_card.specs.declared.to_card.CardMade.{CardMade}
 use Rattle.price_card.specs.declared.from_card.CardPrices.{CardPrices}
-use Rattle.price_card.specs.ToCard.{card_count_refusal, instance_listed, card_listed, made, MakesCard}
+use Rattle.price_card.specs.ToCard.{CardMade, card_count_refusal, instance_listed, card_listed, made, MakesCard}
 use Rattle.price_card.specs.FromCard.{is_marked, instance_list, refused, listed, ListsCard}
 use Rattle.price_card.proofs.RoundTrips.{made_opens, made_model, list_again, again_accepted, again_numbers, card_again}
 

@@ -12,15 +12,14 @@ use Rattle.base.specs.Lists.{in_front}
 use Rattle.base.proofs.ListLaws.{tabulate_is}
 use Rattle.instance.specs.Limits.{max_vertices, free, cells}
 use Rattle.instance.specs.Refusals.{buffer_short}
-use Rattle.instance.specs.Instance.{instance_with, cell}
+use Rattle.instance.specs.Instance.{Instance, instance_with, cell}
 use Rattle.card_format.specs.Card.{bytes_needed, card_of}
 use Rattle.card_format.proofs.LengthLaws.{length_card_of}
 use Rattle.card.specs.Write.{written_to, buffer_after, CardWritten}
-use Rattle.card.specs.declared.write.Written.{Written}
+use Rattle.card.specs.Write.{Written}
 use Rattle.price_format.specs.Lines.{Line}
 use Rattle.price_format.specs.Reading.{weight_named, read_list}
-use Rattle.price_card.specs.declared.to_card.CardMade.{CardMade}
-use Rattle.price_card.specs.ToCard.{card_count_refusal, weights_of, instance_listed, made, MakesCard}
+use Rattle.price_card.specs.ToCard.{CardMade, card_count_refusal, weights_of, instance_listed, made, MakesCard}
 
 -- a table that agrees with some lines, whatever its cells are read with past their end, is that of these lines
 pub table_weights : (ls : List Line) (ws : List ℕ) → length ws ≡ cells
@@ -31,6 +30,15 @@ table_weights ls ws l at =
     (λ i h.
     let q : 32 * (i / 32) + i % 32 ≡ i = omega arith in
     subst (λ (k : ℕ). get_or ws k 0 ≡ weight_named ls (i / 32) (i % 32)) q (at (i / 32) (i % 32) (omega arith) (omega arith)))
+
+written_short : (s : Instance) (old : List ℕ) (w : Written) → w ≡ written_to s old → (w.answer ≡ 0 → ⊥) → w ≡ record { answer = buffer_short; length = 0 }
+unfolding written_to
+written_short s old w e z = by (ltb (length old) (bytes_needed s.n)) e
+  where
+    by : (c : Bool) → w ≡ cond c (record { answer = buffer_short; length = 0 }) (record { answer = 0; length = bytes_needed s.n })
+        → w ≡ record { answer = buffer_short; length = 0 }
+    by true f = f
+    by false f = absurd (z (ap (λ (y : Written). y.answer) f))
 
 abbrev made_with : Written → CardMade
 made_with w = record { answer = w.answer; line = 0; length = w.length }

@@ -1,13 +1,25 @@
 -- What making a card of a price list gives, as equations. Assumes nothing: these are definitions.
-use Rattle.std.specs.Prelude.{◌≡◌, cond, List, ℕ, ◌/◌, ◌%◌, ltb, eqb, length, replicate}
+use Rattle.std.specs.Prelude.{◌≡◌, cond, List, ℕ, ◌/◌, ◌%◌, ltb, eqb, length, replicate, Result, Ok, Err, unwrap_or}
 use Rattle.base.specs.Lists.{tabulate, in_front}
 use Rattle.instance.specs.Limits.{max_budget, free, cells}
 use Rattle.instance.specs.Refusals.{bad_card_budget, buffer_short}
+use Rattle.instance.specs.RefusalNumbers.{refusal_number}
 use Rattle.instance.specs.Instance.{Instance, instance_with}
 use Rattle.card_format.specs.Card.{bytes_needed, card_of}
 use Rattle.price_format.specs.Lines.{Line}
 use Rattle.price_format.specs.Reading.{weight_named, read_list, count_refusal}
-use Rattle.price_card.specs.declared.to_card.CardMade.{CardMade}
+use Rattle.price_list.specs.declared.read.Refused.{Refused}
+
+-- 0 and the length of the card; or the refusal, and of a faulty line which it is, counted from 1
+pub record CardMade : Type 0 where
+  pub answer : ℕ
+  pub line : ℕ
+  pub length : ℕ
+
+-- what a call tells
+abbrev pub making_told : Result ℕ Refused → CardMade
+making_told (Ok k) = record { answer = 0; line = 0; length = k }
+making_told (Err e) = record { answer = refusal_number e.refusal; line = unwrap_or e.line 0; length = 0 }
 
 -- 2 and 4 for a bad count or root, as for a list; then 5 for a budget above the limit, as on a card; 0 if none of them
 unfoldable pub card_count_refusal : (n root budget : ℕ) → ℕ

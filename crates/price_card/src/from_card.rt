@@ -55,14 +55,7 @@ fn is_marked(marks: &[u8; CELLS], records: usize) -> bool
     requires { length marks.now ≡ cells }
     ensures { result ≡ marked_by marks.now records }
 {
-    let mut k = CELLS;
-    while 0 < k {
-        k -= 1;
-        if marks[k] != FREE {
-            return true;
-        }
-    }
-    records != 0
+    records != 0 || marks.iter().any(|m| *m != FREE)
 }
 
 // The weights of a valid board.
@@ -89,21 +82,20 @@ fn take_weights(b: Board) -> CardWeights
 pub fn weights_on_card(card: &[u8]) -> CardWeights
     ensures { WeightsOn card.now result }
 {
-    let opened = open_card(card);
-    let answer = opened.answer;
-    if answer != 0 {
-        let prices = [NO_ARC; CELLS];
-        return CardWeights {
-            answer,
-            n: 0,
-            root: 0,
-            budget: 0,
-            marked: false,
-            prices,
-        };
+    match open_card(card) {
+        Ok(board) => take_weights(board),
+        Err(refusal) => {
+            let prices = [NO_ARC; CELLS];
+            CardWeights {
+                answer: u32::from(refusal),
+                n: 0,
+                root: 0,
+                budget: 0,
+                marked: false,
+                prices,
+            }
+        }
     }
-    let board = opened.board;
-    take_weights(board)
 }
 
 // The list of weights that were taken of a card; bytes behind it stay.
@@ -114,20 +106,16 @@ pub fn list_weights(taken: CardWeights, out: &mut [u8]) -> CardPrices
     if answer != 0 {
         return not_listed(answer);
     }
-    let n = taken.n;
-    let root = taken.root;
-    let written = write_prices(&taken.prices, n, Vertex(root), out);
-    let refusal = written.answer;
-    if refusal != 0 {
-        return not_listed(refusal);
-    }
-    CardPrices {
-        answer: 0,
-        n,
-        root,
-        budget: taken.budget,
-        marked: taken.marked,
-        length: written.length,
+    match write_prices(&taken.prices, taken.n, Vertex(taken.root), out) {
+        Ok(length) => CardPrices {
+            answer: 0,
+            n: taken.n,
+            root: taken.root,
+            budget: taken.budget,
+            marked: taken.marked,
+            length,
+        },
+        Err(refusal) => not_listed(u32::from(refusal)),
     }
 }
 

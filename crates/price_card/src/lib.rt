@@ -8,4 +8,4 @@ pub mod from_card; // from_card.rt: the price list of a card
 pub use card::MAX_CARD;
 pub use from_card::{CardPrices, CardWeights, list_weights, prices_from_card, weights_on_card};
 pub use price_list::MAX_LIST;
-pub use to_card::{CardMade, card_from_prices};
+pub use to_card::card_from_prices;

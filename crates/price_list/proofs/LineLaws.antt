@@ -1,6 +1,6 @@
 -- Laws of a line that is read by three numbers, and of judging it by a table. Assumes nothing.
 use mathlib.Core.Path.{◌≡◌, refl, sym, ap, ◌∙◌}
-use mathlib.Core.Bool.{Bool, true, false, ◌||◌, not, cond, true≢false}
+use mathlib.Core.Bool.{Bool, true, false, ◌||◌, not, cond}
 use mathlib.Core.List.{List, [], ◌∷◌}
 use Prim.Native.Nat.{ℕ, ◌≤◌, ◌<◌}
 use native.Mathlib.Omega.{arith}
@@ -9,85 +9,71 @@ use lib.Dec.{ltb, leb, eqb}
 use lib.ListN.{get_or, set, drop, replicate, length-set, length-replicate, get_or-replicate}
 use lib.Seq.{drop-drop, get_or-set_same, get_or-set_other}
 use borrow.Author.Tests.{leb-true, leb-false, le-leb, ltb-false, lt-ltb, eqb-true, eq-eqb, ne_eqb}
+use Rattle.std.specs.Prelude.{Ok, Err}
 use Rattle.base.specs.Lists.{any_of}
 use Rattle.base.proofs.BoolLaws.{passed, and_false_right, and_not, or_false_left, or_false_right}
 use Rattle.instance.specs.Limits.{max_vertices, max_weight, no_arc, cells}
 use Rattle.instance.specs.Refusals.{bad_line}
+use Rattle.instance.specs.RefusalNumbers.{refusal_number}
+use Rattle.instance.specs.declared.refusals.Refusal.{Refusal}
+use Rattle.instance.specs.declared.refusals.Refusal.TheVariants.{BadLine}
 use Rattle.instance.specs.Instance.{cell}
 use Rattle.text.specs.Lines.{space, line_feed}
 use Rattle.price_format.specs.Lines.{Line, number_then, first_number, after_number, has_line, first_line, after_line}
 use Rattle.price_format.specs.Reading.{names, is_named, weight_named, numbers_refusal, line_refusal}
 use Rattle.price_format.proofs.ReadingLaws.{Sound, more}
-use Rattle.price_list.specs.Numbers.{cap, capped, ReadsNumber}
-use Rattle.price_list.specs.Lines.{ReadsLine, TableOf, table_refusal, refusal_at, TakesLine}
+use Rattle.price_list.specs.Numbers.{cap, capped, NumberAt}
+use Rattle.price_list.specs.Lines.{LineAt, TableOf, table_refusal, refusal_at, TakesLine}
 use Rattle.price_list.specs.declared.numbers.Number.{Number}
 use Rattle.price_list.specs.declared.lines.LineRead.{LineRead}
 use Rattle.price_list.proofs.NumberLaws.{capped_low, capped_high}
 
 -- THREE NUMBERS
 -- what follows a number that was read
-number_rest : (text : List ℕ) (at sep : ℕ) (r : Number) → ReadsNumber text at sep r → r.good ≡ true → drop r.next text ≡ after_number (drop at text)
+number_rest : (text : List ℕ) (at sep : ℕ) (r : Number) → NumberAt text at sep r → drop r.next text ≡ after_number (drop at text)
 unfolding after_number
-number_rest text at sep r n g = ap (λ (k : ℕ). drop k text) (n.next g) ∙ sym (drop-drop _ at text)
+number_rest text at sep r n = ap (λ (k : ℕ). drop k text) n.next ∙ sym (drop-drop _ at text)
 
-number_forward : (text : List ℕ) (at sep : ℕ) (r : Number) → ReadsNumber text at sep r → r.good ≡ true → at < r.next
-number_forward text at sep r n g = omega (arith, n.next g)
+number_forward : (text : List ℕ) (at sep : ℕ) (r : Number) → NumberAt text at sep r → at < r.next
+number_forward text at sep r n = omega (arith, n.next)
 
-no_line : (text : List ℕ) (at : ℕ) → has_line (drop at text) ≡ false → ReadsLine text at (record { good = false; tail = 0; head = 0; weight = 0; next = at })
-no_line text at e =
-    record {
-      good = sym e;
-      tail = λ f. absurd (true≢false (sym f));
-      head = λ f. absurd (true≢false (sym f));
-      weight = λ f. absurd (true≢false (sym f));
-      rest = λ f. absurd (true≢false (sym f));
-      forward = λ f. absurd (true≢false (sym f));
-      within = λ f. absurd (true≢false (sym f));
-    }
+pub first_bad : (text : List ℕ) (at : ℕ) → number_then space (drop at text) ≡ false → has_line (drop at text) ≡ false
+unfolding has_line
+first_bad text at e = rw e
 
-module _ (text : List ℕ) (at : ℕ) (a : Number) (x : ReadsNumber text at space a) where
-  pub first_bad : a.good ≡ false → ReadsLine text at (record { good = false; tail = 0; head = 0; weight = 0; next = at })
+module _ (text : List ℕ) (at : ℕ) (a : Number) (x : NumberAt text at space a) where
+  second_rest : drop a.next text ≡ after_number (drop at text)
+  second_rest = number_rest text at space a x
+
+  pub second_bad : number_then space (drop a.next text) ≡ false → has_line (drop at text) ≡ false
   unfolding has_line
-  first_bad e = no_line text at (rw (← x.good, e))
+  second_bad e =
+      rw (sym (ap (number_then space) second_rest) ∙ e) (and_false_right (number_then space (drop at text)) false refl)
 
-  module _ (ga : a.good ≡ true) (b : Number) (y : ReadsNumber text a.next space b) where
-    second_rest : drop a.next text ≡ after_number (drop at text)
-    second_rest = number_rest text at space a x ga
+  module _ (b : Number) (y : NumberAt text a.next space b) where
+    second_good : number_then space (after_number (drop at text)) ≡ true
+    second_good = sym (ap (number_then space) second_rest) ∙ y.stands
 
-    second_good : b.good ≡ number_then space (after_number (drop at text))
-    second_good = y.good ∙ ap (number_then space) second_rest
+    third_rest : drop b.next text ≡ after_number (after_number (drop at text))
+    third_rest = number_rest text a.next space b y ∙ ap after_number second_rest
 
-    pub second_bad : b.good ≡ false → ReadsLine text at (record { good = false; tail = 0; head = 0; weight = 0; next = at })
+    pub third_bad : number_then line_feed (drop b.next text) ≡ false → has_line (drop at text) ≡ false
     unfolding has_line
-    second_bad e =
-        no_line text at
-        (rw (← second_good, e) (and_false_right (number_then space (drop at text)) false refl))
+    third_bad e =
+        rw (sym (ap (number_then line_feed) third_rest) ∙ e, second_good) (and_false_right (number_then space (drop at text)) false refl)
 
-    module _ (gb : b.good ≡ true) (d : Number) (z : ReadsNumber text b.next line_feed d) where
-      third_rest : drop b.next text ≡ after_number (after_number (drop at text))
-      third_rest = number_rest text a.next space b y gb ∙ ap after_number second_rest
-
-      third_good : d.good ≡ number_then line_feed (after_number (after_number (drop at text)))
-      third_good = z.good ∙ ap (number_then line_feed) third_rest
-
-      pub third_bad : d.good ≡ false → ReadsLine text at (record { good = false; tail = 0; head = 0; weight = 0; next = at })
-      unfolding has_line
-      third_bad e =
-          no_line text at
-          (rw (← third_good, e, ← second_good, gb) (and_false_right (number_then space (drop at text)) false refl))
-
-      pub line_good : d.good ≡ true → ReadsLine text at (record { good = true; tail = a.value; head = b.value; weight = d.value; next = d.next })
-      unfolding has_line first_line after_line
-      line_good gd =
-          record {
-            good = rw (← third_good, gd, ← second_good, gb, ← x.good, ga);
-            tail = λ f. x.value ga;
-            head = λ f. y.value gb ∙ ap (λ (t : List ℕ). capped (first_number t)) second_rest;
-            weight = λ f. z.value gd ∙ ap (λ (t : List ℕ). capped (first_number t)) third_rest;
-            rest = λ f. number_rest text b.next line_feed d z gd ∙ ap after_number third_rest;
-            forward = λ f. omega (arith, number_forward text at space a x ga, number_forward text a.next space b y gb, number_forward text b.next line_feed d z gd);
-            within = λ f. z.within gd;
-          }
+    pub line_good : (d : Number) → NumberAt text b.next line_feed d → LineAt text at (record { tail = a.value; head = b.value; weight = d.value; next = d.next })
+    unfolding has_line first_line after_line
+    line_good d z =
+        record {
+          stands = rw (sym (ap (number_then line_feed) third_rest) ∙ z.stands, second_good, x.stands);
+          tail = x.value;
+          head = y.value ∙ ap (λ (t : List ℕ). capped (first_number t)) second_rest;
+          weight = z.value ∙ ap (λ (t : List ℕ). capped (first_number t)) third_rest;
+          rest = number_rest text b.next line_feed d z ∙ ap after_number third_rest;
+          forward = omega (arith, number_forward text at space a x, number_forward text a.next space b y, number_forward text b.next line_feed d z);
+          within = z.within;
+        }
 
 -- JUDGED BY A TABLE
 -- a number that was capped is as far from every bound as the number itself
@@ -187,48 +173,34 @@ table_more ls table l o lt lh = record { long = simp length-set o.long; at = λ 
         (o.at t h x y)
 
 -- WHAT TAKING A LINE LEAVES
-module _ (text : List ℕ) (at n r : ℕ) (old : List ℕ) (x : LineRead) (l : ReadsLine text at x) where
-  pub takes_none : x.good ≡ false → TakesLine text at n r old old (record { answer = bad_line; next = at })
+module _ (text : List ℕ) (at n r : ℕ) (old : List ℕ) where
+  pub takes_none : has_line (drop at text) ≡ false → TakesLine text at n r old old (Err BadLine)
   unfolding refusal_at
-  takes_none g =
-      record {
-        answer = rw (← l.good, g);
-        refused = λ z. refl;
-        stored = λ z. absurd (omega (arith, z));
-        rest = λ z. absurd (omega (arith, z));
-        forward = λ z. absurd (omega (arith, z));
-        within = λ z. absurd (omega (arith, z));
-      }
+  takes_none e = record { answer = rw e; table = refl }
 
-  module _ (small : n ≤ max_vertices) (g : x.good ≡ true) (answer : ℕ) (e : answer ≡ table_refusal n r old x.tail x.head x.weight) where
-    judged : answer ≡ refusal_at text at n r old
+  module _ (x : LineRead) (l : LineAt text at x) (small : n ≤ max_vertices) where
+    judged : table_refusal n r old x.tail x.head x.weight ≡ refusal_at text at n r old
     unfolding refusal_at
     judged =
         let f = first_line (drop at text) in
-        e ∙ rw (← l.good, g, l.tail g, l.head g, l.weight g) (table_capped n r old f.tail f.head f.weight small)
+        rw (l.stands, l.tail, l.head, l.weight) (table_capped n r old f.tail f.head f.weight small)
 
-    pub takes_refused : (answer ≡ 0 → ⊥) → TakesLine text at n r old old (record { answer = answer; next = at })
-    takes_refused z =
-        record {
-          answer = judged;
-          refused = λ y. refl;
-          stored = λ y. absurd (z y);
-          rest = λ y. absurd (z y);
-          forward = λ y. absurd (z y);
-          within = λ y. absurd (z y);
-        }
+    pub takes_refused : (e : Refusal) → refusal_number e ≡ table_refusal n r old x.tail x.head x.weight → TakesLine text at n r old old (Err e)
+    takes_refused e f = record { answer = f ∙ judged; table = refl }
 
-    pub takes_low : answer ≡ 0 → (x.tail < n) × (x.head < n) × (x.weight ≤ max_weight)
-    takes_low z = refusal_none n r old x.tail x.head x.weight small (sym e ∙ z)
+    module _ (e : 0 ≡ table_refusal n r old x.tail x.head x.weight) where
+      pub takes_low : (x.tail < n) × (x.head < n) × (x.weight ≤ max_weight)
+      takes_low = refusal_none n r old x.tail x.head x.weight small (sym e)
 
-    pub takes_stored : answer ≡ 0 → TakesLine text at n r old (set old (cell x.tail x.head) x.weight) (record { answer = 0; next = x.next })
-    takes_stored z =
-        let low = takes_low z in
-        record {
-          answer = sym z ∙ judged;
-          refused = λ y. absurd (y refl);
-          stored = λ y. rw (uncapped x.tail (first_line (drop at text)).tail (l.tail g) (omega (arith, low.0)), uncapped x.head (first_line (drop at text)).head (l.head g) (omega (arith, low.1)), uncapped x.weight (first_line (drop at text)).weight (l.weight g) (omega (arith, low.2)));
-          rest = λ y. l.rest g;
-          forward = λ y. l.forward g;
-          within = λ y. l.within g;
-        }
+      pub takes_stored : TakesLine text at n r old (set old (cell x.tail x.head) x.weight) (Ok x.next)
+      takes_stored =
+          let low = takes_low in
+          record {
+            answer = e ∙ judged;
+            table = record {
+              stored = rw (uncapped x.tail (first_line (drop at text)).tail l.tail (omega (arith, low.0)), uncapped x.head (first_line (drop at text)).head l.head (omega (arith, low.1)), uncapped x.weight (first_line (drop at text)).weight l.weight (omega (arith, low.2)));
+              rest = l.rest;
+              forward = l.forward;
+              within = l.within;
+            };
+          }

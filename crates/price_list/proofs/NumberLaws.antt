@@ -1,6 +1,6 @@
 -- Laws of numbers that are read up to a cap, digit by digit. Assumes nothing.
 use mathlib.Core.Path.{◌≡◌, refl, sym, ap, ◌∙◌}
-use mathlib.Core.Bool.{Bool, true, false, not, cond, true≢false}
+use mathlib.Core.Bool.{Bool, true, false, not, cond}
 use mathlib.Core.List.{List, [], ◌∷◌}
 use Prim.Native.Nat.{ℕ, ◌+◌, ◌*◌, ◌-◌, ◌≤◌, ◌<◌}
 use native.Mathlib.Omega.{arith}
@@ -14,7 +14,7 @@ use Rattle.base.proofs.BoolLaws.{and_false_right}
 use Rattle.text.specs.Decimal.{value_after}
 use Rattle.price_format.specs.Numbers.{is_digit, digits_in, is_number}
 use Rattle.price_format.specs.Lines.{number_then, first_number}
-use Rattle.price_list.specs.Numbers.{cap, capped, Scans, ReadsNumber}
+use Rattle.price_list.specs.Numbers.{cap, capped, Scans, NumberAt}
 
 -- THE CAP
 pub capped_low : (v : ℕ) → v ≤ cap → capped v ≡ v
@@ -135,38 +135,30 @@ pub first_at : (text : List ℕ) (at : ℕ) → 0 < length (digits_in (drop at t
 first_at text at h = first_digit (drop at text) h ∙ get_or-drop at text 0 0 ∙ ap (λ (k : ℕ). get_or text k 0) (add-zero at)
 
 -- A NUMBER AND ITS SEPARATOR
-pub bad_number : (text : List ℕ) (at sep : ℕ) → number_then sep (drop at text) ≡ false → ReadsNumber text at sep (record { good = false; value = 0; next = at })
-bad_number text at sep e =
-    record {
-      good = sym e;
-      value = λ f. absurd (true≢false (sym f));
-      next = λ f. absurd (true≢false (sym f));
-      within = λ f. absurd (true≢false (sym f));
-    }
-
 module _ (text : List ℕ) (at sep value end : ℕ) (s : Scans text at (record { value = value; end = end })) where
   behind : get_or (drop at text) (length (digits_in (drop at text))) 0 ≡ get_or text end 0
   behind = get_or-drop at text (length (digits_in (drop at text))) 0 ∙ ap (λ (k : ℕ). get_or text k 0) (sym s.end)
 
-  pub bad_digits : is_number (digits_in (drop at text)) ≡ false → ReadsNumber text at sep (record { good = false; value = 0; next = at })
+  pub bad_digits : is_number (digits_in (drop at text)) ≡ false → number_then sep (drop at text) ≡ false
   unfolding number_then
-  bad_digits e = bad_number text at sep (rw e)
+  bad_digits e = rw e
 
-  pub bad_separator : (get_or text end 0 ≡ sep → ⊥) → ReadsNumber text at sep (record { good = false; value = 0; next = at })
+  pub bad_separator : (get_or text end 0 ≡ sep → ⊥) → number_then sep (drop at text) ≡ false
   unfolding number_then
-  bad_separator n = bad_number text at sep (rw behind (and_false_right (is_number (digits_in (drop at text))) (eqb (get_or text end 0) sep) (ne_eqb (get_or text end 0) sep n)))
+  bad_separator n =
+      rw behind (and_false_right (is_number (digits_in (drop at text))) (eqb (get_or text end 0) sep) (ne_eqb (get_or text end 0) sep n))
 
   -- past the end there is no separator
-  pub bad_end : 1 ≤ sep → length text ≤ end → ReadsNumber text at sep (record { good = false; value = 0; next = at })
+  pub bad_end : 1 ≤ sep → length text ≤ end → number_then sep (drop at text) ≡ false
   bad_end h l = bad_separator (λ e. omega (arith, sym e ∙ get_or-eq_default text 0 l))
 
   pub good_number : is_number (digits_in (drop at text)) ≡ true → get_or text end 0 ≡ sep → end < length text
-      → ReadsNumber text at sep (record { good = true; value = value; next = end + 1 })
+      → NumberAt text at sep (record { value = value; next = end + 1 })
   unfolding number_then
   good_number n e l =
       record {
-        good = rw (n, behind) (sym (eq-eqb (get_or text end 0) sep e));
-        value = λ f. s.value;
-        next = λ f. omega (arith, s.end);
-        within = λ f. omega arith;
+        stands = rw (n, behind) (eq-eqb (get_or text end 0) sep e);
+        value = s.value;
+        next = omega (arith, s.end);
+        within = omega arith;
       }

@@ -13,6 +13,8 @@ use Rattle.base.proofs.BoolLaws.{passes_only}
 use Rattle.base.proofs.ListLaws.{default}
 use Rattle.instance.specs.Limits.{no_arc}
 use Rattle.instance.specs.Refusals.{buffer_short, weight_too_high}
+use Rattle.instance.specs.RefusalNumbers.{refusal_number}
+use Rattle.instance.specs.declared.refusals.Refusal.{Refusal}
 use Rattle.text.specs.Decimal.{decimal}
 use Rattle.text.specs.Lines.{space}
 use Rattle.text.specs.Buffer.{Puts}
@@ -22,6 +24,7 @@ use Rattle.text.proofs.BufferLaws.{puts_filled}
 use Rattle.price_format.specs.Reading.{room_refusal}
 use Rattle.price_format.specs.Writing.{price_at, is_written, place_text, list_text, place_ok, prices_refusal, write_refusal}
 use Rattle.price_list.specs.Writes.{write_result, Writes}
+use Rattle.instance.proofs.RefusalLaws.{not_0}
 
 -- A PLACE
 -- within the list the default does not matter
@@ -69,9 +72,9 @@ module _ (n r : ℕ) (ps : List ℕ) (e : prices_refusal n r ps ≡ 0) where
 
 -- THE WHOLE CALL
 module _ (ps : List ℕ) (n r : ℕ) (old : List ℕ) where
-  pub writes_refused : (answer : ℕ) → answer ≡ prices_refusal n r ps → (answer ≡ 0 → ⊥) → Writes ps n r old old (record { answer = answer; length = 0 })
+  pub writes_refused : (e : Refusal) → refusal_number e ≡ prices_refusal n r ps → Writes ps n r old old (record { answer = refusal_number e; length = 0 })
   unfolding write_result write_refusal
-  writes_refused a e z = let f = ne_eqb a 0 z in record { result = rw (← e, f, f); buffer = rw f }
+  writes_refused e f = let z = ne_eqb (refusal_number e) 0 (not_0 e) in record { result = rw (← f, z, z); buffer = rw z }
 
   module _ (room : 0 ≡ prices_refusal n r ps) where
     pub writes_short : length old < length (list_text n r ps) → Writes ps n r old old (record { answer = buffer_short; length = 0 })

@@ -1,10 +1,21 @@
 -- What reading a price list gives (02, A3), as equations. Assumes nothing: these are definitions.
-use Rattle.std.specs.Prelude.{◌≡◌, cond, List, ℕ, ◌*◌, ◌/◌, ◌%◌, eqb, length, get_or}
+use Rattle.std.specs.Prelude.{◌≡◌, cond, List, ℕ, ◌*◌, ◌/◌, ◌%◌, eqb, length, get_or, Result, Ok, Err, unwrap_or}
 use Rattle.base.specs.Lists.{tabulate, in_front}
 use Rattle.instance.specs.Instance.{cell}
+use Rattle.instance.specs.RefusalNumbers.{refusal_number}
 use Rattle.price_format.specs.Reading.{read_list, prices_of, room_refusal}
 use Rattle.price_list.specs.Lines.{TableOf}
-use Rattle.price_list.specs.declared.read.PricesRead.{PricesRead}
+use Rattle.price_list.specs.declared.read.Refused.{Refused}
+
+-- 0, or the refusal of a list; of a faulty line also which it is, counted from 1, and 0 otherwise
+pub record PricesRead : Type 0 where
+  pub answer : ℕ
+  pub line : ℕ
+
+-- what a call tells
+abbrev pub reading_told : {A : Type 0} → Result A Refused → PricesRead
+reading_told (Ok _) = record { answer = 0; line = 0 }
+reading_told (Err e) = record { answer = refusal_number e.refusal; line = unwrap_or e.line 0 }
 
 -- the n times n weights of a table, tail by tail
 unfoldable pub dense : (n : ℕ) → (table : List ℕ) → List ℕ

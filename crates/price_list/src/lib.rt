@@ -8,8 +8,8 @@ pub mod read; // read.rt: a whole list read
 pub mod write; // write.rt: a list written
 pub mod room; // room.rt: the count, the root, and whether there are enough words for the prices
 
-pub use read::{PricesRead, read_prices};
-pub use write::{ListWritten, write_prices};
+pub use read::{Refused, read_prices};
+pub use write::write_prices;
 
 // A price list has at most 961 lines, of at most 14 bytes: two positions of two digits, a price of seven, two spaces
 // and a line feed.

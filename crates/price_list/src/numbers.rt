@@ -14,10 +14,9 @@ pub struct Digits {
     pub end: usize,
 }
 
-// Whether a number and its separator stand at a place; if so, the number, at most CAP, and the place after them.
+// A number, at most CAP, and the place after it and its separator.
 #[derive(Clone, Copy)]
 pub struct Number {
-    pub good: bool,
     pub value: u32,
     pub next: usize,
 }
@@ -74,29 +73,24 @@ fn is_number(text: &[u8], at: usize, end: usize) -> bool
     text[at] != b'0'
 }
 
-pub fn read_number(text: &[u8], at: usize, separator: u8) -> Number
+// The number at a place, if one stands there with its separator behind it.
+pub fn read_number(text: &[u8], at: usize, separator: u8) -> Option<Number>
     requires { (at ≤ length text.now) × (1 ≤ separator) }
     ensures { ReadsNumber text.now at separator result }
 {
-    let bad = Number {
-        good: false,
-        value: 0,
-        next: at,
-    };
     let digits = scan_digits(text, at);
     let end = digits.end;
     if !is_number(text, at, end) {
-        return bad;
+        return None;
     }
     if end == text.len() {
-        return bad;
+        return None;
     }
     if text[end] != separator {
-        return bad;
+        return None;
     }
-    Number {
-        good: true,
+    Some(Number {
         value: digits.value,
         next: end + 1,
-    }
+    })
 }

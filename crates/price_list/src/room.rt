@@ -1,34 +1,32 @@
 // The count of vertices and the root, and whether there are enough words for the prices.
 ghost use Rattle.std.specs.Prelude.{◌≡◌};
+ghost use Rattle.instance.specs.RefusalNumbers.{answer_of};
 ghost use Rattle.price_format.specs.Reading.{count_refusal, room_refusal};
 
 use instance::limits::MAX_VERTICES;
-use instance::refusals::{BAD_COUNT, BAD_ROOT, BUFFER_SHORT};
+use instance::refusals::Refusal;
 
-pub fn count_answer(n: u32, root: u32) -> u32
-    ensures { result ≡ count_refusal n root }
+pub fn check_count(n: u32, root: u32) -> Result<(), Refusal>
+    ensures { answer_of result ≡ count_refusal n root }
 {
     if n == 0 {
-        return BAD_COUNT;
+        return Err(Refusal::BadCount);
     }
     if MAX_VERTICES < n {
-        return BAD_COUNT;
+        return Err(Refusal::BadCount);
     }
     if n <= root {
-        return BAD_ROOT;
+        return Err(Refusal::BadRoot);
     }
-    0
+    Ok(())
 }
 
-pub fn room_answer(n: u32, root: u32, words: usize) -> u32
-    ensures { result ≡ room_refusal n root words }
+pub fn check_room(n: u32, root: u32, words: usize) -> Result<(), Refusal>
+    ensures { answer_of result ≡ room_refusal n root words }
 {
-    let answer = count_answer(n, root);
-    if answer != 0 {
-        return answer;
-    }
+    check_count(n, root)?;
     if words < (n * n) as usize {
-        return BUFFER_SHORT;
+        return Err(Refusal::BufferShort);
     }
-    0
+    Ok(())
 }

@@ -2,24 +2,18 @@
 ghost use Rattle.std.specs.Prelude.{◌≡◌, ◌*◌, ◌≤◌, ◌<◌, length};
 ghost use Rattle.base.specs.Bounded.{all_below};
 ghost use Rattle.instance.specs.Limits.{max_vertices};
+ghost use Rattle.instance.specs.RefusalNumbers.{answer_of};
 ghost use Rattle.text.specs.Buffer.{Room, Puts};
 ghost use Rattle.price_format.specs.Writing.{price_at, is_written, place_text, list_text, place_ok, prices_refusal};
-ghost use Rattle.price_list.specs.Writes.{Writes};
+ghost use Rattle.price_list.specs.Writes.{writing_told, Writes};
 
-use crate::room::room_answer;
+use crate::room::check_room;
 use checks::arc::can_be_arc;
 use instance::Vertex;
 use instance::limits::{MAX_WEIGHT, NO_ARC};
-use instance::refusals::{BUFFER_SHORT, WEIGHT_TOO_HIGH};
+use instance::refusals::Refusal;
 use text::decimal::decimal_length;
 use text::lines::put_three;
-
-// 0 and the length of the text, or the refusal and 0.
-#[derive(Clone, Copy)]
-pub struct ListWritten {
-    pub answer: u32,
-    pub length: usize,
-}
 
 // Whether a place has a line.
 fn is_written(n: u32, root: u32, k: u32, price: u32) -> bool
@@ -46,9 +40,7 @@ fn places_ok(prices: &[u32], n: u32, root: u32) -> bool
     requires { (1 ≤ n) × (n ≤ max_vertices) × (n * n ≤ length prices.now) }
     ensures { result ≡ all_below (n * n) (λ i. place_ok n root i (price_at prices.now i)) }
 {
-    let mut k = n * n;
-    while 0 < k {
-        k -= 1;
+    for k in (0..n * n).rev() {
         if !place_ok(n, root, k, prices[k as usize]) {
             return false;
         }
@@ -56,18 +48,14 @@ fn places_ok(prices: &[u32], n: u32, root: u32) -> bool
     true
 }
 
-// 0, or the refusal of the prices.
-fn prices_answer(prices: &[u32], n: u32, root: u32) -> u32
-    ensures { result ≡ prices_refusal n root prices.now }
+fn check_prices(prices: &[u32], n: u32, root: u32) -> Result<(), Refusal>
+    ensures { answer_of result ≡ prices_refusal n root prices.now }
 {
-    let answer = room_answer(n, root, prices.len());
-    if answer != 0 {
-        return answer;
-    }
+    check_room(n, root, prices.len())?;
     if places_ok(prices, n, root) {
-        return 0;
+        return Ok(());
     }
-    WEIGHT_TOO_HIGH
+    Err(Refusal::WeightTooHigh)
 }
 
 // How long the line of a place is; 0 if it has none.
@@ -87,10 +75,8 @@ fn list_length(prices: &[u32], n: u32, root: u32) -> usize
 {
     let total = n * n;
     let mut sum = 0;
-    let mut k = 0;
-    while k < total {
+    for k in 0..total {
         sum += place_length(n, root, k, prices[k as usize]);
-        k += 1;
     }
     sum
 }
@@ -110,31 +96,22 @@ fn put_list(prices: &[u32], n: u32, root: u32, out: &mut [u8]) -> usize
     ensures { Puts (list_text n root prices.now) out.old out.new 0 result }
 {
     let total = n * n;
-    let mut k = 0;
     let mut at = 0;
-    while k < total {
+    for k in 0..total {
         at = put_place(n, root, k, prices[k as usize], out, at);
-        k += 1;
     }
     at
 }
 
-// Writes the prices as a list; bytes behind it stay.
-pub fn write_prices(prices: &[u32], n: u32, root: Vertex, out: &mut [u8]) -> ListWritten
-    ensures { Writes prices.now n root.0 out.old out.new result }
+// Writes the prices as a list and gives its length; bytes behind it stay.
+pub fn write_prices(prices: &[u32], n: u32, root: Vertex, out: &mut [u8]) -> Result<usize, Refusal>
+    ensures { Writes prices.now n root.0 out.old out.new (writing_told result) }
 {
-    let root_vertex = root.0;
-    let answer = prices_answer(prices, n, root_vertex);
-    if answer != 0 {
-        return ListWritten { answer, length: 0 };
-    }
-    let length = list_length(prices, n, root_vertex);
+    check_prices(prices, n, root.0)?;
+    let length = list_length(prices, n, root.0);
     if out.len() < length {
-        return ListWritten {
-            answer: BUFFER_SHORT,
-            length: 0,
-        };
+        return Err(Refusal::BufferShort);
     }
-    put_list(prices, n, root_vertex, out);
-    ListWritten { answer: 0, length }
+    put_list(prices, n, root.0, out);
+    Ok(length)
 }

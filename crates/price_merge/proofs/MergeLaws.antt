@@ -1,7 +1,7 @@
 -- Two lists that were read: what stands in their buffers, what is written of the rows used, and the three ways out of
 -- the call. Assumes nothing.
 use mathlib.Core.Path.{◌≡◌, refl, sym, ap, ◌∙◌}
-use mathlib.Core.Bool.{Bool, true, false, ◌||◌, cond}
+use mathlib.Core.Bool.{Bool, true, false, ◌||◌, cond, true≢false}
 use mathlib.Core.List.{List, ◌++◌}
 use mathlib.Core.Logic.{◌≢◌}
 use Prim.Native.Nat.{ℕ, ◌*◌, ◌/◌, ◌%◌, ◌≤◌, ◌<◌}
@@ -9,6 +9,7 @@ use native.Mathlib.Omega.{arith}
 use lib.Dec.{leb, eqb}
 use lib.ListN.{length, drop, length-append, get_or-append}
 use borrow.Author.Tests.{eqb-true, le-ltb, ne_eqb}
+use Rattle.std.specs.Prelude.{Result, Ok, Err, MatchResult, is_ok, IsErrAnd}
 use Rattle.base.specs.Bounded.{all_below}
 use Rattle.base.specs.Lists.{all_of, in_front}
 use Rattle.base.proofs.AllOfLaws.{all_of_tabulate}
@@ -20,17 +21,19 @@ use Rattle.instance.specs.Limits.{max_vertices, max_weight, no_arc, cells}
 use Rattle.price_format.specs.Reading.{weight_named, prices_of, read_list, room_refusal}
 use Rattle.price_format.specs.Writing.{price_at, place_text, list_text, place_ok, prices_refusal, write_refusal}
 use Rattle.price_format.proofs.ReadingLaws.{list_sound, sound_ok}
-use Rattle.price_list.specs.Reads.{read_result, Reads}
-use Rattle.price_list.specs.Writes.{write_result}
+use Rattle.price_list.specs.Reads.{PricesRead, reading_told, read_result, Reads}
+use Rattle.price_list.specs.Writes.{ListWritten, writing_told, write_result}
 use Rattle.price_list.proofs.RoomLaws.{room_count, count_small}
-use Rattle.price_list.specs.declared.read.PricesRead.{PricesRead}
-use Rattle.price_list.specs.declared.write.ListWritten.{ListWritten}
 use Rattle.text.specs.Buffer.{Room, Puts}
 use Rattle.text.proofs.BufferLaws.{puts_filled}
 use Rattle.price_row.specs.Row.{price_ok}
+use Rattle.instance.specs.declared.refusals.Refusal.{Refusal}
+use Rattle.price_list.specs.declared.read.Refused.{Refused}
+use Rattle.instance.proofs.RefusalLaws.{not_0}
+use Rattle.price_merge.specs.declared.merge.MergeRefused.{MergeRefused}
+use Rattle.price_merge.specs.declared.merge.MergeRefused.TheVariants.{School, Shipped, Merged}
 use Rattle.price_merge.specs.Rows.{rows_used}
-use Rattle.price_merge.specs.Merge.{prices_in, merged_prices, merged_text, merged, Merges}
-use Rattle.price_merge.specs.declared.merge.ListsMerged.{ListsMerged}
+use Rattle.price_merge.specs.Merge.{ListsMerged, merging_told, prices_in, merged_prices, merged_text, merged, Merges}
 use Rattle.price_merge.proofs.RowsLaws.{rows_whole, rows_front}
 
 -- PRICES WRITTEN: words behind them do not count
@@ -147,6 +150,28 @@ module _ {a : List ℕ} (b : List ℕ) {n r : ℕ} (old : List ℕ) {own_before 
           let q : used ≡ ps ++ rest = (puts_filled u).buffer ∙ rw rows_are in
           let k : v ≡ write_result ps n r (length old) = g ∙ rw q (write_front n r ps rest whole (length old)) in
           record { result = rw (← first, ← second, z, w, ← k); buffer = h ∙ rw q (rw (text_front n r ps rest whole)) }
+
+-- WHAT THE CALLS TELL
+module _ {A : Type 0} where
+  pub read_ok_told : (x : Result A Refused) → true ≡ is_ok x → (reading_told x).answer ≡ 0
+  read_ok_told (Ok a) e = refl
+  read_ok_told (Err d) e = absurd (true≢false e)
+
+  pub school_told : (x : Result A Refused) (d : MergeRefused) → MatchResult x (λ a. Err d ≡ Ok a) (λ e. d ≡ School e)
+      → ((reading_told x).answer ≢ 0) × (merging_told (Err d) ≡ record { answer = (reading_told x).answer; list = 1; line = (reading_told x).line; length = 0 })
+  school_told (Ok a) d p = absurd (true≢false (sym (ap is_ok p)))
+  school_told (Err e) d p = (not_0 e.refusal, ap (λ (m : MergeRefused). merging_told (Err m)) p)
+
+  pub shipped_told : (x : Result A Refused) (d : MergeRefused) → MatchResult x (λ a. Err d ≡ Ok a) (λ e. d ≡ Shipped e)
+      → ((reading_told x).answer ≢ 0) × (merging_told (Err d) ≡ record { answer = (reading_told x).answer; list = 2; line = (reading_told x).line; length = 0 })
+  shipped_told (Ok a) d p = absurd (true≢false (sym (ap is_ok p)))
+  shipped_told (Err e) d p = (not_0 e.refusal, ap (λ (m : MergeRefused). merging_told (Err m)) p)
+
+pub written_told : (w : Result ℕ Refusal) (y : Result ℕ MergeRefused) → MatchResult w (λ x. y ≡ Ok x) (λ e. IsErrAnd y (λ d. d ≡ Merged e))
+    → merging_told y ≡ record { answer = (writing_told w).answer; list = 0; line = 0; length = (writing_told w).length }
+written_told (Ok k) y p = ap merging_told p
+written_told (Err r) (Ok k) p = absurd p
+written_told (Err r) (Err d) p = ap (λ (m : MergeRefused). merging_told (Err m)) p
 
 -- the list lies within the buffer
 pub merged_within : (a b : List ℕ) (n r : ℕ) (old new : List ℕ) (x : ListsMerged) → Merges a b n r old new x → x.length ≤ length new

@@ -1,15 +1,32 @@
 -- What merging two price lists as text gives, as equations: the school's own list (02, A12) and the shipped one, each
 -- read as A3 has it, and the list of the rows that are used written. Assumes nothing: these are definitions.
-use Rattle.std.specs.Prelude.{◌≡◌, Bool, cond, List, ℕ, eqb, length}
+use Rattle.std.specs.Prelude.{◌≡◌, Bool, cond, List, ℕ, eqb, length, Result, Ok, Err, unwrap_or}
 use Rattle.base.specs.Lists.{any_of, in_front}
 use Rattle.instance.specs.Limits.{cells}
+use Rattle.instance.specs.RefusalNumbers.{refusal_number}
 use Rattle.price_format.specs.Lines.{Line}
 use Rattle.price_format.specs.Reading.{read_list, prices_of}
 use Rattle.price_format.specs.Writing.{list_text}
 use Rattle.price_list.specs.Reads.{read_result}
 use Rattle.price_list.specs.Writes.{write_result}
 use Rattle.price_merge.specs.Rows.{rows_used}
-use Rattle.price_merge.specs.declared.merge.ListsMerged.{ListsMerged}
+use Rattle.price_merge.specs.declared.merge.MergeRefused.{MergeRefused}
+use Rattle.price_merge.specs.declared.merge.MergeRefused.TheVariants.{School, Shipped, Merged}
+
+-- 0 and the length of the list; or the refusal, and of a faulty line which it is, counted from 1, and in which list: 1
+-- the school's, 2 the shipped one
+pub record ListsMerged : Type 0 where
+  pub answer : ℕ
+  pub list : ℕ
+  pub line : ℕ
+  pub length : ℕ
+
+-- what a call tells
+abbrev pub merging_told : Result ℕ MergeRefused → ListsMerged
+merging_told (Ok k) = record { answer = 0; list = 0; line = 0; length = k }
+merging_told (Err (School e)) = record { answer = refusal_number e.refusal; list = 1; line = unwrap_or e.line 0; length = 0 }
+merging_told (Err (Shipped e)) = record { answer = refusal_number e.refusal; list = 2; line = unwrap_or e.line 0; length = 0 }
+merging_told (Err (Merged r)) = record { answer = refusal_number r; list = 0; line = 0; length = 0 }
 
 -- the prices of a list
 abbrev pub prices_in : (n root : ℕ) → (text : List ℕ) → List ℕ

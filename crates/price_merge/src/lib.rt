@@ -4,4 +4,4 @@
 mod merge; // merge.rt: the call
 mod rows; // rows.rt: the rows that are used, one behind the other
 
-pub use merge::{ListsMerged, merge_lists};
+pub use merge::{MergeRefused, merge_lists};

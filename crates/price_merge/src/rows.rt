@@ -10,14 +10,9 @@ fn put_row(row: &[u32], out: &mut [u32], at: usize) -> usize
     requires { Room row.now out.old at }
     ensures { Puts row.now out.old out.new at result }
 {
-    let mut i = 0;
-    let mut next = at;
-    while i < row.len() {
-        out[next] = row[i];
-        next += 1;
-        i += 1;
-    }
-    next
+    let end = at + row.len();
+    out[at..end].copy_from_slice(row);
+    end
 }
 
 // The row of each tail, one behind the other; gives the place after the last.
@@ -26,12 +21,10 @@ pub fn put_rows<'a>(school: &'a [u32], shipped: &'a [u32], n: u32, out: &mut [u3
     ensures { Puts (rows_used n school.now shipped.now) out.old out.new 0 result }
 {
     let mut answer: u32 = 0;
-    let mut tail: u32 = 0;
     let mut next: usize = 0;
-    while tail < n {
+    for tail in 0..n {
         let row = row_used(school, shipped, n, Vertex(tail), &mut answer);
         next = put_row(row, out, next);
-        tail += 1;
     }
     next
 }

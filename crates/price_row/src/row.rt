@@ -14,28 +14,14 @@ use instance::refusals::{BUFFER_SHORT, COUNT_OUT_OF_RANGE, NO_VERTEX, OUT_OF_RAN
 pub fn has_price(row: &[u32]) -> bool
     ensures { result ≡ has_price row.now }
 {
-    let mut i = 0;
-    while i < row.len() {
-        if row[i] != NO_ARC {
-            return true;
-        }
-        i += 1;
-    }
-    false
+    row.iter().any(|w| *w != NO_ARC)
 }
 
 // Whether every number of the row is a price or "no link", which is what a cell without a mark may hold.
 fn row_ok(row: &[u32]) -> bool
     ensures { result ≡ row_ok row.now }
 {
-    let mut i = 0;
-    while i < row.len() {
-        if !cell_ok(row[i], FREE) {
-            return false;
-        }
-        i += 1;
-    }
-    true
+    row.iter().all(|w| cell_ok(*w, FREE))
 }
 
 // The refusals that look at no price; of the two lists the lengths are enough.
@@ -76,8 +62,8 @@ fn chosen_row<'a>(school: &'a [u32], shipped: &'a [u32], n: u32, tail: u32) -> &
     &shipped[start..end]
 }
 
-// The number goes into `answer`, and 0 with a row: a struct that held both would hold a reference, and every function
-// that has one is proved by hand.
+// The number goes into `answer`, and 0 with a row. No `Result`: 02 has a refusal hand back a part too, the empty one at
+// the start of the shipped list (A12).
 pub fn row_used<'a>(
     school: &'a [u32],
     shipped: &'a [u32],

@@ -1,6 +1,7 @@
 -- One step of the search: the nearest vertex picked, and its neighbours joined to it. Assumes nothing.
 use mathlib.Core.Path.{◌≡◌, refl, sym, ◌∙◌}
 use mathlib.Core.Bool.{Bool, true, false, cond}
+use Rattle.std.specs.Prelude.{Option, None, Some}
 use mathlib.Core.List.{List}
 use mathlib.Core.Logic.{◌⊎◌, inl, inr}
 use Prim.Native.Nat.{ℕ, ◌+◌, ◌≤◌, ◌<◌}
@@ -13,43 +14,40 @@ use borrow.Author.Tests.{ltb-true, ltb-false}
 use Rattle.base.proofs.BoolLaws.{test}
 use Rattle.instance.specs.Limits.{max_vertices}
 use Rattle.spanning.specs.Keys.{no_key}
-use Rattle.prim.specs.Growth.{outside_key, TailsBelow, PickedBelow, is_closer, JoinedBelow}
+use Rattle.prim.specs.Growth.{outside_key, TailsBelow, HasLeast, PickedBelow, is_closer, JoinedBelow}
 
 -- THE NEAREST VERTEX
-module _ (ks fs ps : List ℕ) (n : ℕ) where
-  pub picked_first : PickedBelow ks fs ps n 0 n (no_key + 1)
-  picked_first = record { most = omega arith; least_of = λ w l. absurd (omega arith); some = λ l. absurd (omega arith); none = λ _. refl }
+module _ (ks : List ℕ) (fs : List Bool) (ps : List ℕ) where
+  pub picked_first : PickedBelow ks fs ps 0 None (no_key + 1)
+  picked_first = record { most = omega arith; least_of = λ w l. absurd (omega arith); held = omega arith }
 
-  module _ (v best least key : ℕ) (p : PickedBelow ks fs ps n v best least) (e : key ≡ outside_key ks fs ps v) where
-    pub picked_nearer : key < least → PickedBelow ks fs ps n (v + 1) v key
+  module _ (v : ℕ) (best : Option ℕ) (least key : ℕ) (p : PickedBelow ks fs ps v best least) (e : key ≡ outside_key ks fs ps v) where
+    pub picked_nearer : key < least → PickedBelow ks fs ps (v + 1) (Some v) key
     picked_nearer l =
         let m = p.most in
         record {
           most = omega arith;
           least_of = λ w b. at w b (ℕ_discrete w v);
-          some = λ _. (omega arith, sym e);
-          none = λ h. absurd (omega arith);
+          held = (omega arith, omega arith, sym e);
         }
       where
         at : (w : ℕ) → w < v + 1 → Dec (w ≡ v) → key ≤ outside_key ks fs ps w
         at w b (yes z) = rw (z, ← e) (omega arith)
         at w b (no z) = let q = p.least_of w (omega arith) in omega arith
 
-    pub picked_farther : least ≤ key → PickedBelow ks fs ps n (v + 1) best least
-    picked_farther l =
-        record {
-          most = p.most;
-          least_of = λ w b. at w b (ℕ_discrete w v);
-          some = λ h. let q = p.some h in (omega (arith, q.0), q.1);
-          none = p.none;
-        }
+    pub picked_farther : least ≤ key → PickedBelow ks fs ps (v + 1) best least
+    picked_farther l = record { most = p.most; least_of = λ w b. at w b (ℕ_discrete w v); held = still best p.held }
       where
         at : (w : ℕ) → w < v + 1 → Dec (w ≡ v) → least ≤ outside_key ks fs ps w
         at w b (yes z) = rw (z, ← e) l
         at w b (no z) = p.least_of w (omega arith)
 
+        still : (o : Option ℕ) → HasLeast ks fs ps v least o → HasLeast ks fs ps (v + 1) least o
+        still None h = h
+        still (Some w) h = (h.0, omega (arith, h.1), h.2)
+
 -- ITS NEIGHBOURS
-module _ (ks fs : List ℕ) (v : ℕ) where
+module _ (ks : List ℕ) (fs : List Bool) (v : ℕ) where
   pub closer_same : (old new : List ℕ) (w : ℕ) → get_or new w 0 ≡ get_or old w 0 → is_closer ks fs new v w ≡ is_closer ks fs old v w
   unfolding is_closer
   closer_same old new w e = rw e

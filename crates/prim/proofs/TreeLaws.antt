@@ -1,7 +1,8 @@
 -- A tree as a program reads it, that it is a cheapest one with all pins or none is, and its total. Assumes nothing.
 use mathlib.Core.Path.{◌≡◌, refl, sym, ◌∙◌}
-use mathlib.Core.Bool.{true, false, ◌||◌, cond, true≢false}
+use mathlib.Core.Bool.{true, false, ◌||◌, cond}
 use mathlib.Core.List.{List}
+use Rattle.std.specs.Prelude.{None, Some}
 use mathlib.Core.Logic.{◌≢◌}
 use Prim.Native.Nat.{ℕ, ◌+◌, ◌*◌, ◌/◌, ◌%◌, ◌≤◌, ◌<◌}
 use native.Mathlib.Omega.{arith}
@@ -29,10 +30,8 @@ use Rattle.spanning.proofs.SpansLaws.{pins_kept, keep_pins}
 use Rattle.spanning.proofs.KeyTableLaws.{zero_kept}
 use Rattle.spanning.proofs.GrowthLaws.{grown_cheapest, grown_none}
 use Rattle.spanning.proofs.CostLaws.{tree_allowed}
-use Rattle.prim.specs.Growth.{Grows}
+use Rattle.prim.specs.Growth.{GrownTree}
 use Rattle.prim.specs.Tree.{zero_at, Finds, edge_cost, Summable}
-use Rattle.prim.specs.Place.{Placed}
-use Rattle.prim.proofs.PlaceLaws.{row_is, column_is}
 use Rattle.prim.proofs.KeysLaws.{weight_read}
 
 -- THE EDGES OF A TREE
@@ -67,56 +66,43 @@ module _ (ks : List ℕ) (n : ℕ) (ps : List ℕ) where
   pub zeros_first : Zeros ks n ps 0
   zeros_first q l = absurd (omega arith)
 
-  pub zeros_more : (k i j : ℕ) → Placed n k i j → Zeros ks n ps k → zero_at ks ps i j ≡ true → Zeros ks n ps (k + 1)
-  zeros_more k i j p z e q l = at (ℕ_discrete q k)
+  pub zeros_more : (k : ℕ) → Zeros ks n ps k → zero_at ks ps (k / n) (k % n) ≡ true → Zeros ks n ps (k + 1)
+  zeros_more k z e q l = at (ℕ_discrete q k)
     where
       at : Dec (q ≡ k) → zero_at ks ps (q / n) (q % n) ≡ true
-      at (yes s) = rw (s, row_is n k i j p, column_is n k i j p) e
+      at (yes s) = rw s e
       at (no s) = z q (omega arith)
 
-  pub zeros_fail : (k i j : ℕ) → Placed n k i j → k < n * n → zero_at ks ps i j ≡ false → false ≡ keeps_zero ks n ps
+  pub zeros_fail : (k : ℕ) → k < n * n → zero_at ks ps (k / n) (k % n) ≡ false → false ≡ keeps_zero ks n ps
   unfolding keeps_zero zero_at
-  zeros_fail k i j p l e =
+  zeros_fail k l e =
       sym (is_false (all_below (n * n) (λ q. zero_at ks ps (q / n) (q % n)))
-      (λ a. not_both (zero_at ks ps i j) (rw (row_is n k i j p, column_is n k i j p) at (all_at (n * n) (λ q. zero_at ks ps (q / n) (q % n)) k l a)) e))
+      (λ a. not_both (zero_at ks ps (k / n) (k % n)) (all_at (n * n) (λ q. zero_at ks ps (q / n) (q % n)) k l a) e))
 
   pub zeros_all : (k : ℕ) → n * n ≤ k → Zeros ks n ps k → true ≡ keeps_zero ks n ps
   unfolding keeps_zero zero_at
   zeros_all k l z = sym (all_intro (n * n) (λ q. zero_at ks ps (q / n) (q % n)) (λ q b. z q (omega arith)))
 
 -- WHAT IS FOUND
-module _ (ks : List ℕ) (n : ℕ) (small : n ≤ max_vertices) (ps : List ℕ) where
-  pub finds_nothing : Grows ks n false ps → Finds ks n false (replicate max_vertices no_parent)
-  finds_nothing t = record { places = refl; tree = λ e. absurd (true≢false (sym e)); none = t.none; empty = λ _. refl }
+module _ (ks : List ℕ) (n : ℕ) (small : n ≤ max_vertices) (ps : List ℕ) (t : GrownTree ks n ps) where
+  size_of : (g : Graph) → KeysOf g n ks → length (take n ps) ≡ g.n
+  size_of g k = let c = k.count in let p = t.places in length-take n ps ∙ omega arith
 
-  module _ (t : Grows ks n true ps) where
-    size_of : (g : Graph) → KeysOf g n ks → length (take n ps) ≡ g.n
-    size_of g k = let c = k.count in let p = t.places in length-take n ps ∙ omega arith
+  pub finds_tree : keeps_zero ks n (take n ps) ≡ true → Finds ks n (Some ps)
+  finds_tree e =
+      record {
+        places = t.places;
+        cheapest =
+            λ g k.
+            let w = t.tree g k in
+            grown_cheapest g k.valid w.inside (take n ps) (size_of g k) w.grown w.all (pins_kept g 0 (take n ps) (sym (zero_kept g n ks k (take n ps)) ∙ e));
+      }
 
-    pub finds_tree : keeps_zero ks n (take n ps) ≡ true → Finds ks n true ps
-    finds_tree e =
-        record {
-          places = t.places;
-          tree =
-              λ _ g k.
-              let w = t.tree refl g k in
-              grown_cheapest g k.valid w.inside (take n ps) (size_of g k) w.grown w.all (pins_kept g 0 (take n ps) (sym (zero_kept g n ks k (take n ps)) ∙ e));
-          none = λ x. absurd (true≢false x);
-          empty = λ x. absurd (true≢false x);
-        }
-
-    pub finds_pin_missing : keeps_zero ks n (take n ps) ≡ false → Finds ks n false (replicate max_vertices no_parent)
-    finds_pin_missing e =
-        record {
-          places = refl;
-          tree = λ x. absurd (true≢false (sym x));
-          none =
-              λ _ g k.
-              let w = t.tree refl g k in
-              grown_none g k.valid w.inside (take n ps) (size_of g k) w.grown w.all
-              (λ all. not_both (keeps_pins g (take n ps)) (keep_pins g 0 (take n ps) all) (sym (zero_kept g n ks k (take n ps)) ∙ e));
-          empty = λ _. refl;
-        }
+  pub finds_pin_missing : keeps_zero ks n (take n ps) ≡ false → Finds ks n None
+  finds_pin_missing e g k =
+      let w = t.tree g k in
+      grown_none g k.valid w.inside (take n ps) (size_of g k) w.grown w.all
+      (λ all. not_both (keeps_pins g (take n ps)) (keep_pins g 0 (take n ps) all) (sym (zero_kept g n ks k (take n ps)) ∙ e))
 
 -- ITS TOTAL
 zero_cost : (ws ps : List ℕ) (n v : ℕ) → v ≡ 0 → edge_cost ws ps n v ≡ 0

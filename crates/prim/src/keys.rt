@@ -16,14 +16,11 @@ fn edge_key(weights: &[u32], marks: &[u8], n: u32, i: u32, j: u32) -> u32
     ensures { result ≡ edge_key (graph_of n weights.now marks.now) i j }
 {
     let place = (i * n + j) as usize;
-    let mark = marks[place];
-    if mark == PINNED {
-        return 0;
+    match marks[place] {
+        PINNED => 0,
+        BANNED => NO_KEY,
+        _ => weights[place] + 1,
     }
-    if mark == BANNED {
-        return NO_KEY;
-    }
-    weights[place] + 1
 }
 
 // The key in a cell of the table.
@@ -33,16 +30,10 @@ fn cell_key(weights: &[u32], marks: &[u8], n: u32, c: u32) -> u32
 {
     let i = c / 32;
     let j = c % 32;
-    if n <= i {
-        return NO_KEY;
+    if i < n && j < n && i != j {
+        return edge_key(weights, marks, n, i, j);
     }
-    if n <= j {
-        return NO_KEY;
-    }
-    if i == j {
-        return NO_KEY;
-    }
-    edge_key(weights, marks, n, i, j)
+    NO_KEY
 }
 
 pub fn key_table(weights: &[u32], marks: &[u8], n: u32) -> [u32; CELLS]
@@ -50,10 +41,8 @@ pub fn key_table(weights: &[u32], marks: &[u8], n: u32) -> [u32; CELLS]
     ensures { result ≡ key_table (graph_of n weights.now marks.now) }
 {
     let mut table = [0u32; CELLS];
-    let mut c: usize = 0;
-    while c < CELLS {
+    for c in 0..CELLS {
         table[c] = cell_key(weights, marks, n, c as u32);
-        c += 1;
     }
     table
 }

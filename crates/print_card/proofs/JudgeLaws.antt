@@ -10,11 +10,14 @@ use lib.ListN.{length, get_or, take, length-take}
 use borrow.Author.Tests.{eq-eqb, ne_eqb, lt-ltb, le-ltb}
 use Rattle.base.specs.Bounded.{sum_below, count_below}
 use Rattle.text.specs.Lines.{line_feed}
-use Rattle.price_card.specs.ToCard.{made, MakesCard}
-use Rattle.price_card.specs.declared.to_card.CardMade.{CardMade}
+use Rattle.std.specs.Prelude.{Result, Ok, Err, MatchResult, is_ok, IsErrAnd}
+use Rattle.price_list.specs.declared.read.Refused.{Refused}
+use Rattle.instance.proofs.RefusalLaws.{not_0}
+use Rattle.price_card.specs.ToCard.{CardMade, making_told, made, MakesCard}
 use Rattle.price_card.proofs.ToCardLaws.{made_within}
-use Rattle.print_card.specs.declared.judge.Judged.{Judged}
-use Rattle.print_card.specs.Judge.{max_read, line_end, line_feeds, judged_part, judged, Judges}
+use Rattle.print_card.specs.declared.judge.InputRefused.{InputRefused}
+use Rattle.print_card.specs.declared.judge.InputRefused.TheVariants.{List as Listed}
+use Rattle.print_card.specs.Judge.{Judged, judging_told, max_read, line_end, line_feeds, judged_part, judged, Judges}
 
 pub taken_most : (k m : ℕ) (l : List ℕ) → k ≤ length l → length l ≡ m → length (take k l) ≤ m
 taken_most k m l h e = let q = length-take k l in omega arith
@@ -91,6 +94,21 @@ module _ (t : List ℕ) (n r b : ℕ) (old new : List ℕ) (m : CardMade) where
     unfolding judged judged_part
     part_accepted z l q =
         record { result = rw (more, ← x.result, eq-eqb m.answer 0 z, q); card = λ e. absurd (true≢false e) }
+
+-- WHAT THE CALLS TELL
+pub list_told : (m : Result ℕ Refused) (y : Result ℕ InputRefused) → MatchResult m (λ x. y ≡ Ok x) (λ e. IsErrAnd y (λ d. d ≡ Listed e))
+    → judging_told y ≡ record { long = false; answer = (making_told m).answer; line = (making_told m).line; length = (making_told m).length }
+list_told (Ok k) y p = ap judging_told p
+list_told (Err e) (Ok k) p = absurd p
+list_told (Err e) (Err d) p = ap (λ (x : InputRefused). judging_told (Err x)) p
+
+pub made_ok : (m : Result ℕ Refused) → true ≡ is_ok m → (making_told m).answer ≡ 0
+made_ok (Ok k) e = refl
+made_ok (Err d) e = absurd (true≢false e)
+
+pub made_err : (m : Result ℕ Refused) → false ≡ is_ok m → (making_told m).answer ≡ 0 → ⊥
+made_err (Ok k) e = absurd (true≢false (sym e))
+made_err (Err d) e = not_0 d.refusal
 
 -- the card lies within the buffer
 pub judged_within : (t : List ℕ) (n r b : ℕ) (old new : List ℕ) (j : Judged) → Judges t n r b old new j → j.long ≡ false → j.length ≤ length new

@@ -1,10 +1,26 @@
 -- What is answered of an input that may be longer than a price list can be. Assumes nothing: these are definitions.
-use Rattle.std.specs.Prelude.{◌≡◌, true, false, ◌&&◌, cond, List, ℕ, zero, suc, ◌+◌, ltb, eqb, length, get_or, take}
+use Rattle.std.specs.Prelude.{◌≡◌, Bool, true, false, ◌&&◌, cond, List, ℕ, zero, suc, ◌+◌, ltb, eqb, length, get_or, take, Result, Ok, Err, unwrap_or}
 use Rattle.base.specs.Bounded.{count_below}
 use Rattle.base.specs.Lists.{in_front}
+use Rattle.instance.specs.RefusalNumbers.{refusal_number}
 use Rattle.text.specs.Lines.{line_feed}
 use Rattle.price_card.specs.ToCard.{made, card_listed}
-use Rattle.print_card.specs.declared.judge.Judged.{Judged}
+use Rattle.print_card.specs.declared.judge.InputRefused.{InputRefused}
+use Rattle.print_card.specs.declared.judge.InputRefused.TheVariants.{List as Listed, LongLine}
+
+-- what came of an input: as for a list; or its first whole lines are a list, and `line`, which follows them, is too
+-- long for a line
+pub record Judged : Type 0 where
+  pub long : Bool
+  pub answer : ℕ
+  pub line : ℕ
+  pub length : ℕ
+
+-- what a call tells
+abbrev pub judging_told : Result ℕ InputRefused → Judged
+judging_told (Ok k) = record { long = false; answer = 0; line = 0; length = k }
+judging_told (Err (Listed e)) = record { long = false; answer = refusal_number e.refusal; line = unwrap_or e.line 0; length = 0 }
+judging_told (Err (LongLine l)) = record { long = true; answer = 0; line = l; length = 0 }
 
 -- so many bytes are judged
 abbrev pub max_read : ℕ

@@ -3,22 +3,21 @@
 // proofs/PartLaws.antt). If they are accepted, the line behind them is longer than any line of a list.
 ghost use Rattle.std.specs.Prelude.{◌≡◌, cond, ◌+◌, ◌≤◌, eqb, length};
 ghost use Rattle.text.specs.Lines.{line_feed};
-ghost use Rattle.print_card.specs.Judge.{max_read, line_end, line_feeds, Judges};
+ghost use Rattle.print_card.specs.Judge.{max_read, line_end, line_feeds, judging_told, Judges};
 
 use instance::Vertex;
 use price_card::card_from_prices;
+use price_list::Refused;
 
 // So many bytes are judged.
 pub const MAX_READ: usize = 16_384;
 
-// What came of an input: as for a list; or its first whole lines are a list, and `line`, which follows them, is too
-// long for a line.
-#[derive(Clone, Copy)]
-pub struct Judged {
-    pub long: bool,
-    pub answer: u32,
-    pub line: usize,
-    pub length: usize,
+// Why an input has no card: as for a list; or its first whole lines are a list, and the line of this number, which
+// follows them, is too long for a line.
+#[derive(Clone, Copy, Debug, PartialEq, Eq)]
+pub enum InputRefused {
+    List(Refused),
+    LongLine(usize),
 }
 
 // The place after the last line feed; 0 if there is none.
@@ -49,44 +48,27 @@ fn line_feeds(text: &[u8]) -> usize
     ensures { result ≡ line_feeds (length text.now) text.now }
 {
     let mut count = 0;
-    let mut k = 0;
-    while k < text.len() {
+    for k in 0..text.len() {
         count += feed_count(text[k]);
-        k += 1;
     }
     count
 }
 
 // The card of the list that an input is, or why there is none.
-pub fn judge_input(text: &[u8], n: u32, root: u32, budget: u32, out: &mut [u8]) -> Judged
+pub fn judge_input(
+    text: &[u8],
+    n: u32,
+    root: u32,
+    budget: u32,
+    out: &mut [u8],
+) -> Result<usize, InputRefused>
     requires { length text.now ≤ max_read + 1 }
-    ensures { Judges text.now n root budget out.old out.new result }
+    ensures { Judges text.now n root budget out.old out.new (judging_told result) }
 {
     if text.len() <= MAX_READ {
-        let whole = card_from_prices(text, n, Vertex(root), budget, out);
-        return Judged {
-            long: false,
-            answer: whole.answer,
-            line: whole.line,
-            length: whole.length,
-        };
+        return card_from_prices(text, n, Vertex(root), budget, out).map_err(InputRefused::List);
     }
     let end = line_end(text);
-    let part = card_from_prices(&text[..end], n, Vertex(root), budget, out);
-    let answer = part.answer;
-    if answer != 0 {
-        return Judged {
-            long: false,
-            answer,
-            line: part.line,
-            length: part.length,
-        };
-    }
-    let lines = line_feeds(text);
-    Judged {
-        long: true,
-        answer: 0,
-        line: lines + 1,
-        length: 0,
-    }
+    card_from_prices(&text[..end], n, Vertex(root), budget, out).map_err(InputRefused::List)?;
+    Err(InputRefused::LongLine(line_feeds(text) + 1))
 }

@@ -8,16 +8,17 @@ mod judge; // judge.rt: an input that may be longer than a list can be
 
 use arguments::{argument_count, number_at};
 use card_input::{STDERR, STDOUT, read_input};
-use judge::{MAX_READ, judge_input};
+use judge::{InputRefused, MAX_READ, judge_input};
 use price_card::MAX_CARD;
+use price_list::Refused;
 
 // One byte more than is judged, which says that there is more.
 const MAX_INPUT: usize = MAX_READ + 1;
 
-fn say_refusal(answer: u32, line: usize) {
+fn say_refused(refused: Refused) {
     io::write_all(STDERR, b"refused ");
-    io::print_decimal(STDERR, answer as u64);
-    if line != 0 {
+    io::print_decimal(STDERR, u32::from(refused.refusal) as u64);
+    if let Some(line) = refused.line {
         io::write_all(STDERR, b" line ");
         io::print_decimal(STDERR, line as u64);
     }
@@ -33,25 +34,19 @@ fn say_long(line: usize) {
 // The card of the list on standard input.
 fn print_card(rt: &HostRuntime, n: u32, root: u32, budget: u32) {
     let mut list = [0u8; MAX_INPUT];
-    let input = read_input(rt, &mut list);
-    if input.failed {
+    let Ok(length) = read_input(rt, &mut list) else {
         io::write_all(STDERR, b"print_card: cannot read standard input\n");
         return;
-    }
-    let length = input.length;
+    };
     let mut card = [0u8; MAX_CARD];
-    let judged = judge_input(&list[..length], n, root, budget, &mut card);
-    if judged.long {
-        say_long(judged.line);
-        return;
-    }
-    if judged.answer != 0 {
-        say_refusal(judged.answer, judged.line);
-        return;
-    }
-    let end = judged.length;
-    if !io::write_all(STDOUT, &card[..end]) {
-        io::write_all(STDERR, b"print_card: cannot write standard output\n");
+    match judge_input(&list[..length], n, root, budget, &mut card) {
+        Ok(end) => {
+            if !io::write_all(STDOUT, &card[..end]) {
+                io::write_all(STDERR, b"print_card: cannot write standard output\n");
+            }
+        }
+        Err(InputRefused::List(refused)) => say_refused(refused),
+        Err(InputRefused::LongLine(line)) => say_long(line),
     }
 }
 
@@ -63,15 +58,16 @@ fn main(rt: HostRuntime) {
         );
         return;
     }
-    let n = number_at(&rt, 1);
-    let root = number_at(&rt, 2);
-    let budget = number_at(&rt, 3);
-    if !n.good || !root.good || !budget.good {
+    let (Some(n), Some(root), Some(budget)) = (
+        number_at(&rt, 1),
+        number_at(&rt, 2),
+        number_at(&rt, 3),
+    ) else {
         io::write_all(
             STDERR,
             b"print_card: POSITIONS, ROOT and BUDGET are numbers of at most 64 digits\n",
         );
         return;
-    }
-    print_card(&rt, n.value, root.value, budget.value);
+    };
+    print_card(&rt, n, root, budget);
 }

@@ -25,10 +25,8 @@ use Rattle.board.specs.declared.Board.{Board}
 use Rattle.board.specs.declared.Answered.{Answered}
 use Rattle.history_format.proofs.ModelAgain.{AsRead}
 use Rattle.history_format.proofs.HistoryAgain.{model_in_as_read}
-use Rattle.planner.specs.declared.Listing.{Listing}
-use Rattle.planner.specs.declared.Listing.TheVariants.{Listed, Refused}
 use Rattle.planner.specs.Opening.{opened_from}
-use Rattle.planner.specs.Enumerating.{walked_on, Lists}
+use Rattle.planner.specs.Enumerating.{Listing, Listed, Refused, walked_on, Lists}
 use Rattle.print_listing.specs.Boards.{AsOpened}
 use Rattle.planner.proofs.OpeningLaws.{opened_answer, opened_instance, opened_starts}
 

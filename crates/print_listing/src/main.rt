@@ -3,17 +3,18 @@
 // line in `listing_text`; this program only reads, and writes the lines one after the other.
 #![tactic(auto)]
 
-ghost use Rattle.std.specs.Prelude.{◌≡◌, ◌≤◌, ◌<◌, length};
+ghost use Rattle.std.specs.Prelude.{◌≡◌, ◌≤◌, ◌<◌, length, IfOk};
 ghost use Rattle.instance.specs.Limits.{max_vertices, max_budget, cells};
 ghost use Rattle.instance.specs.Matrix.{Weights};
 ghost use Rattle.print_listing.specs.Boards.{AsOpened};
 
-use board::{Answered, Board};
-use card_input::{STDERR, STDOUT, read_input};
+use board::Board;
+use card_input::{ReadFailed, STDERR, STDOUT, read_input};
 use enumeration::Ended;
 use instance::limits::{CELLS, MAX_TRIES};
+use instance::refusals::Refusal;
 use listing_text::{MAX_LINE, put_heading, put_tree};
-use planner::{Listing, MAX_HISTORY_CARD, list_plans, open_card};
+use planner::{MAX_HISTORY_CARD, list_plans, open_card};
 use report_text::write_refusal;
 
 // One byte more than the longest card of either kind: what follows does not matter (long_by_part in
@@ -75,48 +76,41 @@ fn print_board(b: Board) -> bool
     let weights = b.weights;
     let mut trees = [0u8; MAX_TREES];
     let listing = list_plans(b, MAX_TRIES, &mut trees);
-    let Listing::Listed(ended, count, tries) = listing else {
+    let Ok(listed) = listing else {
         // a valid board is not refused
         return true;
     };
-    if !print_heading(n, root, budget, ended, count, tries) {
+    if !print_heading(n, root, budget, listed.ended, listed.trees, listed.tries) {
         return false;
     }
-    let end = count as usize * n as usize;
+    let end = listed.trees as usize * n as usize;
     print_trees(&weights, &trees[..end], n, root)
 }
 
 // All plans of an opened card, or the line of its refusal.
-fn print_card(opened: Answered) -> bool
-    requires { opened.answer ≡ 0 → AsOpened opened.board }
+fn print_card(opened: Result<Board, Refusal>) -> bool
+    requires { IfOk opened AsOpened }
 {
-    let answer = opened.answer;
-    if answer != 0 {
-        return print_refusal(answer);
+    match opened {
+        Ok(board) => print_board(board),
+        Err(refusal) => print_refusal(u32::from(refusal)),
     }
-    let board = opened.board;
-    print_board(board)
 }
 
-// Reads a card and opens it; says whether reading failed. The card is let go here, before trees take its place on the
-// stack.
-fn open_input(rt: &HostRuntime, failed: &mut bool) -> Answered
-    ensures { result.answer ≡ 0 → AsOpened result.board }
+// Reads a card and opens it. The card is let go here, before trees take its place on the stack.
+fn open_input(rt: &HostRuntime) -> Result<Result<Board, Refusal>, ReadFailed>
+    ensures { IfOk result (λ opened. IfOk opened AsOpened) }
 {
     let mut card = [0u8; MAX_INPUT];
-    let input = read_input(rt, &mut card);
-    *failed = input.failed;
-    let length = input.length;
-    open_card(&card[..length])
+    let length = read_input(rt, &mut card)?;
+    Ok(open_card(&card[..length]))
 }
 
 fn main(rt: HostRuntime) {
-    let mut failed = false;
-    let opened = open_input(&rt, &mut failed);
-    if failed {
+    let Ok(opened) = open_input(&rt) else {
         io::write_all(STDERR, b"print_listing: cannot read standard input\n");
         return;
-    }
+    };
     if !print_card(opened) {
         io::write_all(STDERR, b"print_listing: cannot write standard output\n");
     }

@@ -8,8 +8,8 @@
 use arguments::{argument_count, number_at};
 use card_input::{STDERR, STDOUT, read_from, read_input};
 use instance::Vertex;
-use price_list::MAX_LIST;
-use price_merge::{ListsMerged, merge_lists};
+use price_list::{MAX_LIST, Refused};
+use price_merge::{MergeRefused, merge_lists};
 use std::fs::File;
 use std::rt::Env;
 use std::str::from_utf8;
@@ -21,16 +21,24 @@ fn say(text: &[u8]) {
     io::write_all(STDERR, text);
 }
 
-fn say_refusal(merged: ListsMerged) {
+fn say_refused(refused: Refused, list: u64) {
     say(b"refused ");
-    io::print_decimal(STDERR, merged.answer as u64);
-    if merged.line != 0 {
+    io::print_decimal(STDERR, u32::from(refused.refusal) as u64);
+    if let Some(line) = refused.line {
         say(b" list ");
-        io::print_decimal(STDERR, merged.list as u64);
+        io::print_decimal(STDERR, list);
         say(b" line ");
-        io::print_decimal(STDERR, merged.line as u64);
+        io::print_decimal(STDERR, line as u64);
     }
     say(b"\n");
+}
+
+fn say_refusal(refused: MergeRefused) {
+    match refused {
+        MergeRefused::School(own) => say_refused(own, 1),
+        MergeRefused::Shipped(other) => say_refused(other, 2),
+        MergeRefused::Merged(refusal) => say_refused(Refused::from(refusal), 0),
+    }
 }
 
 // The file that an argument names, where it can be opened; a name that is no UTF-8 cannot. The name is let go here,
@@ -45,14 +53,13 @@ fn open_at(rt: &HostRuntime, i: usize) -> Option<File> {
 // The list of the rows that are used.
 fn print_merged(school: &[u8], shipped: &[u8], n: u32, root: u32) {
     let mut list = [0u8; MAX_LIST];
-    let merged = merge_lists(school, shipped, n, Vertex(root), &mut list);
-    if merged.answer != 0 {
-        say_refusal(merged);
-        return;
-    }
-    let end = merged.length;
-    if !io::write_all(STDOUT, &list[..end]) {
-        say(b"print_merged: cannot write standard output\n");
+    match merge_lists(school, shipped, n, Vertex(root), &mut list) {
+        Ok(length) => {
+            if !io::write_all(STDOUT, &list[..length]) {
+                say(b"print_merged: cannot write standard output\n");
+            }
+        }
+        Err(refused) => say_refusal(refused),
     }
 }
 
@@ -61,12 +68,10 @@ fn read_both(rt: &HostRuntime, mut file: File, n: u32, root: u32) {
     let mut shipped = [0u8; MAX_INPUT];
     let own = read_from(&mut file, &mut school);
     let other = read_input(rt, &mut shipped);
-    if own.failed || other.failed {
+    let (Ok(first), Ok(second)) = (own, other) else {
         say(b"print_merged: cannot read a list\n");
         return;
-    }
-    let first = own.length;
-    let second = other.length;
+    };
     if MAX_LIST < first || MAX_LIST < second {
         say(b"print_merged: a list has more than 13,454 bytes\n");
         return;
@@ -79,15 +84,13 @@ fn main(rt: HostRuntime) {
         say(b"print_merged: usage: print_merged POSITIONS ROOT OWN-LIST < list > merged-list\n");
         return;
     }
-    let n = number_at(&rt, 1);
-    let root = number_at(&rt, 2);
-    if !n.good || !root.good {
+    let (Some(n), Some(root)) = (number_at(&rt, 1), number_at(&rt, 2)) else {
         say(b"print_merged: POSITIONS and ROOT are numbers of at most 64 digits\n");
         return;
-    }
+    };
     let Some(file) = open_at(&rt, 3) else {
         say(b"print_merged: the school's own list cannot be opened\n");
         return;
     };
-    read_both(&rt, file, n.value, root.value);
+    read_both(&rt, file, n, root);
 }

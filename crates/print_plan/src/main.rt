@@ -12,12 +12,10 @@ const MAX_INPUT: usize = MAX_HISTORY_CARD + 1;
 
 fn main(rt: HostRuntime) {
     let mut card = [0u8; MAX_INPUT];
-    let input = read_input(&rt, &mut card);
-    if input.failed {
+    let Ok(length) = read_input(&rt, &mut card) else {
         io::write_all(STDERR, b"print_plan: cannot read standard input\n");
         return;
-    }
-    let length = input.length;
+    };
     let mut text = [0u8; MAX_TEXT];
     let reported = report(&card[..length], &mut text);
     let end = reported.length;

@@ -5,7 +5,7 @@
 // writes.
 #![tactic(auto)]
 
-use card_input::{STDERR, STDOUT, read_input};
+use card_input::{ReadFailed, STDERR, STDOUT, read_input};
 use planner::MAX_HISTORY_CARD;
 use price_card::{CardWeights, MAX_LIST, list_weights, weights_on_card};
 use report_text::put_header;
@@ -50,23 +50,18 @@ fn print_list(taken: CardWeights) -> bool {
     true
 }
 
-// Reads a card and takes its weights; says whether reading failed. The card is let go here, before a list takes its
-// place on the stack.
-fn read_weights(rt: &HostRuntime, failed: &mut bool) -> CardWeights {
+// Reads a card and takes its weights. The card is let go here, before a list takes its place on the stack.
+fn read_weights(rt: &HostRuntime) -> Result<CardWeights, ReadFailed> {
     let mut card = [0u8; MAX_INPUT];
-    let input = read_input(rt, &mut card);
-    *failed = input.failed;
-    let length = input.length;
-    weights_on_card(&card[..length])
+    let length = read_input(rt, &mut card)?;
+    Ok(weights_on_card(&card[..length]))
 }
 
 fn main(rt: HostRuntime) {
-    let mut failed = false;
-    let taken = read_weights(&rt, &mut failed);
-    if failed {
+    let Ok(taken) = read_weights(&rt) else {
         io::write_all(STDERR, b"print_prices: cannot read standard input\n");
         return;
-    }
+    };
     if !print_list(taken) {
         io::write_all(STDERR, b"print_prices: cannot write standard output\n");
     }

@@ -15,7 +15,7 @@ use Rattle.instance.specs.States.{outcome}
 use Rattle.instance.specs.declared.Outcome.{Outcome}
 use Rattle.instance.specs.declared.Outcome.TheVariants.{Plan, Over, NoTree}
 use Rattle.witness.specs.Witness.{forced_instance, deleted_instance}
-use Rattle.survey.specs.Survey.{CutsShown}
+use Rattle.survey.specs.FirstPlan.{CutsShown}
 use Rattle.commands.specs.Valid.{valid}
 use Rattle.commands.proofs.ValidLaws.{valid_parts}
 use Rattle.board.specs.ModelOf.{model_of, instance_of}

@@ -1,5 +1,5 @@
 // What the planner answers of a card. Each question opens the card again: the card is shorter than its board, so that
-// the stack holds no board but the one that a call is handed.
+// the stack holds no board but the one that a call is lent.
 ghost use Rattle.std.specs.Prelude.{◌≤◌};
 ghost use Rattle.instance.specs.Limits.{max_cuts};
 ghost use Rattle.print_why.specs.Answers.{reason_pairs, view_pairs};
@@ -17,13 +17,10 @@ pub fn explain_card(
 ) -> Reason
     ensures { reason_pairs result ≤ max_cuts }
 {
-    let opened = open_card(card);
-    let answer = opened.answer;
-    if answer != 0 {
-        return Reason::Refused(answer);
+    match open_card(card) {
+        Ok(board) => why(&board, Vertex(tail), Vertex(head), parents, cuts),
+        Err(refusal) => Reason::Refused(u32::from(refusal)),
     }
-    let board = opened.board;
-    why(board, Vertex(tail), Vertex(head), parents, cuts)
 }
 
 // The plan without it.
@@ -36,22 +33,16 @@ pub fn plan_card_without(
 ) -> View
     ensures { view_pairs result ≤ max_cuts }
 {
-    let opened = open_card(card);
-    let answer = opened.answer;
-    if answer != 0 {
-        return View::Refused(answer);
+    match open_card(card) {
+        Ok(board) => plan_without(&board, Vertex(tail), Vertex(head), parents, cuts),
+        Err(refusal) => View::Refused(u32::from(refusal)),
     }
-    let board = opened.board;
-    plan_without(board, Vertex(tail), Vertex(head), parents, cuts)
 }
 
 // How many presses are recorded on the card; none on one that is refused.
 pub fn record_count(card: &[u8]) -> u32 {
-    let opened = open_card(card);
-    if opened.answer != 0 {
-        return 0;
+    match open_card(card) {
+        Ok(board) => board.count as u32,
+        Err(_) => 0,
     }
-    let board = opened.board;
-    let count = board.count;
-    count as u32
 }

@@ -28,12 +28,10 @@ const MAX_INPUT: usize = MAX_HISTORY_CARD + 1;
 fn print_state(card: &[u8], tail: u32, head: u32, forced: Planned, deleted: Planned) -> bool
     requires { (forced.pairs ≤ max_cuts) × (deleted.pairs ≤ max_cuts) }
 {
-    let opened = open_card(card);
-    if opened.answer != 0 {
+    let Ok(board) = open_card(card) else {
         // the card was opened before
         return true;
-    }
-    let board = opened.board;
+    };
     print_witnesses(board, tail, head, forced, deleted)
 }
 
@@ -88,12 +86,10 @@ fn print_why(card: &[u8], tail: u32, head: u32) -> bool {
 
 fn print_input(rt: &HostRuntime, tail: u32, head: u32) {
     let mut card = [0u8; MAX_INPUT];
-    let input = read_input(rt, &mut card);
-    if input.failed {
+    let Ok(length) = read_input(rt, &mut card) else {
         io::write_all(STDERR, b"print_why: cannot read standard input\n");
         return;
-    }
-    let length = input.length;
+    };
     if !print_why(&card[..length], tail, head) {
         io::write_all(STDERR, b"print_why: cannot write standard output\n");
     }
@@ -104,14 +100,12 @@ fn main(rt: HostRuntime) {
         io::write_all(STDERR, b"print_why: usage: print_why FEEDER FED < card\n");
         return;
     }
-    let tail = number_at(&rt, 1);
-    let head = number_at(&rt, 2);
-    if !tail.good || !head.good {
+    let (Some(tail), Some(head)) = (number_at(&rt, 1), number_at(&rt, 2)) else {
         io::write_all(
             STDERR,
             b"print_why: FEEDER and FED are numbers of at most 64 digits\n",
         );
         return;
-    }
-    print_input(&rt, tail.value, head.value);
+    };
+    print_input(&rt, tail, head);
 }

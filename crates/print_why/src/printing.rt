@@ -8,7 +8,7 @@ use board::Board;
 use card_input::STDOUT;
 use instance::Outcome;
 use instance::limits::{CELLS, CUT_WORDS, VERTICES};
-use instance::states::MANDATORY;
+use instance::states::State;
 use report_text::{listed_weight, shows_tree};
 use why_text::{Line, MAX_LINE, first_line, outcome_total, write_line};
 use witness::state_by;
@@ -47,12 +47,10 @@ fn print_feed(weights: &[u32; CELLS], parents: &[u8], root: u32, v: u32) -> bool
 fn print_feeds(weights: &[u32; CELLS], parents: &[u8], n: u32, root: u32) -> bool
     requires { (length weights.now ≡ cells) × (n ≤ length parents.now) }
 {
-    let mut v = 0;
-    while v < n {
+    for v in 0..n {
         if !print_feed(weights, parents, root, v) {
             return false;
         }
-        v += 1;
     }
     true
 }
@@ -60,14 +58,12 @@ fn print_feeds(weights: &[u32; CELLS], parents: &[u8], n: u32, root: u32) -> boo
 fn print_cuts(cuts: &[u32], pairs: u32) -> bool
     requires { 2 * pairs ≤ length cuts.now }
 {
-    let mut k = 0;
-    while k < pairs as usize {
+    for k in 0..pairs as usize {
         let set = cuts[2 * k];
         let value = cuts[2 * k + 1];
         if !print_line(Line::Cut { set, value }) {
             return false;
         }
-        k += 1;
     }
     true
 }
@@ -116,13 +112,13 @@ pub fn print_witnesses(b: Board, tail: u32, head: u32, forced: Planned, deleted:
     let with = forced.outcome;
     let without = deleted.outcome;
     let state = state_by(budget, with, without);
-    if !print_line(first_line(with, without, tail, head, budget, state)) {
+    if !print_line(first_line(with, without, tail, head, budget, u8::from(state))) {
         return false;
     }
     if !shows_tree(with) {
         return print_plan(&b.weights, n, root, forced);
     }
-    if state == MANDATORY {
+    if state == State::Mandatory {
         let line = Line::With(outcome_total(with));
         return print_plans(&b.weights, n, root, deleted, line, forced);
     }

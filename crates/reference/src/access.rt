@@ -1,104 +1,44 @@
-// Small steps that ask nothing of their caller: sums that wrap, conversions, reads that answer past the end too.
-pub fn wide(x: u32) -> u64 {
-    x as u64
-}
-
-pub fn of_byte(x: u8) -> u32 {
-    x as u32
-}
-
+// Small steps that ask nothing of their caller: reads that answer past the end too, parts that are no longer than what
+// is there.
 pub fn narrow(x: u32) -> u8 {
     (x % 256) as u8
 }
 
-pub fn plus(a: u32, b: u32) -> u32 {
-    std::num::wrapping_add_u32(a, b)
-}
-
-// a times b by additions, which ask for no bound.
-pub fn times(a: u32, b: u32) -> u32 {
-    let mut sum = 0;
-    for k in 0..a {
-        sum = plus(sum, b);
-    }
-    sum
-}
-
 // 256, which is no byte, past the end.
 pub fn byte(s: &[u8], k: u32) -> u32 {
-    let at = k as usize;
-    if at < s.len() {
-        return of_byte(s[at]);
-    }
-    256
+    s.get(k as usize).map_or(256, |&b| u32::from(b))
 }
 
 // 0 past the end.
 pub fn word(s: &[u32], k: u32) -> u32 {
-    let at = k as usize;
-    if at < s.len() {
-        return s[at];
-    }
-    0
+    s.get(k as usize).copied().unwrap_or(0)
 }
 
-// Whether the bytes from one place up to another are all there and have that value.
-pub fn all_bytes(s: &[u8], from: u32, to: u32, value: u32) -> bool {
-    for k in from..to {
-        if byte(s, k) != value {
-            return false;
-        }
-    }
-    true
+// Whether the places from one up to another are all there and hold that value.
+pub fn all_are<T: PartialEq + Copy>(s: &[T], from: u32, to: u32, value: T) -> bool {
+    (from..to).all(|k| s.get(k as usize).is_some_and(|x| *x == value))
 }
 
-pub fn all_words(s: &[u32], from: u32, to: u32, value: u32) -> bool {
-    for k in from..to {
-        if word(s, k) != value {
-            return false;
-        }
-    }
-    true
+// The first so many places, or all.
+pub fn front<T>(s: &[T], length: usize) -> &[T] {
+    s.get(..length).unwrap_or(s)
 }
 
-// Whether the first bytes of two slices are equal.
-pub fn equal_bytes(a: &[u8], b: &[u8], count: u32) -> bool {
-    for k in 0..count {
-        if byte(a, k) != byte(b, k) {
-            return false;
-        }
-    }
-    true
+// The same of a buffer that is lent to be written.
+pub fn front_mut<T>(s: &mut [T], length: usize) -> &mut [T] {
+    let room = s.len().min(length);
+    &mut s[..room]
 }
 
-// The first so many bytes, or words, or all.
-pub fn front(s: &[u8], length: u32) -> &[u8] {
-    let l = length as usize;
-    if l < s.len() {
-        return &s[0..l];
-    }
-    s
+// Whether the first places of two slices are equal.
+pub fn equal_fronts<T: PartialEq>(a: &[T], b: &[T], length: u32) -> bool {
+    front(a, length as usize) == front(b, length as usize)
 }
 
-pub fn front_words(s: &[u32], length: u32) -> &[u32] {
-    let l = length as usize;
-    if l < s.len() {
-        return &s[0..l];
-    }
-    s
-}
-
-// One byte put at a place, if the buffer has it.
-fn put_byte(out: &mut [u8], k: u32, value: u8) {
-    let at = k as usize;
-    if at < out.len() {
-        out[at] = value;
-    }
-}
-
-// The first so many bytes of a slice, put into a buffer from a place on.
-pub fn put_bytes(out: &mut [u8], from: u32, s: &[u8], count: u32) {
-    for k in 0..count {
-        put_byte(out, plus(from, k), narrow(byte(s, k)));
+// A slice put into a buffer from a place on, as far as there is room.
+pub fn put<T: Copy>(out: &mut [T], from: usize, s: &[T]) {
+    let rest = out.get_mut(from..).unwrap_or_default();
+    for (place, x) in rest.iter_mut().zip(s) {
+        *place = *x;
     }
 }

@@ -3,11 +3,11 @@
 // by arcs that cost nothing more, a smallest set that no such arc enters is charged with the least cost that enters it.
 // Then a tree is grown from the root by arcs that cost nothing, those first that came to nothing first: so each set is
 // entered once.
-use crate::access::{narrow, plus};
+use crate::access::narrow;
 use crate::certificate::Certificate;
 use crate::problem::{ABSENT, CELLS, MAX_VERTICES, STRIDE};
+use crate::shown;
 use crate::shown::{NO_PARENT, PAIRS};
-use crate::{certificate, shown};
 
 const HEADS: usize = MAX_VERTICES as usize;
 
@@ -25,7 +25,7 @@ fn zero_tails(costs: &[u32; CELLS]) -> [u32; HEADS] {
     for k in 0..CELLS as u32 {
         if costs[k as usize] == 0 {
             let head = (k % STRIDE) as usize;
-            tails[head] = tails[head] | shown::only(k / STRIDE);
+            tails[head] |= shown::only(k / STRIDE);
         }
     }
     tails
@@ -36,7 +36,7 @@ fn widened(tails: &[u32; HEADS], set: u32) -> u32 {
     let mut wider = set;
     for head in 0..MAX_VERTICES {
         if shown::holds(set, head) {
-            wider = wider | tails[head as usize];
+            wider |= tails[head as usize];
         }
     }
     wider
@@ -55,25 +55,13 @@ fn reaching(tails: &[u32; HEADS], vertex: u32) -> u32 {
     set
 }
 
-fn size(set: u32) -> u32 {
-    let mut count = 0;
-    for v in 0..MAX_VERTICES {
-        if shown::holds(set, v) {
-            count = plus(count, 1);
-        }
-    }
-    count
-}
-
 // The smallest of these sets without the root, of a vertex below n; 0 where the root reaches them all.
 fn smallest(tails: &[u32; HEADS], n: u32, root: u32) -> u32 {
-    let mut best = 0;
+    let mut best: u32 = 0;
     for v in 0..n {
         let set = reaching(tails, v);
-        if !shown::holds(set, root) {
-            if best == 0 || size(set) < size(best) {
-                best = set;
-            }
+        if !shown::holds(set, root) && (best == 0 || set.count_ones() < best.count_ones()) {
+            best = set;
         }
     }
     best
@@ -83,10 +71,8 @@ fn smallest(tails: &[u32; HEADS], n: u32, root: u32) -> u32 {
 fn least_into(costs: &[u32; CELLS], set: u32) -> u32 {
     let mut least = ABSENT;
     for k in 0..CELLS as u32 {
-        if shown::enters(set, k / STRIDE, k % STRIDE) {
-            if costs[k as usize] < least {
-                least = costs[k as usize];
-            }
+        if shown::enters(set, k / STRIDE, k % STRIDE) && costs[k as usize] < least {
+            least = costs[k as usize];
         }
     }
     least
@@ -96,29 +82,26 @@ fn least_into(costs: &[u32; CELLS], set: u32) -> u32 {
 fn lowered(work: Work, set: u32, amount: u32) -> Work {
     let before = work.certificate;
     let mut w = work;
-    let round = plus(before.count, 1);
+    let round = before.count.wrapping_add(1);
     for k in 0..CELLS as u32 {
         let at = k as usize;
         let cost = w.costs[at];
-        if cost != ABSENT {
-            if shown::enters(set, k / STRIDE, k % STRIDE) {
-                w.costs[at] = std::num::wrapping_sub_u32(cost, amount);
-                if cost == amount {
-                    w.since[at] = round;
-                }
+        if cost != ABSENT && shown::enters(set, k / STRIDE, k % STRIDE) {
+            w.costs[at] = cost.wrapping_sub(amount);
+            if cost == amount {
+                w.since[at] = round;
             }
         }
     }
-    w.certificate = certificate::with_pair(before, set, amount);
+    w.certificate = before.with_pair(set, amount);
     w
 }
 
 // One charge, where the root does not reach every vertex yet and some arc enters the set.
 fn with_charge(work: Work, n: u32, root: u32) -> Work {
-    let costs = work.costs;
-    let tails = zero_tails(&costs);
+    let tails = zero_tails(&work.costs);
     let set = smallest(&tails, n, root);
-    let amount = least_into(&costs, set);
+    let amount = least_into(&work.costs, set);
     if set == 0 || amount == ABSENT {
         return work;
     }
@@ -142,11 +125,9 @@ fn first_arc(costs: &[u32; CELLS], since: &[u32; CELLS], reached: u32) -> u32 {
     let mut best = CELLS as u32;
     let mut time = ABSENT;
     for k in 0..CELLS as u32 {
-        if leads_on(costs, k, reached) {
-            if since[k as usize] < time {
-                best = k;
-                time = since[k as usize];
-            }
+        if leads_on(costs, k, reached) && since[k as usize] < time {
+            best = k;
+            time = since[k as usize];
         }
     }
     best
@@ -156,23 +137,20 @@ fn first_arc(costs: &[u32; CELLS], since: &[u32; CELLS], reached: u32) -> u32 {
 fn bare(pairs: Certificate, n: u32) -> Certificate {
     let mut o = pairs;
     for v in 0..n {
-        o = certificate::with_parent(o, v, NO_PARENT as u8);
+        o = o.with_parent(v, NO_PARENT);
     }
     o
 }
 
 // The tree, grown from the root.
 fn grown(work: Work, n: u32, root: u32) -> Certificate {
-    let costs = work.costs;
-    let since = work.since;
-    let pairs = work.certificate;
-    let mut o = bare(pairs, n);
+    let mut o = bare(work.certificate, n);
     let mut reached = shown::only(root);
     for step in 1..MAX_VERTICES {
-        let k = first_arc(&costs, &since, reached);
+        let k = first_arc(&work.costs, &work.since, reached);
         if k < CELLS as u32 {
-            o = certificate::with_parent(o, k % STRIDE, narrow(k / STRIDE));
-            reached = reached | shown::only(k % STRIDE);
+            o = o.with_parent(k % STRIDE, narrow(k / STRIDE));
+            reached |= shown::only(k % STRIDE);
         }
     }
     o
@@ -184,7 +162,7 @@ pub fn plan(table: &[u32; CELLS], n: u32, root: u32) -> Certificate {
     let mut work = Work {
         costs: *table,
         since: [0; CELLS],
-        certificate: certificate::empty(),
+        certificate: Certificate::empty(),
     };
     for round in 0..PAIRS {
         work = with_charge(work, n, root);

@@ -1,7 +1,8 @@
 // Instances of 32 vertices.
 use crate::problem::{CELLS, MAX_VERTICES, MAX_WEIGHT, NO_ARC, Problem, STRIDE};
+use crate::random::Random;
 use crate::sample::Mixture;
-use crate::{access, problem, random, sample, worked};
+use crate::{problem, sample, worked};
 
 const LAST: u32 = MAX_VERTICES - 1;
 
@@ -12,11 +13,11 @@ fn nested(entered_from: u32) -> Problem {
     let mut p = worked::without_arcs(MAX_VERTICES, 0, 0);
     for k in 1..MAX_VERTICES {
         if k < LAST {
-            p = worked::with_weight(p, k, k + 1, 100 * k + 100);
-            p = worked::with_weight(p, k + 1, k, 100 * k + 100);
+            p = p.with_weight(k, k + 1, 100 * k + 100);
+            p = p.with_weight(k + 1, k, 100 * k + 100);
         }
         if entered_from <= k {
-            p = worked::with_weight(p, 0, k, 90000);
+            p = p.with_weight(0, k, 90000);
         }
     }
     p
@@ -24,13 +25,13 @@ fn nested(entered_from: u32) -> Problem {
 
 fn mixed(k: u32, weights: u32, missing: u32, pinned: u32, banned: u32) -> Problem {
     let mix = Mixture {
-        weights: weights,
-        missing: missing,
-        pinned: pinned,
-        banned: banned,
+        weights,
+        missing,
+        pinned,
+        banned,
     };
     sample::instance(
-        random::seeded(k),
+        Random::seeded(k),
         MAX_VERTICES,
         k % MAX_VERTICES * 5 % MAX_VERTICES,
         mix,
@@ -95,10 +96,9 @@ fn weight_between(tail: u32, head: u32) -> u32 {
 
 fn clustered(p: Problem) -> Problem {
     let mut q = p;
-    for k in 0..CELLS as u32 {
-        let at = k as usize;
-        if p.weights[at] < NO_ARC {
-            q.weights[at] = weight_between(k / STRIDE, k % STRIDE);
+    for (k, weight) in (0u32..).zip(&mut q.weights) {
+        if *weight < NO_ARC {
+            *weight = weight_between(k / STRIDE, k % STRIDE);
         }
     }
     q
@@ -109,38 +109,33 @@ fn clustered(p: Problem) -> Problem {
 // within clusters.
 pub fn nth_tied(k: u32) -> Problem {
     match k % 8 {
-        0 => nested(access::plus(k, 1)),
+        0 => nested(k.wrapping_add(1)),
         1 => renumbered(nested(k)),
         2 => mixed(k, 3, 0, 0, 0),
         3 => mixed(k, 3, 46, 1, 2),
         4 => mixed(k, 0, 44, 0, 2),
         5 => mixed(k, 4, 40, 0, 4),
         6 => mixed(k, 5, 48, 1, 2),
-        _ => clustered(mixed(k, 3, access::plus(k, k), 0, 0)),
+        _ => clustered(mixed(k, 3, k.wrapping_add(k), 0, 0)),
     }
 }
 
 // The greatest weight of an instance.
-fn greatest_in(p: Problem) -> u32 {
-    let mut most = 0;
-    for k in 0..CELLS as u32 {
-        if problem::is_arc(p, k / STRIDE, k % STRIDE) {
-            let weight = p.weights[k as usize];
-            if most < weight {
-                most = weight;
-            }
-        }
-    }
-    most
+fn greatest_in(p: &Problem) -> u32 {
+    (0u32..)
+        .zip(&p.weights)
+        .filter(|(k, _)| p.is_arc(k / STRIDE, k % STRIDE))
+        .map(|(_, &weight)| weight)
+        .max()
+        .unwrap_or(0)
 }
 
 // Each weight raised by so much, and then to the least.
 fn reweighted(p: Problem, more: u32, least: u32) -> Problem {
     let mut q = p;
-    for k in 0..CELLS as u32 {
-        if problem::is_arc(p, k / STRIDE, k % STRIDE) {
-            let weight = access::plus(p.weights[k as usize], more);
-            q.weights[k as usize] = if weight < least { least } else { weight };
+    for (k, weight) in (0u32..).zip(&mut q.weights) {
+        if p.is_arc(k / STRIDE, k % STRIDE) {
+            *weight = weight.wrapping_add(more).max(least);
         }
     }
     q
@@ -149,7 +144,7 @@ fn reweighted(p: Problem, more: u32, least: u32) -> Problem {
 // All weights raised alike, the greatest to the limit. Every tree has as many arcs, so the cheapest ones stay the
 // cheapest, and the cycles close as before.
 pub fn raised(p: Problem) -> Problem {
-    reweighted(p, std::num::wrapping_sub_u32(MAX_WEIGHT, greatest_in(p)), 0)
+    reweighted(p, MAX_WEIGHT.wrapping_sub(greatest_in(&p)), 0)
 }
 
 // Every arc at the greatest weight.

@@ -1,35 +1,27 @@
 // Random records of an instance, of every kind; and records with one thing wrong, each of which is 27 (document 02,
 // A8).
-use crate::access::{narrow, plus};
-use crate::history::{History, RECORDS, Record};
+use crate::access::narrow;
+use crate::history::{History, Kind, RECORDS, Record};
 use crate::problem::{CELLS, MAX_BUDGET, MAX_VERTICES, NO_ARC, NO_MARK, Problem, STRIDE};
 use crate::random::Random;
-use crate::{group, history, problem, random, shown};
+use crate::{group, problem, shown};
 
-// The first cell with an arc from one on; after the last comes the first again. CELLS where there is none.
-fn arc_from(p: Problem, start: u32) -> u32 {
-    let n = p.n;
-    let root = p.root;
-    for k in 0..CELLS as u32 {
-        let at = plus(start, k) % CELLS as u32;
-        if problem::can_hold(n, root, at / STRIDE, at % STRIDE) {
-            if problem::is_arc(p, at / STRIDE, at % STRIDE) {
-                return at;
-            }
-        }
-    }
-    CELLS as u32
+// The first cell with an arc from one on; after the last comes the first again.
+fn arc_from(p: &Problem, start: u32) -> Option<u32> {
+    (0..CELLS as u32)
+        .map(|k| start.wrapping_add(k) % CELLS as u32)
+        .find(|at| p.is_arc(at / STRIDE, at % STRIDE))
 }
 
 // An arc of the instance, if it has one.
-fn some_arc(p: Problem, g: Random) -> u32 {
-    let tail = random::below(g, p.n);
-    let head = random::below(random::next(g), p.n);
-    arc_from(p, (problem::cell(tail, head) % CELLS) as u32)
+fn some_arc(p: &Problem, g: Random) -> Option<u32> {
+    let tail = g.below(p.n);
+    let head = g.next().below(p.n);
+    arc_from(p, problem::cell(tail, head) as u32)
 }
 
 fn some_mark(g: Random) -> u8 {
-    narrow(random::below(g, 3))
+    narrow(g.below(3))
 }
 
 // Any marks at the heads of a group.
@@ -37,58 +29,50 @@ fn with_some_marks(group: Record, seed: Random) -> Record {
     let mut r = group;
     let mut g = seed;
     for head in 0..MAX_VERTICES {
-        if history::names(group.kind, group.second, head) {
-            r = history::with_mark(r, head, some_mark(g));
-            g = random::next(g);
+        if group.names(head) {
+            r = r.with_mark(head, some_mark(g));
+            g = g.next();
         }
     }
     r
 }
 
 // Some of the arcs from a tail, with that to a head, or now and then all of them.
-fn some_group(p: Problem, tail: u32, head: u32, g: Random) -> Record {
-    let any = random::word(random::next(g)) | shown::only(head);
-    let set = if random::below(g, 4) == 0 {
-        4294967295
-    } else {
-        any
-    };
-    let group = history::of_group(tail, group::links(p, tail, set));
-    with_some_marks(group, random::next(random::next(g)))
+fn some_group(p: &Problem, tail: u32, head: u32, g: Random) -> Record {
+    let any = g.next().word() | shown::only(head);
+    let set = if g.below(4) == 0 { 4294967295 } else { any };
+    let group = Record::of_group(tail, group::links(p, tail, set));
+    with_some_marks(group, g.next().next())
 }
 
 // A budget: none, a small one, the greatest, any.
 fn some_budget(g: Random) -> u32 {
-    let after = random::next(g);
-    match random::below(g, 8) {
+    let after = g.next();
+    match g.below(8) {
         0 => 0,
         1 => MAX_BUDGET,
-        2 | 3 | 4 => random::below(after, 60),
-        _ => random::below(after, MAX_BUDGET + 1),
+        2 | 3 | 4 => after.below(60),
+        _ => after.below(MAX_BUDGET + 1),
     }
 }
 
 // A sound record: a link, a group or a budget. It takes up to 40 steps of the generator.
-pub fn some_record(p: Problem, g: Random) -> Record {
-    let h = random::next(g);
-    let at = some_arc(p, h);
-    let after = random::next(random::next(h));
-    let kind = random::below(g, 3);
-    if kind == history::BUDGET || CELLS as u32 <= at {
-        return history::of_budget(some_budget(after));
+pub fn some_record(p: &Problem, g: Random) -> Record {
+    let h = g.next();
+    let after = h.next().next();
+    match (some_arc(p, h), g.below(3)) {
+        (Some(at), 0) => Record::of_link(at / STRIDE, at % STRIDE, some_mark(after)),
+        (Some(at), 2) => some_group(p, at / STRIDE, at % STRIDE, after),
+        _ => Record::of_budget(some_budget(after)),
     }
-    if kind == history::LINK {
-        return history::of_link(at / STRIDE, at % STRIDE, some_mark(after));
-    }
-    some_group(p, at / STRIDE, at % STRIDE, after)
 }
 
 // So many sound records, by a seed.
 pub fn some_history(p: Problem, count: u32, seed: u32) -> History {
-    let mut h = history::empty();
+    let mut h = History::empty();
     for k in 0..count {
-        let g = random::seeded(plus(seed, k));
-        h = history::with(h, some_record(p, g));
+        let g = Random::seeded(seed.wrapping_add(k));
+        h = h.with(some_record(&p, g));
     }
     h
 }
@@ -99,8 +83,8 @@ pub fn nth_count(k: u32, g: Random) -> u32 {
         0 => 0,
         1 => 1,
         2 => RECORDS as u32,
-        3 => random::below(g, RECORDS as u32 + 1),
-        _ => random::below(g, 12),
+        3 => g.below(RECORDS as u32 + 1),
+        _ => g.below(12),
     }
 }
 
@@ -122,22 +106,16 @@ const NO_ARC_MEMBER: u32 = 14;
 // the limit, and the greatest of 25 bits. Kind 3.
 fn bad_single(kind: u32, n: u32, root: u32, tail: u32, head: u32) -> Record {
     match kind {
-        0 => history::of_link(n, head, 0),
-        1 => history::of_link(tail, n, 0),
-        2 => history::of_link(tail, tail, 0),
-        3 => history::of_link(tail, root, 0),
-        NO_ARC_LINK => history::of_link(tail, head, 0),
-        5 => history::of_link(tail, head, NO_MARK),
-        6 => history::of_budget(MAX_BUDGET + 1),
-        7 => history::of_budget(33554431),
-        _ => of_no_kind(),
+        0 => Record::of_link(n, head, 0),
+        1 => Record::of_link(tail, n, 0),
+        2 => Record::of_link(tail, tail, 0),
+        3 => Record::of_link(tail, root, 0),
+        NO_ARC_LINK => Record::of_link(tail, head, 0),
+        5 => Record::of_link(tail, head, NO_MARK),
+        6 => Record::of_budget(MAX_BUDGET + 1),
+        7 => Record::of_budget(33554431),
+        _ => Record::new(Kind::None, 0, 0),
     }
-}
-
-fn of_no_kind() -> Record {
-    let mut r = history::of_budget(0);
-    r.kind = history::NO_KIND;
-    r
 }
 
 // A group whose feeder is not there; of nothing; with a member that is not there, or the last of 32, the root, the
@@ -146,13 +124,13 @@ fn bad_group(kind: u32, n: u32, root: u32, good: Record, head: u32) -> Record {
     let mut r = good;
     match kind {
         9 => r.first = n,
-        10 => return history::of_group(good.first, 0),
+        10 => return Record::of_group(good.first, 0),
         11 => r.second = good.second | shown::only(n),
         12 => r.second = good.second | shown::only(MAX_VERTICES - 1),
         13 => r.second = good.second | shown::only(root),
         NO_ARC_MEMBER => r.second = good.second | shown::only(head),
         15 => r.second = good.second | shown::only(good.first),
-        _ => return history::with_mark(good, head, NO_MARK),
+        _ => return good.with_mark(head, NO_MARK),
     }
     r
 }
@@ -170,10 +148,7 @@ pub fn nth_bad(p: Problem, kind: u32, tail: u32, head: u32, g: Random) -> Bad {
     let bad = if kind < 9 {
         bad_single(kind, q.n, q.root, tail, head)
     } else {
-        bad_group(kind, q.n, q.root, some_group(q, tail, head, g), head)
+        bad_group(kind, q.n, q.root, some_group(&q, tail, head, g), head)
     };
-    Bad {
-        problem: q,
-        bad: bad,
-    }
+    Bad { problem: q, bad }
 }

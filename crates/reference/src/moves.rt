@@ -1,41 +1,64 @@
 // Cards moved from one kind to the other (document 02, A8): "A card moves old to new with no records, and new to old
 // only without records". "A move handed the other kind is 2; after these, 28 for a move to old with records, then 14."
-use crate::card::{Card, first};
+use crate::card::{Card, N_BITS, bytes_of};
+use crate::fields::{field, whole_bytes};
+use crate::history::History;
 use crate::refusals::{BUFFER_SHORT, HAS_RECORDS};
-use crate::{card, history, history_card};
+use crate::{card, history_card};
 
-// The answer to a move, 0 where there is room enough, and then the card that it gives.
-#[derive(Clone, Copy)]
-pub struct Moved {
-    pub answer: u32,
-    pub card: Card,
+// The two moves.
+#[derive(Clone, Copy, PartialEq, Eq)]
+pub enum Move {
+    ToHistory,
+    ToPlain,
 }
 
-// Plain to history. By the plain card's own rules a history card has a bad number of positions, 63.
-pub fn to_history(card: &[u8]) -> Moved {
-    let r = card::read(card);
-    let p = r.problem;
-    Moved {
-        answer: r.answer,
-        card: history_card::build(p, history::empty()),
+impl Move {
+    // The move back.
+    pub fn back(self) -> Move {
+        match self {
+            Move::ToHistory => Move::ToPlain,
+            Move::ToPlain => Move::ToHistory,
+        }
     }
 }
 
+// Plain to history. By the plain card's own rules a history card has a bad number of positions, 63.
+fn to_history(card: &[u8]) -> Result<Card, u32> {
+    let p = card::read(card)?;
+    Ok(history_card::build(p, History::empty()))
+}
+
 // History to plain.
-pub fn to_plain(card: &[u8]) -> Moved {
-    let r = history_card::read(card);
-    let p = r.problem;
-    let h = r.history;
-    let held = if h.count == 0 { 0 } else { HAS_RECORDS };
-    Moved {
-        answer: first(r.answer, held),
-        card: card::build(p),
+fn to_plain(card: &[u8]) -> Result<Card, u32> {
+    let r = history_card::read(card)?;
+    if r.history.count != 0 {
+        return Err(HAS_RECORDS);
+    }
+    Ok(card::build(r.problem))
+}
+
+// The card that a move gives where there is room enough, or the number of the refusal.
+pub fn moved(card: &[u8], way: Move) -> Result<Card, u32> {
+    match way {
+        Move::ToHistory => to_history(card),
+        Move::ToPlain => to_plain(card),
+    }
+}
+
+// How many bytes a card has that was moved, by the number of positions alone, whether or not the move is refused.
+pub fn length_moved(card: &[u8], way: Move) -> u32 {
+    match way {
+        Move::ToHistory => whole_bytes(history_card::records_at(field(card, 0, N_BITS))),
+        Move::ToPlain => bytes_of(history_card::positions_of(card)),
     }
 }
 
 // The answer where so many bytes are lent: "then 14".
-pub fn answer_with_room(m: Moved, room: u32) -> u32 {
-    let c = m.card;
-    let short = if room < c.length { BUFFER_SHORT } else { 0 };
-    first(m.answer, short)
+pub fn with_room(moved: Result<Card, u32>, room: u32) -> Result<Card, u32> {
+    let c = moved?;
+    if room < c.length {
+        return Err(BUFFER_SHORT);
+    }
+    Ok(c)
 }

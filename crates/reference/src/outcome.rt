@@ -1,9 +1,10 @@
 // What a look has to show under a budget, by the words of documents 01 and 02, from the listing of all trees.
 use crate::problem::{ABSENT, Problem};
 use crate::trees::Listing;
-use crate::{access, problem, trees};
+use crate::{access, trees};
 
-// The kinds of an outcome.
+// The kinds of an outcome: numbers, no enum, as they are counted by number and written so in the scripts, and the looks
+// of the tests have one kind more, a refusal.
 pub const PLAN: u32 = 0;
 
 pub const OVER: u32 = 1;
@@ -47,7 +48,7 @@ pub fn arc_state(limit: u32, using: u32, avoiding: u32) -> u32 {
 
 // "0 not a link", or the state of the arc.
 pub fn state(list: Listing, p: Problem, tail: u32, head: u32) -> u32 {
-    if !problem::is_arc(p, tail, head) {
+    if !p.is_arc(tail, head) {
         return 0;
     }
     let using = trees::place(tail, head, true);
@@ -62,6 +63,5 @@ pub fn state(list: Listing, p: Problem, tail: u32, head: u32) -> u32 {
 // "The feeder list is now, among all cheapest feed trees, the first when compared position by position" (02, A10),
 // whether within budget or over it; without a tree 255 everywhere.
 pub fn is_first(list: Listing, parents: &[u8], n: u32) -> bool {
-    let first = list.first;
-    access::equal_bytes(parents, &first, n)
+    access::equal_fronts(parents, &list.first, n)
 }

@@ -9,7 +9,7 @@ pub const STRIDE: u32 = MAX_VERTICES;
 
 pub const CELLS: usize = (STRIDE * STRIDE) as usize;
 
-#[derive(Clone, Copy)]
+#[derive(Clone, Copy, PartialEq, Eq)]
 pub struct Problem {
     pub n: u32,
     pub root: u32,
@@ -35,7 +35,8 @@ pub const BANNED: u8 = 2;
 
 pub const NO_MARK: u8 = 3;
 
-// In a table of costs: the arc does not remain. As a total: there is no tree. More than any budget.
+// In a table of costs: the arc does not remain. As a total: there is no tree. More than any budget: a number and no
+// Option, so that the least of some and the test against a limit need no case of their own.
 pub const ABSENT: u32 = 4294967295;
 
 pub fn cell(tail: u32, head: u32) -> usize
@@ -46,73 +47,63 @@ pub fn cell(tail: u32, head: u32) -> usize
 
 // Whether a cell can hold an arc: both vertices are there and differ, and the head is not the root.
 pub fn can_hold(n: u32, root: u32, tail: u32, head: u32) -> bool {
-    if n <= tail {
-        return false;
-    }
-    if n <= head {
-        return false;
-    }
-    if tail == head {
-        return false;
-    }
-    head != root
+    tail < n && head < n && tail != head && head != root
 }
 
-// "It exists where the two differ, the fed one is not the root, and the price is not "no link"."
-pub fn is_arc(p: Problem, tail: u32, head: u32) -> bool {
-    if can_hold(p.n, p.root, tail, head) {
-        let at = cell(tail, head);
-        return p.weights[at] != NO_ARC;
+impl Problem {
+    // "It exists where the two differ, the fed one is not the root, and the price is not "no link"."
+    pub fn is_arc(&self, tail: u32, head: u32) -> bool {
+        can_hold(self.n, self.root, tail, head) && self.weights[cell(tail, head)] != NO_ARC
     }
-    false
-}
 
-// The mark of an arc, and NO_MARK where there is no arc.
-pub fn mark_of(p: Problem, tail: u32, head: u32) -> u8 {
-    if is_arc(p, tail, head) {
-        let at = cell(tail, head);
-        return p.marks[at];
-    }
-    NO_MARK
-}
-
-// Whether head has a pinned arc from another tail. The mark is looked at first, for speed.
-fn pinned_elsewhere(p: Problem, tail: u32, head: u32) -> bool {
-    let n = p.n;
-    for other in 0..n {
-        let at = cell(other, head);
-        if other != tail && p.marks[at] == PINNED {
-            if is_arc(p, other, head) {
-                return true;
-            }
+    // The mark of an arc, and NO_MARK where there is no arc.
+    pub fn mark_of(&self, tail: u32, head: u32) -> u8 {
+        if self.is_arc(tail, head) {
+            self.marks[cell(tail, head)]
+        } else {
+            NO_MARK
         }
     }
-    false
-}
 
-// "Remaining links: not banned, and not entering a position that has a different pinned feeder."
-pub fn remains(p: Problem, tail: u32, head: u32) -> bool {
-    if PINNED < mark_of(p, tail, head) {
-        return false;
+    // Whether head has a pinned arc from another tail. The mark is looked at first, for speed.
+    fn pinned_elsewhere(&self, tail: u32, head: u32) -> bool {
+        (0..self.n).any(|other| {
+            other != tail && self.marks[cell(other, head)] == PINNED && self.is_arc(other, head)
+        })
     }
-    !pinned_elsewhere(p, tail, head)
-}
 
-// The weight of each remaining arc, and ABSENT in every other cell. Cells that can hold no arc are passed over at once,
-// for speed.
-pub fn costs(p: Problem) -> [u32; CELLS] {
-    let mut table = [ABSENT; CELLS];
-    let n = p.n;
-    let root = p.root;
-    for k in 0..CELLS as u32 {
-        let tail = k / STRIDE;
-        let head = k % STRIDE;
-        if can_hold(n, root, tail, head) {
-            if remains(p, tail, head) {
-                let at = k as usize;
-                table[at] = p.weights[at];
+    // "Remaining links: not banned, and not entering a position that has a different pinned feeder."
+    pub fn remains(&self, tail: u32, head: u32) -> bool {
+        self.mark_of(tail, head) <= PINNED && !self.pinned_elsewhere(tail, head)
+    }
+
+    // The weight of each remaining arc, and ABSENT in every other cell. Cells that can hold no arc are passed over at
+    // once, for speed.
+    pub fn costs(&self) -> [u32; CELLS] {
+        let mut table = [ABSENT; CELLS];
+        for k in 0..CELLS as u32 {
+            let tail = k / STRIDE;
+            let head = k % STRIDE;
+            if can_hold(self.n, self.root, tail, head) && self.remains(tail, head) {
+                table[k as usize] = self.weights[k as usize];
             }
         }
+        table
     }
-    table
+
+    pub fn with_weight(self, tail: u32, head: u32, weight: u32) -> Problem {
+        let mut q = self;
+        q.weights[cell(tail, head)] = weight;
+        q
+    }
+
+    pub fn with_mark(self, tail: u32, head: u32, mark: u8) -> Problem {
+        let mut q = self;
+        q.marks[cell(tail, head)] = mark;
+        q
+    }
+
+    pub fn with_budget(self, budget: u32) -> Problem {
+        Problem { budget, ..self }
+    }
 }

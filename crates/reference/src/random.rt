@@ -4,32 +4,31 @@ pub struct Random {
     pub state: u64,
 }
 
-// The generator of a test, started by its number.
-pub fn seeded(seed: u32) -> Random {
-    next(next(Random {
-        state: (seed as u64) * 2862933555 + 88172645463325252,
-    }))
-}
-
-pub fn next(g: Random) -> Random {
-    let x = g.state;
-    let y = x ^ (x << 13);
-    let z = y ^ (y >> 7);
-    Random {
-        state: z ^ (z << 17),
+impl Random {
+    // The generator of a test, started by its number.
+    pub fn seeded(seed: u32) -> Random {
+        let start = Random {
+            state: u64::from(seed) * 2862933555 + 88172645463325252,
+        };
+        start.next().next()
     }
-}
 
-// Any 32 bits. The upper half of the state is the better one.
-pub fn word(g: Random) -> u32 {
-    let high = g.state / 4294967296;
-    high as u32
-}
-
-// A number below k that the present state gives, 0 where k is 0.
-pub fn below(g: Random, k: u32) -> u32 {
-    if k == 0 {
-        return 0;
+    pub fn next(self) -> Random {
+        let x = self.state;
+        let y = x ^ (x << 13);
+        let z = y ^ (y >> 7);
+        Random {
+            state: z ^ (z << 17),
+        }
     }
-    word(g) % k
+
+    // Any 32 bits. The upper half of the state is the better one.
+    pub fn word(self) -> u32 {
+        (self.state / 4294967296) as u32
+    }
+
+    // A number below k that the present state gives, 0 where k is 0.
+    pub fn below(self, k: u32) -> u32 {
+        self.word().checked_rem(k).unwrap_or(0)
+    }
 }

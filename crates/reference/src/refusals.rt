@@ -1,5 +1,6 @@
-// The documents' refusals, as the reference reads them. 0 is accepted. "6 is retired; 5, 11, 15, 19 and 27 use
-// the new limits." (02, A9)
+// The documents' refusals, as the reference reads them. They stay numbers, no enum: the documents give numbers, and
+// these are what the scripts expect, what is counted, and what the planner's answers are held to. 0 is accepted. "6 is
+// retired; 5, 11, 15, 19 and 27 use the new limits." (02, A9)
 pub const CARD_SHORT: u32 = 1; // card under 5 bytes
 
 pub const BAD_COUNT: u32 = 2; // positions field 0 or 33 to 63
@@ -46,3 +47,8 @@ pub const BAD_TRY_LIMIT: u32 = 26; // a try limit of 0 or above 1,000,000
 pub const BAD_RECORDS: u32 = 27; // a count above 200, kind 3, a record naming a non-link or a value out of range
 
 pub const HAS_RECORDS: u32 = 28; // "a move to old with records"
+
+// The documents' number of what a call gave: that of the refusal, or 0.
+pub fn number_of<T: Drop>(given: Result<T, u32>) -> u32 {
+    given.err().unwrap_or(0)
+}

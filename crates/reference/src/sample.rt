@@ -1,10 +1,10 @@
 // Random instances: few distinct weights, so that there are many ties and zeros; missing arcs, pins and bans; and
 // rubbish in the cells that can hold no arc, which nobody may look at.
+use crate::problem;
 use crate::problem::{
     BANNED, CELLS, FREE, MAX_BUDGET, MAX_WEIGHT, NO_ARC, PINNED, Problem, STRIDE,
 };
 use crate::random::Random;
-use crate::{problem, random};
 
 // How an instance is made: the kind of its weights, and of 64 cells how many are missing, pinned and banned.
 #[derive(Clone, Copy)]
@@ -28,25 +28,21 @@ fn nth_mixture(k: u32) -> Mixture {
 // A weight of one of six kinds: tiny, small, any, all equal, the two ends of the range, mostly 0.
 fn some_weight(g: Random, kind: u32) -> u32 {
     match kind {
-        0 => random::below(g, 4),
-        1 => random::below(g, 12),
-        2 => random::below(g, MAX_WEIGHT + 1),
+        0 => g.below(4),
+        1 => g.below(12),
+        2 => g.below(MAX_WEIGHT + 1),
         3 => 7,
-        4 => if random::below(g, 2) == 0 {
-            0
-        } else {
-            MAX_WEIGHT
-        },
-        _ => random::below(g, 3) / 2,
+        4 => if g.below(2) == 0 { 0 } else { MAX_WEIGHT },
+        _ => g.below(3) / 2,
     }
 }
 
 // A mark: pinned or banned as often as the mixture says.
 fn some_mark(g: Random, mix: Mixture) -> u8 {
-    if random::below(g, 64) < mix.pinned {
+    if g.below(64) < mix.pinned {
         return PINNED;
     }
-    if random::below(random::next(g), 64) < mix.banned {
+    if g.next().below(64) < mix.banned {
         return BANNED;
     }
     FREE
@@ -60,23 +56,23 @@ struct Cell {
 }
 
 fn some_cell(g: Random, mix: Mixture) -> Cell {
-    if random::below(g, 64) < mix.missing {
+    if g.below(64) < mix.missing {
         return Cell {
             weight: NO_ARC,
             mark: FREE,
         };
     }
     Cell {
-        weight: some_weight(random::next(g), mix.weights),
-        mark: some_mark(random::next(random::next(g)), mix),
+        weight: some_weight(g.next(), mix.weights),
+        mark: some_mark(g.next().next(), mix),
     }
 }
 
 // The instance of n vertices that the generator gives.
 pub fn instance(seed: Random, n: u32, root: u32, mix: Mixture) -> Problem {
     let mut p = Problem {
-        n: n,
-        root: root,
+        n,
+        root,
         budget: 0,
         weights: [3999999999; CELLS],
         marks: [77; CELLS],
@@ -85,7 +81,7 @@ pub fn instance(seed: Random, n: u32, root: u32, mix: Mixture) -> Problem {
     for k in 0..CELLS as u32 {
         if problem::can_hold(n, root, k / STRIDE, k % STRIDE) {
             let c = some_cell(g, mix);
-            g = random::next(random::next(random::next(random::next(g))));
+            g = g.next().next().next().next();
             let at = k as usize;
             p.weights[at] = c.weight;
             p.marks[at] = c.mark;
@@ -96,22 +92,17 @@ pub fn instance(seed: Random, n: u32, root: u32, mix: Mixture) -> Problem {
 
 // The k-th instance of 1 to 6 vertices: each root in turn, and a small budget.
 pub fn small_instance(k: u32) -> Problem {
-    let g = random::seeded(k);
+    let g = Random::seeded(k);
     let n = k % 6 + 1;
-    let mut p = instance(
-        random::next(g),
-        n,
-        k / 6 % n,
-        nth_mixture(random::below(g, 64)),
-    );
-    p.budget = random::below(g, 40);
+    let mut p = instance(g.next(), n, k / 6 % n, nth_mixture(g.below(64)));
+    p.budget = g.below(40);
     p
 }
 
 // An instance of n vertices that the generator gives, with any root and any budget.
 pub fn any_instance(g: Random, n: u32) -> Problem {
-    let h = random::next(g);
-    let mut p = instance(h, n, random::below(h, n), nth_mixture(random::below(g, 64)));
-    p.budget = random::below(random::next(h), MAX_BUDGET + 1);
+    let h = g.next();
+    let mut p = instance(h, n, h.below(n), nth_mixture(g.below(64)));
+    p.budget = h.next().below(MAX_BUDGET + 1);
     p
 }

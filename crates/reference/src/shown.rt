@@ -1,6 +1,6 @@
 // Whether a shown result meets the conditions of documents 01 and 02, for any n up to 32. A table holds the weights of
 // the remaining arcs (problem::costs).
-use crate::access::{all_bytes, all_words, byte, plus, wide, word};
+use crate::access::{all_are, byte, word};
 use crate::outcome::NONE;
 use crate::problem;
 use crate::problem::{ABSENT, CELLS, MAX_VERTICES, STRIDE};
@@ -11,23 +11,24 @@ pub const PAIRS: u32 = 61;
 pub const CUT_WORDS: u32 = 2 * PAIRS;
 
 // The byte at the root, and everywhere where no tree is shown.
-pub const NO_PARENT: u32 = 255;
+pub const NO_PARENT: u8 = 255;
 
 // The sum of two costs, ABSENT where one of them is.
 fn added(a: u32, b: u32) -> u32 {
-    if a == ABSENT {
+    if a == ABSENT || b == ABSENT {
         return ABSENT;
     }
-    if b == ABSENT {
-        return ABSENT;
-    }
-    plus(a, b)
+    a.wrapping_add(b)
 }
 
 // The weight of the arc into a vertex, ABSENT where it does not remain; at the root 0, if it has no parent.
 fn cost_into(table: &[u32; CELLS], root: u32, tail: u32, vertex: u32) -> u32 {
     if vertex == root {
-        return if tail == NO_PARENT { 0 } else { ABSENT };
+        return if tail == u32::from(NO_PARENT) {
+            0
+        } else {
+            ABSENT
+        };
     }
     if MAX_VERTICES <= tail {
         return ABSENT;
@@ -57,12 +58,7 @@ fn comes_from_root(parents: &[u8], root: u32, vertex: u32) -> bool {
 }
 
 pub fn tree_spans(parents: &[u8], n: u32, root: u32) -> bool {
-    for v in 0..n {
-        if !comes_from_root(parents, root, v) {
-            return false;
-        }
-    }
-    true
+    (0..n).all(|v| comes_from_root(parents, root, v))
 }
 
 // The parents of what is shown: a tree "picks one remaining link into each position except the root, so that every
@@ -78,12 +74,9 @@ pub fn parents_right(
     total: u32, // the total that was shown with it
 ) -> bool {
     if kind == NONE {
-        return all_bytes(parents, 0, n, NO_PARENT);
+        return all_are(parents, 0, n, NO_PARENT);
     }
-    if tree_total(table, parents, n, root) != total {
-        return false;
-    }
-    tree_spans(parents, n, root)
+    tree_total(table, parents, n, root) == total && tree_spans(parents, n, root)
 }
 
 // Whether a vertex is in a set: bit k for vertex k.
@@ -98,33 +91,21 @@ pub fn only(vertex: u32) -> u32 {
 
 // "A cut is a non-empty set of positions without the root": and only of the n positions that there are.
 pub fn is_cut_set(n: u32, root: u32, set: u32) -> bool {
-    if set == 0 {
-        return false;
-    }
-    if holds(set, root) {
-        return false;
-    }
-    if MAX_VERTICES <= n {
-        return true;
-    }
-    set >> (n % 32) == 0
+    set != 0 && !holds(set, root) && (MAX_VERTICES <= n || set >> (n % 32) == 0)
 }
 
 // "A link enters a cut if its feeder is outside and its fed position inside."
 pub fn enters(set: u32, tail: u32, head: u32) -> bool {
-    if holds(set, tail) {
-        return false;
-    }
-    holds(set, head)
+    !holds(set, tail) && holds(set, head)
 }
 
 // What the cuts that an arc enters charge it: the first so many. No arc enters the empty sets that follow those shown.
 pub fn charge(cuts: &[u32], count: u32, tail: u32, head: u32) -> u64 {
-    let mut sum = 0;
+    let mut sum: u64 = 0;
     for k in 0..count {
-        let at = plus(k, k);
+        let at = k.wrapping_add(k);
         if enters(word(cuts, at), tail, head) {
-            sum = std::num::wrapping_add_u64(sum, wide(word(cuts, plus(at, 1))));
+            sum = sum.wrapping_add(u64::from(word(cuts, at.wrapping_add(1))));
         }
     }
     sum
@@ -140,42 +121,30 @@ pub fn reduced_closes(
     total: u32, // the cheapest total
     limit: u32, // the larger of the budget and that
 ) -> bool {
-    let room = std::num::wrapping_add_u64(wide(limit), charge(cuts, PAIRS, tail, head));
-    room < std::num::wrapping_add_u64(wide(total), wide(weight))
+    let room = u64::from(limit).wrapping_add(charge(cuts, PAIRS, tail, head));
+    room < u64::from(total).wrapping_add(u64::from(weight))
 }
 
 // "for each remaining link, the amounts of the cuts it enters add to at most its price".
 pub fn none_overcharged(table: &[u32; CELLS], cuts: &[u32], count: u32) -> bool {
-    for k in 0..CELLS as u32 {
-        let weight = table[k as usize];
-        if weight != ABSENT {
-            if wide(weight) < charge(cuts, count, k / STRIDE, k % STRIDE) {
-                return false;
-            }
-        }
-    }
-    true
+    (0u32..).zip(table).all(|(k, &weight)| {
+        weight == ABSENT || charge(cuts, count, k / STRIDE, k % STRIDE) <= u64::from(weight)
+    })
 }
 
 // "each amount is at least 1", and each set is one of a cut.
 fn cuts_are_proper(cuts: &[u32], n: u32, root: u32, count: u32) -> bool {
-    for k in 0..count {
-        let at = plus(k, k);
-        if word(cuts, plus(at, 1)) == 0 {
-            return false;
-        }
-        if !is_cut_set(n, root, word(cuts, at)) {
-            return false;
-        }
-    }
-    true
+    (0..count).all(|k| {
+        let at = k.wrapping_mul(2);
+        word(cuts, at.wrapping_add(1)) != 0 && is_cut_set(n, root, word(cuts, at))
+    })
 }
 
 // The sum of the first so many amounts.
 pub fn amounts(cuts: &[u32], count: u32) -> u64 {
-    let mut sum = 0;
+    let mut sum: u64 = 0;
     for k in 0..count {
-        sum = std::num::wrapping_add_u64(sum, wide(word(cuts, plus(plus(k, k), 1))));
+        sum = sum.wrapping_add(u64::from(word(cuts, k.wrapping_add(k).wrapping_add(1))));
     }
     sum
 }
@@ -185,39 +154,21 @@ fn cut_count_allowed(n: u32, count: u32) -> bool {
     if n < 2 {
         return count == 0;
     }
-    if MAX_VERTICES < n {
-        return false;
-    }
-    count <= 2 * n - 3
+    n <= MAX_VERTICES && count <= 2 * n - 3
 }
 
 // Whether the cuts prove that no tree is cheaper than the total, and zeros follow them.
 fn are_cuts(table: &[u32; CELLS], cuts: &[u32], n: u32, root: u32, count: u32, total: u32) -> bool {
-    if !cut_count_allowed(n, count) {
-        return false;
-    }
-    if !cuts_are_proper(cuts, n, root, count) {
-        return false;
-    }
-    if !all_words(cuts, plus(count, count), CUT_WORDS, 0) {
-        return false;
-    }
-    if amounts(cuts, PAIRS) != wide(total) {
-        return false;
-    }
-    none_overcharged(table, cuts, PAIRS)
+    cut_count_allowed(n, count)
+        && cuts_are_proper(cuts, n, root, count)
+        && all_are(cuts, count.wrapping_add(count), CUT_WORDS, 0)
+        && amounts(cuts, PAIRS) == u64::from(total)
+        && none_overcharged(table, cuts, PAIRS)
 }
 
 // Whether a remaining arc enters a set.
 fn is_entered(table: &[u32; CELLS], set: u32) -> bool {
-    for k in 0..CELLS as u32 {
-        if enters(set, k / STRIDE, k % STRIDE) {
-            if table[k as usize] != ABSENT {
-                return true;
-            }
-        }
-    }
-    false
+    (0u32..).zip(table).any(|(k, &weight)| enters(set, k / STRIDE, k % STRIDE) && weight != ABSENT)
 }
 
 // "exactly one pair is given: a non-empty set of positions without the root that no remaining link enters, with amount
@@ -230,7 +181,7 @@ fn is_unentered(table: &[u32; CELLS], cuts: &[u32], n: u32, root: u32, count: u3
     if !is_cut_set(n, root, set) {
         return false;
     }
-    if !all_words(cuts, 1, CUT_WORDS, 0) {
+    if !all_are(cuts, 1, CUT_WORDS, 0) {
         return false;
     }
     !is_entered(table, set)

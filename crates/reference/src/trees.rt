@@ -2,7 +2,7 @@
 // same choices all tries that document 02, A7, counts.
 ghost use Rattle.std.specs.Prelude.{◌<◌};
 
-use crate::access::{byte, narrow, of_byte, plus, put_bytes, times};
+use crate::access::{byte, front, narrow, put};
 use crate::problem::{ABSENT, CELLS};
 use crate::shown;
 
@@ -61,43 +61,30 @@ fn choice(number: u32, n: u32, root: u32) -> [u8; PARENTS] {
     }
     for k in 0..STRIDE {
         let v = STRIDE - 1 - k;
-        if v < n {
-            if v != root {
-                parents[v as usize] = narrow(rest % n);
-                rest = rest / n;
-            }
+        if v < n && v != root {
+            parents[v as usize] = narrow(rest % n);
+            rest /= n;
         }
     }
     parents
 }
 
-fn smaller(a: u32, b: u32) -> u32 {
-    if a < b { a } else { b }
-}
-
 // Whether one list of parents comes before another "when compared position by position": where they first differ, it
 // has the lower one. (02, A10)
 fn is_before(a: [u8; PARENTS], b: [u8; PARENTS]) -> bool {
-    for v in 0..PARENTS {
-        if a[v] != b[v] {
-            return a[v] < b[v];
-        }
-    }
-    false
+    a < b
 }
 
 // The listing with the first and the last of its cheapest trees after one tree more. They are compared, so the order in
 // which the trees come does not matter.
 fn with_ends(list: Listing, parents: [u8; PARENTS], total: u32) -> Listing {
     let mut l = list;
-    let first = list.first;
-    let last = list.last;
     let cheaper = total < list.cheapest;
     let as_cheap = total == list.cheapest;
-    if cheaper || as_cheap && is_before(parents, first) {
+    if cheaper || as_cheap && is_before(parents, list.first) {
         l.first = parents;
     }
-    if cheaper || as_cheap && is_before(last, parents) {
+    if cheaper || as_cheap && is_before(list.last, parents) {
         l.last = parents;
     }
     l
@@ -106,12 +93,12 @@ fn with_ends(list: Listing, parents: [u8; PARENTS], total: u32) -> Listing {
 // The listing with one tree more.
 fn with_tree(list: Listing, parents: [u8; PARENTS], total: u32) -> Listing {
     let mut l = list;
-    l.trees = plus(l.trees, 1);
-    l.cheapest = smaller(l.cheapest, total);
+    l.trees = l.trees.wrapping_add(1);
+    l.cheapest = l.cheapest.min(total);
     for k in 0..ARCS {
-        let parent = of_byte(parents[(k % STRIDE) as usize]);
+        let parent = u32::from(parents[(k % STRIDE) as usize]);
         let at = place(k / STRIDE, k, parent == k / STRIDE);
-        l.totals[at] = smaller(l.totals[at], total);
+        l.totals[at] = l.totals[at].min(total);
     }
     l
 }
@@ -129,10 +116,8 @@ pub fn list(table: &[u32; CELLS], n: u32, root: u32) -> Listing {
     for number in 0..count {
         let parents = choice(number, n, root);
         let total = shown::tree_total(table, &parents, n, root);
-        if total != ABSENT {
-            if shown::tree_spans(&parents, n, root) {
-                l = with_tree(with_ends(l, parents, total), parents, total);
-            }
+        if total != ABSENT && shown::tree_spans(&parents, n, root) {
+            l = with_tree(with_ends(l, parents, total), parents, total);
         }
     }
     l
@@ -151,8 +136,12 @@ pub fn put_within(table: &[u32; CELLS], n: u32, root: u32, budget: u32, out: &mu
         } else {
             0
         };
-        put_bytes(out, times(n, trees), &parents, times(n, listed));
-        trees = plus(trees, listed);
+        put(
+            out,
+            n.wrapping_mul(trees) as usize,
+            front(&parents, n.wrapping_mul(listed) as usize),
+        );
+        trees = trees.wrapping_add(listed);
     }
     trees
 }
@@ -161,12 +150,12 @@ pub fn put_within(table: &[u32; CELLS], n: u32, root: u32, budget: u32, out: &mu
 // close no ring, which is so where they make a tree with arcs from the root to all others, whether or not those remain.
 // Of the choices that are alike up to the vertex one counts, that with the root after it.
 fn is_try(table: &[u32; CELLS], choice: [u8; PARENTS], n: u32, root: u32, vertex: u32) -> bool {
-    for v in plus(vertex, 1)..n {
+    for v in vertex.wrapping_add(1)..n {
         if v != root && byte(&choice, v) != root {
             return false;
         }
     }
-    if shown::tree_total(table, &choice, plus(vertex, 1), root) == ABSENT {
+    if shown::tree_total(table, &choice, vertex.wrapping_add(1), root) == ABSENT {
         return false;
     }
     let mut before = choice;
@@ -177,17 +166,13 @@ fn is_try(table: &[u32; CELLS], choice: [u8; PARENTS], n: u32, root: u32, vertex
 // "The number of tries ..: one for each remaining link into the next position, for each ring-free beginning, whether or
 // not the link closes a ring." (02, A7)
 pub fn all_tries(table: &[u32; CELLS], n: u32, root: u32) -> u32 {
-    let mut tries = 0;
     if n == 0 {
         return 0;
     }
-    for k in 0..times(n, choices(n)) {
-        let vertex = k % n;
-        if vertex != root {
-            if is_try(table, choice(k / n, n, root), n, root, vertex) {
-                tries = plus(tries, 1);
-            }
-        }
-    }
-    tries
+    (0..n.wrapping_mul(choices(n)))
+        .filter(|&k| {
+            let vertex = k % n;
+            vertex != root && is_try(table, choice(k / n, n, root), n, root, vertex)
+        })
+        .count() as u32
 }

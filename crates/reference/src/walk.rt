@@ -2,7 +2,7 @@
 // try limit and a lent buffer. It is one loop over the present feeders, as an odometer goes: on to the next position
 // where a link closes no ring, and back where no link is left. A table holds the prices of the remaining links
 // (problem::costs).
-use crate::access::{byte, narrow, of_byte, plus, put_bytes};
+use crate::access::{byte, front, narrow, put};
 use crate::problem;
 use crate::problem::{ABSENT, CELLS, MAX_VERTICES};
 use crate::refusals::BAD_TRY_LIMIT;
@@ -11,25 +11,23 @@ use crate::shown::NO_PARENT;
 // "26 for a try limit of 0 or above 1,000,000".
 pub const MAX_TRIES: u32 = 1000000;
 
-// "The walk ends complete, at the try limit, or before the first tree without room"; and a walk that has not ended.
-pub const COMPLETE: u32 = 0;
-
-pub const AT_LIMIT: u32 = 1;
-
-pub const NO_ROOM: u32 = 2;
-
-const WALKING: u32 = 3;
+// "The walk ends complete, at the try limit, or before the first tree without room".
+#[derive(Clone, Copy, PartialEq, Eq)]
+pub enum Ended {
+    Complete,
+    AtLimit,
+    NoRoom,
+}
 
 // More steps than any walk has: each makes a try, goes back from one, or is the last.
 const STEPS: u32 = 2 * MAX_TRIES + 2;
 
-// The refusal or 0; how the walk ended, how many trees stand in the buffer, in how many bytes, after how many tries.
-// And the beginning that it is at: how many positions beside the root are settled, and their feeders. The other
-// positions have none, but the next one has the feeder that was tried last, if it was.
+// How the walk ended, if it has; how many trees stand in the buffer, in how many bytes, after how many tries. And the
+// beginning that it is at: how many positions beside the root are settled, and their feeders. The other positions have
+// none, but the next one has the feeder that was tried last, if it was.
 #[derive(Clone, Copy)]
 pub struct Walk {
-    pub answer: u32,
-    pub ended: u32,
+    pub ended: Option<Ended>,
     pub trees: u32,
     pub length: u32,
     pub tries: u32,
@@ -37,15 +35,10 @@ pub struct Walk {
     pub parents: [u8; MAX_VERTICES as usize],
 }
 
-// The next feeder of a position, n where no link is left. After none comes 0: 255 and one more is 0 in a byte.
-fn next_tail(table: &[u32; CELLS], n: u32, position: u32, present: u8) -> u32 {
-    let from = narrow(plus(of_byte(present), 1));
-    for tail in of_byte(from)..n {
-        if table[problem::cell(tail, position)] != ABSENT {
-            return tail;
-        }
-    }
-    n
+// The next feeder of a position, if a link is left. After none comes 0: 255 and one more is 0 in a byte.
+fn next_tail(table: &[u32; CELLS], n: u32, position: u32, present: u8) -> Option<u32> {
+    (u32::from(present.wrapping_add(1))..n).find(|&tail| table[problem::cell(tail, position)]
+        != ABSENT)
 }
 
 // Whether the feeders lead from a position back to it. They end at the root and at a position not yet settled.
@@ -62,11 +55,11 @@ fn closes_cycle(parents: &[u8], position: u32) -> bool {
 
 // "Its total is the sum of its prices."
 fn total(table: &[u32; CELLS], parents: &[u8], n: u32) -> u32 {
-    let mut sum = 0;
+    let mut sum: u32 = 0;
     for position in 0..n {
         let tail = byte(parents, position);
-        if tail != NO_PARENT {
-            sum = plus(sum, table[problem::cell(tail, position)]);
+        if tail != u32::from(NO_PARENT) {
+            sum = sum.wrapping_add(table[problem::cell(tail, position)]);
         }
     }
     sum
@@ -76,7 +69,7 @@ fn total(table: &[u32; CELLS], parents: &[u8], n: u32) -> u32 {
 fn back(w: Walk) -> Walk {
     let mut next = w;
     if w.settled == 0 {
-        next.ended = COMPLETE;
+        next.ended = Some(Ended::Complete);
         return next;
     }
     next.settled = w.settled - 1;
@@ -90,45 +83,42 @@ fn tried(table: &[u32; CELLS], n: u32, root: u32, limit: u32, w: Walk) -> Walk {
     let position = if w.settled < root {
         w.settled
     } else {
-        plus(w.settled, 1)
+        w.settled.wrapping_add(1)
     };
     let at = (position % MAX_VERTICES) as usize;
-    let tail = next_tail(table, n, position, w.parents[at]);
-    if tail == n {
-        next.parents[at] = NO_PARENT as u8;
+    let Some(tail) = next_tail(table, n, position, w.parents[at]) else {
+        next.parents[at] = NO_PARENT;
         return back(next);
-    }
+    };
     if w.tries == limit {
-        next.ended = AT_LIMIT;
+        next.ended = Some(Ended::AtLimit);
         return next;
     }
-    next.tries = plus(w.tries, 1);
+    next.tries = w.tries.wrapping_add(1);
     next.parents[at] = narrow(tail);
-    let parents = next.parents;
-    if !closes_cycle(&parents, position) {
-        next.settled = plus(w.settled, 1);
+    if !closes_cycle(&next.parents, position) {
+        next.settled = w.settled.wrapping_add(1);
     }
     next
 }
 
 // Where every position is settled there is a tree. One over the budget needs no room.
 fn listed(table: &[u32; CELLS], n: u32, budget: u32, w: Walk, out: &mut [u8]) -> Walk {
-    if plus(w.settled, 1) != n {
+    if w.settled.wrapping_add(1) != n {
         return w;
     }
     let mut next = back(w);
-    let parents = w.parents;
-    if budget < total(table, &parents, n) {
+    if budget < total(table, &w.parents, n) {
         return next;
     }
-    let length = plus(w.length, n);
+    let length = w.length.wrapping_add(n);
     if out.len() < length as usize {
-        next.ended = NO_ROOM;
+        next.ended = Some(Ended::NoRoom);
         return next;
     }
-    put_bytes(out, w.length, &parents, n);
+    put(out, w.length as usize, front(&w.parents, n as usize));
     next.length = length;
-    next.trees = plus(w.trees, 1);
+    next.trees = w.trees.wrapping_add(1);
     next
 }
 
@@ -139,27 +129,25 @@ pub fn list(
     budget: u32,
     limit: u32, // how many tries may be made
     out: &mut [u8], // takes the trees, n bytes each
-) -> Walk {
-    let mut w = Walk {
-        answer: 0,
-        ended: WALKING,
+) -> Result<Walk, u32> {
+    if limit == 0 || MAX_TRIES < limit {
+        return Err(BAD_TRY_LIMIT);
+    }
+    let start = Walk {
+        ended: None,
         trees: 0,
         length: 0,
         tries: 0,
         settled: 0,
-        parents: [NO_PARENT as u8; MAX_VERTICES as usize],
+        parents: [NO_PARENT; MAX_VERTICES as usize],
     };
-    if limit == 0 || MAX_TRIES < limit {
-        w.answer = BAD_TRY_LIMIT;
-        return w;
-    }
     // "For one position the empty tree is listed with no try."
-    w = listed(table, n, budget, w, out);
+    let mut w = listed(table, n, budget, start, out);
     for step in 0..STEPS {
-        if w.ended != WALKING {
-            return w;
+        if w.ended.is_some() {
+            return Ok(w);
         }
         w = listed(table, n, budget, tried(table, n, root, limit, w), out);
     }
-    w
+    Ok(w)
 }

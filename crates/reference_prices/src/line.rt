@@ -1,5 +1,5 @@
 // A line of a list: "A line is feeder, space, fed, space, pence, line feed; decimal with no needless leading zero."
-use crate::places::{byte, next};
+use crate::places::{entry, next};
 use crate::refusals::{BAD_SHAPE, BAD_WEIGHT, NAMED_BEFORE, NO_ARC_THERE, NO_VERTEX};
 use crate::{numerals, places};
 
@@ -18,18 +18,18 @@ pub fn split(text: &[u8], from: usize) -> Line {
     let first = places::find(text, from, end, b' ');
     let second = places::find(text, next(first), end, b' ');
     Line {
-        from: from,
-        first: first,
-        second: second,
-        end: end,
+        from,
+        first,
+        second,
+        end,
     }
 }
 
-pub fn tail(text: &[u8], line: Line, n: u32) -> u32 {
+pub fn tail(text: &[u8], line: Line, n: u32) -> Option<u32> {
     numerals::vertex(text, line.from, line.first, n)
 }
 
-pub fn head(text: &[u8], line: Line, n: u32) -> u32 {
+pub fn head(text: &[u8], line: Line, n: u32) -> Option<u32> {
     numerals::vertex(text, next(line.first), line.second, n)
 }
 
@@ -39,56 +39,40 @@ pub fn weight(text: &[u8], line: Line) -> u32 {
 
 // A third space would be in the last number. "Lines may come in any order", and each has its line feed, the last too.
 fn has_shape(text: &[u8], line: Line) -> bool {
-    if line.end == text.len() {
-        return false;
-    }
-    if !numerals::is_numeral(text, line.from, line.first) {
-        return false;
-    }
-    if !numerals::is_numeral(text, next(line.first), line.second) {
-        return false;
-    }
-    numerals::is_numeral(text, next(line.second), line.end)
+    line.end != text.len()
+        && numerals::is_numeral(text, line.from, line.first)
+        && numerals::is_numeral(text, next(line.first), line.second)
+        && numerals::is_numeral(text, next(line.second), line.end)
 }
 
 fn begins_line(text: &[u8], at: usize) -> bool {
-    at == 0 || byte(text, std::num::wrapping_sub_usize(at, 1)) == b'\n'
+    at == 0 || entry(text, at.wrapping_sub(1)) == b'\n'
 }
 
 // Whether an earlier line begins with the same two numbers: each has one way to be written, so the bytes up to the
 // second space tell.
 fn is_named_before(text: &[u8], line: Line) -> bool {
-    let count = std::num::wrapping_sub_usize(next(line.second), line.from);
-    let from = line.from;
-    for at in 0..from {
-        if begins_line(text, at) {
-            if places::is_same(text, at, from, count) {
-                return true;
-            }
-        }
-    }
-    false
+    let count = next(line.second).wrapping_sub(line.from);
+    (0..line.from).any(|at| begins_line(text, at) && places::is_same(text, at, line.from, count))
 }
 
-// What is wrong with a line whose earlier ones are right, "in this order within it"; 0 where nothing is.
-pub fn answer(text: &[u8], line: Line, n: u32, root: u32) -> u32 {
+// Whether a line whose earlier ones are right is so too; or the number of what is wrong with it, "in this order within
+// it".
+pub fn check(text: &[u8], line: Line, n: u32, root: u32) -> Result<(), u32> {
     if !has_shape(text, line) {
-        return BAD_SHAPE;
+        return Err(BAD_SHAPE);
     }
-    let t = tail(text, line, n);
-    let h = head(text, line, n);
-    if t == n || h == n {
-        return NO_VERTEX;
-    }
+    let t = tail(text, line, n).ok_or(NO_VERTEX)?;
+    let h = head(text, line, n).ok_or(NO_VERTEX)?;
     if t == h || h == root {
-        return NO_ARC_THERE;
+        return Err(NO_ARC_THERE);
     }
     // "Prices go up to 1,048,574 pence" (A9).
     if numerals::is_above(text, next(line.second), line.end, b"1048574") {
-        return BAD_WEIGHT;
+        return Err(BAD_WEIGHT);
     }
     if is_named_before(text, line) {
-        return NAMED_BEFORE;
+        return Err(NAMED_BEFORE);
     }
-    0
+    Ok(())
 }

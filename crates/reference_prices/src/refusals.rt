@@ -1,4 +1,5 @@
-// The answers of document 02, A3, and its limits. 0 is accepted.
+// The answers of document 02, A3, and its limits. They stay numbers, no enum: the document gives numbers, and these are
+// what is counted and what the product's answers are held to. 0 is accepted.
 pub const BAD_COUNT: u32 = 2; // "2 and 4 for a bad count or root"
 
 pub const BAD_ROOT: u32 = 4;
@@ -22,12 +23,12 @@ pub const MAX_VERTICES: u32 = 32;
 pub const NO_ARC: u32 = 1048575;
 
 // The answers that come before a text or the prices are looked at.
-pub fn count_answer(n: u32, root: u32) -> u32 {
+pub fn check_count(n: u32, root: u32) -> Result<(), u32> {
     if n == 0 || MAX_VERTICES < n {
-        return BAD_COUNT;
+        return Err(BAD_COUNT);
     }
     if n <= root {
-        return BAD_ROOT;
+        return Err(BAD_ROOT);
     }
-    0
+    Ok(())
 }

@@ -2,78 +2,74 @@
 // that names the link", by the log, which is kept from the card and the calls' arguments alone. The records that came
 // on the card lie under the presses, so their places come first: "records of a card .. are the card's until taken
 // back".
-use reference::access::plus;
-use reference::call::Call;
-use reference::history::{History, RECORDS, Record};
+use reference::call::{Call, Kind};
+use reference::history::Record;
 use reference::log::Log;
-use reference::{call, history, shown};
+use reference::shown;
 
 // Whether an accepted press names an arc: a group its links alone, which are all that the log holds of its set.
 fn press_names(c: Call, tail: u32, head: u32) -> bool {
-    if c.kind == call::BUDGET {
+    if c.kind == Kind::Budget || c.first != tail {
         return false;
     }
-    if c.first != tail {
-        return false;
-    }
-    if call::is_group(c.kind) {
+    if c.kind.is_group() {
         return shown::holds(c.second, head);
     }
     c.second == head
 }
 
-fn record_names(r: Record, tail: u32, head: u32) -> bool {
-    if history::names(r.kind, r.second, head) {
-        return r.first == tail;
-    }
-    false
+fn record_names(r: &Record, tail: u32, head: u32) -> bool {
+    r.names(head) && r.first == tail
 }
 
-// The place of the latest of the card's records that names an arc, or 0.
-fn place_below(below: History, tail: u32, head: u32) -> u32 {
-    let mut place = 0;
-    for k in 0..RECORDS as u32 {
-        if k < below.count {
-            if record_names(below.records[k as usize], tail, head) {
-                place = plus(k, 1);
-            }
+// The place of the latest of all that names an arc, the card's records first, from 1; 0 for the card.
+pub fn place(log: &Log, tail: u32, head: u32) -> u32 {
+    let record = (1u32..)
+        .zip(log.below.recorded())
+        .filter(|(_, r)| record_names(r, tail, head))
+        .last();
+    let press = (1u32..)
+        .zip(log.entries())
+        .filter(|(_, c)| press_names(**c, tail, head))
+        .last();
+    match (record, press) {
+        (_, Some((k, _))) => log.below.count.wrapping_add(k),
+        (Some((k, _)), None) => k,
+        (None, None) => 0,
+    }
+}
+
+// What stands at a place.
+#[derive(Clone, Copy, PartialEq, Eq)]
+pub enum Setter {
+    Card,
+    Record,
+    Press,
+    Group,
+}
+
+impl Setter {
+    // The number that it is counted by, from 0.
+    pub fn number(self) -> u32 {
+        match self {
+            Setter::Card => 0,
+            Setter::Record => 1,
+            Setter::Press => 2,
+            Setter::Group => 3,
         }
     }
-    place
 }
 
-// The place of the latest of all that names it, 0 for the card.
-pub fn place(log: Log, tail: u32, head: u32) -> u32 {
-    let below = log.below;
-    let mut place = place_below(below, tail, head);
-    for k in 0..RECORDS as u32 {
-        if k < log.count {
-            if press_names(log.calls[k as usize], tail, head) {
-                place = plus(below.count, plus(k, 1));
-            }
-        }
-    }
-    place
-}
-
-// What stands at a place, for counting.
-pub const CARD: u32 = 0;
-
-pub const RECORD: u32 = 1;
-
-pub const PRESS: u32 = 2;
-
-pub const GROUP: u32 = 3;
-
-pub fn kind_at(log: Log, place: u32) -> u32 {
-    let below = log.below;
+pub fn setter_at(log: &Log, place: u32) -> Setter {
+    let below = log.below.count;
     if place == 0 {
-        return CARD;
+        return Setter::Card;
     }
-    if place <= below.count {
-        return RECORD;
+    if place <= below {
+        return Setter::Record;
     }
-    let at = std::num::wrapping_sub_u32(place, plus(below.count, 1)) % RECORDS as u32;
-    let c = log.calls[at as usize];
-    if call::is_group(c.kind) { GROUP } else { PRESS }
+    match log.entries().get((place - below - 1) as usize) {
+        Some(c) if c.kind.is_group() => Setter::Group,
+        _ => Setter::Press,
+    }
 }

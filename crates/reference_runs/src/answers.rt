@@ -1,7 +1,8 @@
 // The numbers of document 02, A11, and what two lists are refused by. A cell's own fault and an unequal pair are looked
-// for apart, each to its first cell; the earlier of the two cells decides.
+// for apart, each to its first cell; the earlier of the two cells decides. They stay numbers, no enum: the document
+// gives numbers, and these are what is counted and what the product's answers are held to.
 use crate::places;
-use crate::places::{byte, word};
+use crate::places::entry;
 
 pub const BAD_COUNT: u32 = 29; // "29 for a count outside 1 to 32"
 
@@ -22,51 +23,46 @@ pub const PINNED: u8 = 1;
 
 pub const BANNED: u8 = 2;
 
-// The first cell off the diagonal with a fault of its own, or the number of cells.
-fn first_bad(weights: &[u32], marks: &[u8], n: u32) -> u32 {
-    let all = places::cells(n);
-    for cell in 0..all {
-        let weight = word(weights, cell);
-        let mark = byte(marks, cell);
-        let is_marked_gap = weight == NO_RUN && mark != FREE;
-        if NO_RUN < weight || BANNED < mark || is_marked_gap {
-            if places::row(n, cell) != places::column(n, cell) {
-                return cell;
-            }
-        }
-    }
-    all
+// Whether a cell off the diagonal has a fault of its own.
+fn is_bad(weights: &[u32], marks: &[u8], n: u32, cell: u32) -> bool {
+    let weight = entry(weights, cell);
+    let mark = entry(marks, cell);
+    let is_marked_gap = weight == NO_RUN && mark != FREE;
+    (NO_RUN < weight || BANNED < mark || is_marked_gap)
+        && places::row(n, cell) != places::column(n, cell)
 }
 
-// The first cell of the first unequal pair, or the number of cells.
-fn first_unequal(weights: &[u32], marks: &[u8], n: u32) -> u32 {
-    let all = places::cells(n);
-    for cell in 0..all {
-        let other = places::mirror(n, cell);
-        if word(weights, cell) != word(weights, other) || byte(marks, cell) != byte(marks, other) {
-            return cell;
-        }
-    }
-    all
+// Whether a cell and its mirror are an unequal pair.
+fn is_unequal(weights: &[u32], marks: &[u8], n: u32, cell: u32) -> bool {
+    let other = places::mirror(n, cell);
+    entry(weights, cell) != entry(weights, other) || entry(marks, cell) != entry(marks, other)
 }
 
-// The answer to two lists with two buffers of these lengths; 0 where nothing is wrong.
-pub fn answer(weights: &[u32], marks: &[u8], n: u32, states: u32, replacements: u32) -> u32 {
+// The number of the refusal of two lists with two buffers of these lengths, if they are refused.
+pub fn check(
+    weights: &[u32],
+    marks: &[u8],
+    n: u32,
+    states: u32,
+    replacements: u32,
+) -> Result<(), u32> {
     if n == 0 || MAX_VERTICES < n {
-        return BAD_COUNT;
+        return Err(BAD_COUNT);
     }
     let all = places::cells(n);
     if states < all || replacements < all {
-        return TOO_SHORT;
+        return Err(TOO_SHORT);
     }
     if weights.len() < all as usize || marks.len() < all as usize {
-        return TOO_SHORT;
+        return Err(TOO_SHORT);
     }
-    let bad = first_bad(weights, marks, n);
-    let unequal = first_unequal(weights, marks, n);
-    if bad == all && unequal == all {
-        return 0;
-    }
+    let bad = (0..all).find(|&cell| is_bad(weights, marks, n, cell));
+    let unequal = (0..all).find(|&cell| is_unequal(weights, marks, n, cell));
     // "30 .. before 31" within a cell
-    if bad <= unequal { BAD_CELL } else { UNEQUAL }
+    match (bad, unequal) {
+        (None, None) => Ok(()),
+        (Some(x), Some(y)) if y < x => Err(UNEQUAL),
+        (Some(_), _) => Err(BAD_CELL),
+        (None, Some(_)) => Err(UNEQUAL),
+    }
 }

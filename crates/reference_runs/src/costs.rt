@@ -1,7 +1,6 @@
 // What a call has to show, by the least total of all spanning trees, of those with a run and of those without it.
 use crate::answers::{BANNED, FREE, NO_RUN, PINNED};
-use crate::choice::NONE;
-use crate::places::byte;
+use crate::places::entry;
 use crate::{kruskal, listing, places};
 
 pub const CELLS: usize = 1024;
@@ -21,44 +20,42 @@ pub const OPEN: u8 = 2;
 
 pub const SURE: u8 = 3;
 
-// The least total or NONE, and what the first n times n places of the buffers hold: every run has its replacement cost,
-// whether or not the tree uses it.
+// The least total, if there is a tree, and what the first n times n places of the buffers hold: every run has its
+// replacement cost, whether or not the tree uses it.
 #[derive(Clone, Copy)]
 pub struct Costs {
-    pub least: u32,
+    pub least: Option<u32>,
     pub states: [u8; CELLS],
     pub replacements: [u32; CELLS],
 }
 
 // The state of a run by the least totals with it and without it: "over trees within the larger of the budget and the
 // cheapest total".
-fn state(with: u32, without: u32, least: u32, budget: u32) -> u8 {
-    let bound = if budget < least { least } else { budget };
-    if with == NONE || bound < with {
+fn state(with: Option<u32>, without: Option<u32>, least: Option<u32>, budget: u32) -> u8 {
+    let bound = least.map_or(budget, |total| total.max(budget));
+    if with.is_none_or(|total| bound < total) {
         return CLOSED;
     }
-    if without == NONE || bound < without {
+    if without.is_none_or(|total| bound < total) {
         return SURE;
     }
     OPEN
 }
 
 // "the cheapest price increase of a tree without it"
-fn replacement(without: u32, least: u32) -> u32 {
-    if least == NONE {
-        return NOT_IN_TREE;
+fn replacement(without: Option<u32>, least: Option<u32>) -> u32 {
+    match (without, least) {
+        (_, None) => NOT_IN_TREE,
+        (None, Some(_)) => NO_REPLACEMENT,
+        (Some(total), Some(cheapest)) => total.wrapping_sub(cheapest),
     }
-    if without == NONE {
-        return NO_REPLACEMENT;
-    }
-    std::num::wrapping_sub_u32(without, least)
 }
 
 // The costs with a state and a replacement cost put for the run of a cell, "both ways alike".
 fn put(c: Costs, n: u32, cell: u32, state: u8, replacement: u32) -> Costs {
     let mut next = c;
-    let at = (cell % CELLS as u32) as usize;
-    let other = (places::mirror(n, cell) % CELLS as u32) as usize;
+    let at = cell as usize % CELLS;
+    let other = places::mirror(n, cell) as usize % CELLS;
     next.states[at] = state;
     next.states[other] = state;
     next.replacements[at] = replacement;
@@ -71,17 +68,17 @@ pub fn by_listing(weights: &[u32], marks: &[u8], n: u32, budget: u32) -> Costs {
     let totals = listing::totals(weights, marks, n);
     let least = listing::least(&totals, 0, 0);
     let mut c = Costs {
-        least: least,
+        least,
         states: [NOT_A_RUN; CELLS],
         replacements: [NOT_IN_TREE; CELLS],
     };
-    let mut bit = 1;
+    let mut bit: u32 = 1;
     for cell in 0..places::cells(n) {
         if places::is_upper(n, cell) {
             let with = listing::least(&totals, bit, bit);
             let without = listing::least(&totals, bit, 0);
-            bit = places::plus(bit, bit);
-            if places::word(weights, cell) != NO_RUN {
+            bit = bit.wrapping_mul(2);
+            if entry(weights, cell) != NO_RUN {
                 let cost = replacement(without, least);
                 c = put(c, n, cell, state(with, without, least, budget), cost);
             }
@@ -93,32 +90,38 @@ pub fn by_listing(weights: &[u32], marks: &[u8], n: u32, budget: u32) -> Costs {
 // The marks with another one in a cell.
 fn marked(marks: &[u8], cell: u32, mark: u8) -> [u8; CELLS] {
     let mut other = [FREE; CELLS];
-    for k in 0..CELLS {
-        other[k] = byte(marks, k as u32);
+    for (place, &before) in other.iter_mut().zip(marks) {
+        *place = before;
     }
-    other[(cell % CELLS as u32) as usize] = mark;
+    other[cell as usize % CELLS] = mark;
     other
 }
 
 // The least total where the run of a cell has that mark, which one that has the opposite mark never gets.
-fn least_as(weights: &[u32], marks: &[u8], n: u32, cell: u32, mark: u8, opposite: u8) -> u32 {
-    if byte(marks, cell) == opposite {
-        return NONE;
+fn least_as(
+    weights: &[u32],
+    marks: &[u8],
+    n: u32,
+    cell: u32,
+    mark: u8,
+    opposite: u8,
+) -> Option<u32> {
+    if entry(marks, cell) == opposite {
+        return None;
     }
-    let other = marked(marks, cell, mark);
-    kruskal::least(weights, &other, n)
+    kruskal::least(weights, &marked(marks, cell, mark), n)
 }
 
 // Of a graph of up to 32 vertices, by Kruskal's algorithm.
 pub fn by_kruskal(weights: &[u32], marks: &[u8], n: u32, budget: u32) -> Costs {
     let least = kruskal::least(weights, marks, n);
     let mut c = Costs {
-        least: least,
+        least,
         states: [NOT_A_RUN; CELLS],
         replacements: [NOT_IN_TREE; CELLS],
     };
     for cell in 0..places::cells(n) {
-        if places::is_upper(n, cell) && places::word(weights, cell) != NO_RUN {
+        if places::is_upper(n, cell) && entry(weights, cell) != NO_RUN {
             let with = least_as(weights, marks, n, cell, PINNED, BANNED);
             let without = least_as(weights, marks, n, cell, BANNED, PINNED);
             let cost = replacement(without, least);

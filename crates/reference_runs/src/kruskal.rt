@@ -2,44 +2,45 @@
 // the cheapest free run that joins two components.
 use crate::answers::{FREE, NO_RUN, PINNED};
 use crate::choice::Choice;
-use crate::places::{byte, word};
-use crate::{choice, places};
+use crate::places;
+use crate::places::entry;
 
-fn pinned(weights: &[u32], marks: &[u8], n: u32) -> Choice {
-    let mut c = choice::empty();
+fn pinned(weights: &[u32], marks: &[u8], n: u32) -> Option<Choice> {
+    let mut c = Choice::empty();
     for cell in 0..places::cells(n) {
-        if places::is_upper(n, cell) && byte(marks, cell) == PINNED {
-            c = choice::with(c, n, cell, word(weights, cell), PINNED, true);
+        if places::is_upper(n, cell) && entry(marks, cell) == PINNED {
+            c = c.with(n, cell, entry(weights, cell), PINNED, true)?;
         }
     }
-    c
+    Some(c)
 }
 
-// The choice with the cheapest free run that joins two components, if there is one.
+// Whether a cell has a free run that joins two components.
+fn joins(c: &Choice, marks: &[u8], n: u32, cell: u32) -> bool {
+    places::is_upper(n, cell)
+        && entry(marks, cell) == FREE
+        && entry(&c.labels, places::row(n, cell)) != entry(&c.labels, places::column(n, cell))
+}
+
+// The choice with the cheapest such run, the first of them, if there is one.
 fn grown(c: Choice, weights: &[u32], marks: &[u8], n: u32) -> Choice {
-    let labels = c.labels;
     let mut best = NO_RUN;
     let mut at = 0;
     for cell in 0..places::cells(n) {
-        let weight = word(weights, cell);
-        if places::is_upper(n, cell) && weight < best && byte(marks, cell) == FREE {
-            if word(&labels, places::row(n, cell)) != word(&labels, places::column(n, cell)) {
-                best = weight;
-                at = cell;
-            }
+        let weight = entry(weights, cell);
+        if weight < best && joins(&c, marks, n, cell) {
+            best = weight;
+            at = cell;
         }
     }
-    if best == NO_RUN {
-        return c;
-    }
-    choice::with(c, n, at, best, FREE, true)
+    c.with(n, at, best, FREE, true).unwrap_or(c)
 }
 
-// The least total, or NONE.
-pub fn least(weights: &[u32], marks: &[u8], n: u32) -> u32 {
-    let mut c = pinned(weights, marks, n);
+// The least total, if there is a tree.
+pub fn least(weights: &[u32], marks: &[u8], n: u32) -> Option<u32> {
+    let mut c = pinned(weights, marks, n)?;
     for k in 1..n {
         c = grown(c, weights, marks, n);
     }
-    choice::tree_total(c, n)
+    c.tree_total(n)
 }

@@ -1,38 +1,17 @@
-// Small steps that ask nothing of their caller: sums that wrap, reads that answer past the end; and where a cell stands
-// in a list of n times n places, "feeder by feeder".
-pub fn plus(a: u32, b: u32) -> u32 {
-    std::num::wrapping_add_u32(a, b)
-}
+// Small steps that ask nothing of their caller: reads that answer past the end; and where a cell stands in a list of n
+// times n places, "feeder by feeder".
 
 // 0 past the end.
-pub fn word(words: &[u32], k: u32) -> u32 {
-    let at = k as usize;
-    if at < words.len() {
-        return words[at];
-    }
-    0
-}
-
-pub fn byte(bytes: &[u8], k: u32) -> u8 {
-    let at = k as usize;
-    if at < bytes.len() {
-        return bytes[at];
-    }
-    0
+pub fn entry<T: Copy + Default>(list: &[T], k: u32) -> T {
+    list.get(k as usize).copied().unwrap_or_default()
 }
 
 pub fn row(n: u32, cell: u32) -> u32 {
-    if n == 0 {
-        return 0;
-    }
-    cell / n
+    cell.checked_div(n).unwrap_or(0)
 }
 
 pub fn column(n: u32, cell: u32) -> u32 {
-    if n == 0 {
-        return 0;
-    }
-    cell % n
+    cell.checked_rem(n).unwrap_or(0)
 }
 
 // Whether a cell is the first of its pair: above the diagonal.
@@ -42,11 +21,7 @@ pub fn is_upper(n: u32, cell: u32) -> bool {
 
 // The cell of a row and a column: after n places for each row before it.
 pub fn cell(n: u32, row: u32, column: u32) -> u32 {
-    let mut at = column;
-    for before in 0..row {
-        at = plus(at, n);
-    }
-    at
+    row.wrapping_mul(n).wrapping_add(column)
 }
 
 // The cell of the same pair the other way.

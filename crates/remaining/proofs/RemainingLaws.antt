@@ -14,6 +14,7 @@ use Rattle.instance.specs.Arborescence.{remaining}
 use Rattle.instance.specs.Matrix.{matrix}
 use Rattle.instance.proofs.ArcLaws.{ends}
 use Rattle.instance.proofs.MatrixLaws.{cell_of, matrix_cell, matrix_cells}
+use Rattle.remaining.specs.declared.pins.Pin.{Pin}
 use Rattle.remaining.specs.Pins.{Pins, allows}
 use Rattle.remaining.proofs.PinLaws.{pins_weight}
 
@@ -24,7 +25,7 @@ module _ (s : Instance) (i : ℕ) where
   cell_empty a = rw a
 
   -- a cell where one can be, by its mark and the pins into its head
-  pub cell_judged : (p : ℕ) → i < cells → length s.weights ≡ cells → can_be_arc s.n s.root (i / 32) (i % 32) ≡ true
+  pub cell_judged : (p : Pin) → i < cells → length s.weights ≡ cells → can_be_arc s.n s.root (i / 32) (i % 32) ≡ true
       → (i % 32 < s.n → Pins s (i % 32) s.n p)
       → cond (not (eqb (mark_at s i) banned) && allows p (i / 32)) (get_or s.weights i 0) no_arc ≡ matrix_cell s i
   unfolding weight mark

@@ -1,17 +1,44 @@
-// The pins into each head, summed up in one number.
-ghost use Rattle.std.specs.Prelude.{◌≡◌, ◌≤◌, length};
-ghost use Rattle.instance.specs.Limits.{max_vertices, cells};
+// The pins into each head, summed up.
+ghost use Rattle.std.specs.Prelude.{◌≡◌, ◌≤◌};
+ghost use Rattle.instance.specs.Limits.{max_vertices};
 ghost use Rattle.instance.specs.Instance.{without_budget};
 ghost use Rattle.instance.specs.Arborescence.{is_pinned as pinned-arc};
-ghost use Rattle.remaining.specs.Pins.{Pins, PinTable};
+ghost use Rattle.remaining.specs.Pins.{allows, with_pin, Pins, PinTable};
 
 use checks::arc::is_arc;
-use instance::limits::{CELLS, MAX_VERTICES, PINNED, VERTICES};
+use instance::limits::{CELLS, PINNED, VERTICES};
 
-// Pins into a head: a tail, or one of these.
-pub const NO_PIN: u32 = MAX_VERTICES;
+// The pins into a head: none, one from this tail, or several.
+#[derive(Clone, Copy, Debug, PartialEq, Eq)]
+pub enum Pin {
+    None,
+    One(u32),
+    Several,
+}
 
-const SEVERAL_PINS: u32 = MAX_VERTICES + 1;
+impl Pin {
+    // One pin more, from this tail.
+    fn with(self, tail: u32) -> Pin
+        ensures { result ≡ with_pin self tail }
+    {
+        match self {
+            Pin::None => Pin::One(tail),
+            Pin::One(_) => Pin::Several,
+            Pin::Several => Pin::Several,
+        }
+    }
+
+    // Whether an arc from this tail remains.
+    pub(crate) fn allows(self, tail: u32) -> bool
+        ensures { result ≡ allows self tail }
+    {
+        match self {
+            Pin::None => true,
+            Pin::One(only) => only == tail,
+            Pin::Several => false,
+        }
+    }
+}
 
 pub fn is_pinned<'a>(
     weights: &'a [u32; CELLS],
@@ -21,7 +48,7 @@ pub fn is_pinned<'a>(
     tail: u32,
     head: u32,
 ) -> bool
-    requires { (n ≤ max_vertices) × (length weights.now ≡ cells) × (length marks.now ≡ cells) }
+    requires { (n ≤ max_vertices) }
     ensures { result ≡ pinned-arc (without_budget n root weights.now marks.now) tail head }
 {
     if !is_arc(weights, n, root, tail, head) {
@@ -31,28 +58,21 @@ pub fn is_pinned<'a>(
     marks[i] == PINNED
 }
 
-// The tail of the only pinned arc into the head, or that there is none, or several.
 fn pins_into<'a>(
     weights: &'a [u32; CELLS],
     marks: &'a [u8; CELLS],
     n: u32,
     root: u32,
     head: u32,
-) -> u32
-    requires { (n ≤ max_vertices) × (length weights.now ≡ cells) × (length marks.now ≡ cells) }
+) -> Pin
+    requires { (n ≤ max_vertices) }
     ensures { Pins (without_budget n root weights.now marks.now) head n result }
 {
-    let mut pin = NO_PIN;
-    let mut g: u32 = 0;
-    while g < n {
+    let mut pin = Pin::None;
+    for g in 0..n {
         if is_pinned(weights, marks, n, root, g, head) {
-            if pin == NO_PIN {
-                pin = g;
-            } else {
-                pin = SEVERAL_PINS;
-            }
+            pin = pin.with(g);
         }
-        g += 1;
     }
     pin
 }
@@ -62,15 +82,13 @@ pub fn pin_table<'a>(
     marks: &'a [u8; CELLS],
     n: u32,
     root: u32,
-) -> [u32; VERTICES]
-    requires { (n ≤ max_vertices) × (length weights.now ≡ cells) × (length marks.now ≡ cells) }
+) -> [Pin; VERTICES]
+    requires { (n ≤ max_vertices) }
     ensures { PinTable (without_budget n root weights.now marks.now) n result }
 {
-    let mut table = [NO_PIN; VERTICES];
-    let mut head: u32 = 0;
-    while head < n {
+    let mut table = [Pin::None; VERTICES];
+    for head in 0..n {
         table[head as usize] = pins_into(weights, marks, n, root, head);
-        head += 1;
     }
     table
 }

@@ -14,16 +14,11 @@ use planner::{View, look, open_card};
 use report_text::{MAX_TEXT, write_refusal, write_report};
 
 // The text of a valid board, and its length.
-fn report_board(b: Board, out: &mut [u8]) -> usize
-    requires b_value { valid (model_of b) ≡ true }
+fn report_board(b: &Board, out: &mut [u8]) -> usize
+    requires b_value { valid (model_of b.now) ≡ true }
     requires max_text_in_bounds { max_text ≤ length out.old }
-    ensures { Filled (report_text (instance_of b)) out.old out.new result }
+    ensures { Filled (report_text (instance_of b.now)) out.old out.new result }
 {
-    let n = b.n;
-    let root = b.root;
-    let budget = b.budget;
-    // a copy of the weights alone: a board that is read after the look would be kept whole beside the look's own
-    let weights = b.weights;
     let mut parents = [0u8; VERTICES];
     let mut states = [0u8; CELLS];
     let mut cuts = [0u32; CUT_WORDS];
@@ -32,7 +27,9 @@ fn report_board(b: Board, out: &mut [u8]) -> usize
     let View::Shown(outcome, _) = view else {
         return 0;
     };
-    write_report(&weights, &parents, &states, n, root, budget, outcome, out)
+    write_report(
+        &b.weights, &parents, &states, b.n, b.root, b.budget, outcome, out,
+    )
 }
 
 // Opens a card, looks at it and writes its text, or the line of its refusal, from the buffer's beginning on. A buffer
@@ -46,13 +43,15 @@ pub fn report(card: &[u8], out: &mut [u8]) -> Reported
             length: 0,
         };
     }
-    let opened = open_card(card);
-    let answer = opened.answer;
-    if answer != 0 {
-        let length = write_refusal(answer, out);
-        return Reported { answer, length };
+    match open_card(card) {
+        Ok(board) => {
+            let length = report_board(&board, out);
+            Reported { answer: 0, length }
+        }
+        Err(refusal) => {
+            let answer = u32::from(refusal);
+            let length = write_refusal(answer, out);
+            Reported { answer, length }
+        }
     }
-    let board = opened.board;
-    let length = report_board(board, out);
-    Reported { answer: 0, length }
 }

@@ -73,11 +73,9 @@ fn put_arcs(
     requires room { Room (join_below n (feed_at weights.now parents.now root)) out.old at }
     ensures { Puts (join_below n (feed_at weights.now parents.now root)) out.old out.new at result }
 {
-    let mut v = 0;
     let mut next = at;
-    while v < n {
+    for v in 0..n {
         next = put_feed_at(weights, parents, root, v, out, next);
-        v += 1;
     }
     next
 }

@@ -15,11 +15,9 @@ fn put_states(states: &[u8], n: u32, from: usize, out: &mut [u8], at: usize) -> 
     requires room { Room (join_below n (λ h. decimal (get_or states.now (from + h) 0))) out.old at }
     ensures { Puts (join_below n (λ h. decimal (get_or states.now (from + h) 0))) out.old out.new at result }
 {
-    let mut h = 0;
     let mut next = at;
-    while h < n as usize {
+    for h in 0..n as usize {
         next = put_decimal(states[from + h] as u32, out, next);
-        h += 1;
     }
     next
 }
@@ -44,11 +42,9 @@ pub fn put_rows(states: &[u8], n: u32, out: &mut [u8], at: usize) -> usize
     requires room { Room (row_lines states.now n) out.old at }
     ensures { Puts (row_lines states.now n) out.old out.new at result }
 {
-    let mut tail = 0;
     let mut next = at;
-    while tail < n {
+    for tail in 0..n {
         next = put_row(states, n, tail, out, next);
-        tail += 1;
     }
     next
 }

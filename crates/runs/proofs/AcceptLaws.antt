@@ -3,17 +3,16 @@ use mathlib.Core.Path.{◌≡◌, refl, sym, ap, ◌∙◌, subst}
 use mathlib.Core.Bool.{false, cond}
 use mathlib.Core.List.{List}
 use mathlib.Core.Logic.{◌≢◌}
-use mathlib.Core.Option.{some}
 use Prim.Native.Nat.{ℕ, ◌*◌, ◌/◌, ◌%◌, ◌≤◌, ◌<◌}
 use native.Mathlib.Omega.{arith}
 use native.Mathlib.Decide.{ℕ_discrete}
 use lib.Dec.{eqb}
 use lib.ListN.{length, get_or, take, replicate}
+use Rattle.std.proofs.lemmas.List.{length-replicate}
 use borrow.Author.Tests.{eq-eqb, ne_eqb}
 use Rattle.base.specs.Lists.{tabulate, in_front}
 use Rattle.base.proofs.GridLaws.{grid_row, grid_column}
-use Rattle.base.proofs.ListLaws.{replicate_at, tabulate_same}
-use Rattle.base.proofs.PartLaws.{take_replicate}
+use Rattle.base.proofs.ListLaws.{replicate_at, tabulate_is, tabulate_same}
 use Rattle.instance.specs.Limits.{max_vertices, no_arc, no_parent}
 use Rattle.instance.specs.declared.Outcome.{Outcome}
 use Rattle.instance.specs.declared.Outcome.TheVariants.{NoTree}
@@ -31,9 +30,8 @@ use Rattle.spanning.proofs.CostLaws.{none_least}
 use Rattle.spanning.proofs.EdgeStateLaws.{state_no_tree}
 use Rattle.prim.proofs.TreeLaws.{nothing_joined, summable, sum_total}
 use Rattle.runs.specs.Show.{closed_state, pair_cost, cost_at}
-use Rattle.runs.specs.Planning.{Accepts, PlansAt, PlansRuns}
+use Rattle.runs.specs.Planning.{Shown, Refused, Accepts, PlansAt, PlansRuns}
 use Rattle.runs.specs.Steps.{Showable, total_by, ShowsTree, ShowsNone}
-use Rattle.runs.specs.declared.planning.RunsView.TheVariants.{Shown, Refused}
 use Rattle.runs.proofs.PlanningLaws.{pair_cases, no_edge, an_edge, shows_tree}
 
 -- WHERE THERE IS NO TREE
@@ -55,13 +53,12 @@ module _ (g : Graph) (valid : ValidGraph g) (b : ℕ) (no_one : (qs : List ℕ) 
   abbrev nothing : List ℕ
   nothing = replicate g.n no_parent
 
-  none_there : (k : ℕ) → k < g.n * g.n → cost_at nothing (λ v. 0) g.n k ≡ cond (joins nothing (k / g.n) (k % g.n)) (replacement_cost g 0 (k / g.n) (k % g.n)) not_in_tree
-  unfolding pair_cost
+  none_there : (k : ℕ) → k < g.n * g.n → not_in_tree ≡ cond (joins nothing (k / g.n) (k % g.n)) (replacement_cost g 0 (k / g.n) (k % g.n)) not_in_tree
   none_there k l =
       let a = grid_row g.n k l in
       let c = grid_column g.n k l in
       let s = valid.small in
-      rw (replicate_at g.n (k % g.n) no_parent, replicate_at g.n (k / g.n) no_parent, ne_eqb no_parent (k / g.n) (λ z. omega arith), ne_eqb no_parent (k % g.n) (λ z. omega arith), nothing_joined g.n (k / g.n) (k % g.n) (omega arith) (omega arith))
+      rw (nothing_joined g.n (k / g.n) (k % g.n) (omega arith) (omega arith))
 
   none_shown : CheapestTree g (least_spanning g 0) nothing
   unfolding CheapestTree
@@ -72,7 +69,7 @@ module _ (g : Graph) (valid : ValidGraph g) (b : ℕ) (no_one : (qs : List ℕ) 
   no_outcome = rw (none_least g 0 no_one)
 
   pub shows_none : (ss₀ ss cs₀ cs : List ℕ) → ss ≡ in_front (tabulate (g.n * g.n) (closed_state g.weights g.n)) ss₀
-      → cs ≡ in_front (tabulate (g.n * g.n) (cost_at (replicate g.n no_parent) (λ v. 0) g.n)) cs₀ → Accepts g b ss₀ ss cs₀ cs (Shown NoTree)
+      → cs ≡ in_front (replicate (g.n * g.n) not_in_tree) cs₀ → Accepts g b ss₀ ss cs₀ cs (Shown NoTree)
   unfolding edge_states costs_shown
   shows_none ss₀ ss cs₀ cs p q =
       record {
@@ -84,8 +81,9 @@ module _ (g : Graph) (valid : ValidGraph g) (b : ℕ) (no_one : (qs : List ℕ) 
               cheapest = none_shown;
               costs_in =
                   q ∙ ap (λ (l : List ℕ). in_front l cs₀)
-                  (tabulate_same (g.n * g.n) (cost_at nothing (λ v. 0) g.n)
-                  (λ k. cond (joins nothing (k / g.n) (k % g.n)) (replacement_cost g 0 (k / g.n) (k % g.n)) not_in_tree) none_there);
+                  (tabulate_is (g.n * g.n) (replicate (g.n * g.n) not_in_tree)
+                  (λ k. cond (joins nothing (k / g.n) (k % g.n)) (replacement_cost g 0 (k / g.n) (k % g.n)) not_in_tree) not_in_tree
+                  (length-replicate (g.n * g.n) not_in_tree) (λ k l. replicate_at (g.n * g.n) k not_in_tree ∙ none_there k l));
             };
       }
 
@@ -100,9 +98,9 @@ module _ (g : Graph) (b : ℕ) (ss₀ ss cs₀ cs : List ℕ) where
   unfolding PlansRuns PlansAt
   plans_refused a e d p q = rw (← e, ne_eqb a 0 d) (record { result = refl; states_same = p; costs_same = q })
 
-  pub plans_shown : (a : ℕ) → a ≡ call_refusal g (length ss₀) (length cs₀) → a ≡ 0 → (o : Outcome) → Accepts g b ss₀ ss cs₀ cs (Shown o) → PlansRuns g b ss₀ ss cs₀ cs (Shown o)
+  pub plans_shown : call_refusal g (length ss₀) (length cs₀) ≡ 0 → (o : Outcome) → Accepts g b ss₀ ss cs₀ cs (Shown o) → PlansRuns g b ss₀ ss cs₀ cs (Shown o)
   unfolding PlansRuns PlansAt
-  plans_shown a e z o r = rw (← e, eq-eqb a 0 z) r
+  plans_shown z o r = rw (eq-eqb (call_refusal g (length ss₀) (length cs₀)) 0 z) r
 
 -- the tree of a graph can be shown
 pub showable : (g : Graph) (valid : ValidGraph g) (ps : List ℕ) → length ps ≡ max_vertices → Cheapest (directed g 0) (is_pinned g) (take g.n ps) → (a c : ℕ) → g.n * g.n ≤ a → g.n * g.n ≤ c
@@ -124,8 +122,6 @@ accepts_tree g valid b ps places best ss₀ ss cs₀ cs o ks e s₀ =
     subst (λ (x : Outcome). Accepts g b ss₀ ss cs₀ cs (Shown x)) (sym s.outcome)
     (shows_tree g valid b (take g.n ps) best ss₀ ss cs₀ cs (total_by g.weights ps g.n) (sum_total g valid ps places best) s.states_in s.costs_in)
 
-pub accepts_none : (g : Graph) (valid : ValidGraph g) (b : ℕ) → ((qs : List ℕ) → Spans (directed g 0) (is_pinned g) qs → ⊥) → (ps : List ℕ) → ps ≡ replicate max_vertices no_parent → (ss₀ ss cs₀ cs : List ℕ)
-    → ShowsNone g.weights ps g.n ss₀ ss cs₀ cs → Accepts g b ss₀ ss cs₀ cs (Shown NoTree)
-accepts_none g valid b no_one ps e ss₀ ss cs₀ cs s =
-    let q : take g.n ps ≡ replicate g.n no_parent = ap (λ (l : List ℕ). take g.n l) e ∙ take_replicate g.n max_vertices no_parent valid.small in
-    shows_none g valid b no_one ss₀ ss cs₀ cs s.states_in (rw q at s.costs_in)
+pub accepts_none : (g : Graph) (valid : ValidGraph g) (b : ℕ) → ((qs : List ℕ) → Spans (directed g 0) (is_pinned g) qs → ⊥) → (ss₀ ss cs₀ cs : List ℕ)
+    → ShowsNone g.weights g.n ss₀ ss cs₀ cs → Accepts g b ss₀ ss cs₀ cs (Shown NoTree)
+accepts_none g valid b no_one ss₀ ss cs₀ cs s = shows_none g valid b no_one ss₀ ss cs₀ cs s.states_in s.costs_in

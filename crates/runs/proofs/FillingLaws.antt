@@ -1,16 +1,16 @@
 -- The tables so far: both are right between the vertices that are done, and stay so when one more is done after its
 -- parent; when none is ready any more, all are done. Assumes nothing.
 use mathlib.Core.Path.{◌≡◌, refl, sym, ap, ◌∙◌, subst}
-use mathlib.Core.Bool.{true, false, cond, not}
+use mathlib.Core.Bool.{Bool, true, false, not}
 use mathlib.Core.List.{List}
+use Rattle.std.specs.Prelude.{None}
 use mathlib.Core.Logic.{◌≢◌}
 use Prim.Native.Nat.{ℕ, zero, suc, max, ◌+◌, ◌*◌, ◌≤◌, ◌<◌}
 use native.Mathlib.Omega.{arith}
 use native.Mathlib.Decide.{ℕ_discrete}
-use lib.Dec.{eqb}
 use lib.ListN.{length, get_or, set, take, replicate, length-set}
 use lib.Seq.{get_or-set_same, get_or-set_other}
-use borrow.Author.Tests.{eqb-true, eqb-false, eq-eqb, ne_eqb, not-true, not-false}
+use borrow.Author.Tests.{eqb-true, ne_eqb, not-true, not-false}
 use Rattle.base.specs.Bounded.{count_below}
 use Rattle.base.proofs.BoolLaws.{not_both, is_true, is_false}
 use Rattle.base.proofs.CountingLaws.{count_more}
@@ -22,30 +22,29 @@ use Rattle.paths.specs.Paths.{Descends}
 use Rattle.paths.proofs.PathLaws.{descends_not, root_avoids}
 use Rattle.spanning.specs.KeyTables.{key_at, greatest_between}
 use Rattle.spanning.proofs.CrossingLaws.{leaves}
-use Rattle.prim.proofs.GrowthLaws.{first_place}
 use Rattle.runs.specs.Tables.{Tree, is_done, is_ready, Readied, ExtendsBelow, ExtendsBetween, TablesOf}
 use Rattle.runs.proofs.TablesLaws.{parent_at, tail_at, tail_apart, reach_own, reach_step, between_step, between_turned, between_same, ready_by, ready_parts}
 
-pub record Filling (keys : List ℕ) (n : ℕ) (parents below between done : List ℕ) : Type 0 where
+pub record Filling (keys : List ℕ) (n : ℕ) (parents : List ℕ) (below : List Bool) (between : List ℕ) (done : List Bool) : Type 0 where
   pub below_size : length below ≡ cells
   pub between_size : length between ≡ cells
   pub done_size : length done ≡ max_vertices
   pub root_done : is_done done 0 ≡ true
   pub closed : (v : ℕ) → v < n → v ≢ 0 → is_done done v ≡ true → is_done done (get_or parents v 0) ≡ true
-  pub below_ok : (y x : ℕ) → y < n → y ≢ 0 → x < n → is_done done x ≡ true → get_or below (32 * y + x) 0 ≡ cond (reaches n y (take n parents) x) 1 0
+  pub below_ok : (y x : ℕ) → y < n → y ≢ 0 → x < n → is_done done x ≡ true → get_or below (32 * y + x) false ≡ reaches n y (take n parents) x
   pub diagonal : (x : ℕ) → x < n → get_or between (cell x x) 0 ≡ 0
   pub between_ok : (x y : ℕ) → x < n → y < n → x ≢ y → is_done done x ≡ true → is_done done y ≡ true
       → get_or between (cell x y) 0 ≡ greatest_between keys n (take n parents) x y
 
 module _ (ks : List ℕ) (n : ℕ) (ps : List ℕ) (t : Tree n ps) where
-  first_done : (v : ℕ) → is_done (set (replicate max_vertices 0) 0 1) v ≡ true → v ≡ 0
+  first_done : (v : ℕ) → is_done (set (replicate max_vertices false) 0 true) v ≡ true → v ≡ 0
   first_done v e = at (ℕ_discrete v 0)
     where
       at : Dec (v ≡ 0) → v ≡ 0
       at (yes z) = z
-      at (no z) = let a = eqb-true (get_or (set (replicate max_vertices 0) 0 1) v 0) 1 e in let b = first_place 1 v z in absurd (omega arith)
+      at (no z) = absurd (not_both _ e (get_or-set_other (replicate max_vertices false) 0 v true false z ∙ replicate_at max_vertices v false))
 
-  pub filling_first : Filling ks n ps (replicate cells 0) (replicate cells 0) (set (replicate max_vertices 0) 0 1)
+  pub filling_first : Filling ks n ps (replicate cells false) (replicate cells 0) (set (replicate max_vertices false) 0 true)
   filling_first =
       record {
         below_size = refl;
@@ -55,13 +54,12 @@ module _ (ks : List ℕ) (n : ℕ) (ps : List ℕ) (t : Tree n ps) where
         closed = λ v vb d e. absurd (d (first_done v e));
         below_ok =
             λ y x yb d xb e.
-            replicate_at cells (32 * y + x) 0
-            ∙ rw (first_done x e, root_avoids n 0 (take n ps) t.rooted t.places.small y yb d n);
+            replicate_at cells (32 * y + x) false ∙ rw (first_done x e) (sym (root_avoids n 0 (take n ps) t.rooted t.places.small y yb d n));
         diagonal = λ x _. replicate_at cells (cell x x) 0;
         between_ok = λ x y xb yb d e f. absurd (d (first_done x e ∙ sym (first_done y f)));
       }
 
-  module _ (bs gs ds : List ℕ) (f : Filling ks n ps bs gs ds) where
+  module _ (bs : List Bool) (gs : List ℕ) (ds : List Bool) (f : Filling ks n ps bs gs ds) where
     -- what is above a vertex that is done is done
     above_done : (k v x : ℕ) → v < n → x < n → is_done ds x ≡ true → reaches k v (take n ps) x ≡ true → is_done ds v ≡ true
     unfolding reaches
@@ -77,7 +75,7 @@ module _ (ks : List ℕ) (n : ℕ) (ps : List ℕ) (t : Tree n ps) where
             rec (get_or ps x 0) (tail_at n ps t x xb o) (f.closed x xb o e) (rw (parent_at n ps t x xb) up)
 
     -- no vertex is left that is ready, so all are done
-    pub all_done : Readied ps ds n n → (v : ℕ) → v < n → is_done ds v ≡ true
+    pub all_done : Readied ps ds n None → (v : ℕ) → v < n → is_done ds v ≡ true
     all_done r v vb = is_true (is_done ds v) (λ o. none o)
       where
         none : is_done ds v ≡ false → ⊥
@@ -85,10 +83,10 @@ module _ (ks : List ℕ) (n : ℕ) (ps : List ℕ) (t : Tree n ps) where
             let l = leaves n 0 (take n ps) t.rooted t.places.small (λ x. not (is_done ds x)) 0 t.rooted.root_below (ap not f.root_done) n v vb (t.rooted.reach v vb) (ap not o) in
             let h = l.h in
             not_both (is_ready ps ds h)
-            (sym (ready_by ps ds h (eqb-false (get_or ds h 0) 1 (not-true (is_done ds h) l.inside))) ∙ rw (parent_at n ps t h l.below) (not-false (is_done ds (parent (take n ps) h)) l.outside))
-            (r.none refl h l.below l.apart)
+            (sym (ready_by ps ds h (not-true (is_done ds h) l.inside)) ∙ rw (parent_at n ps t h l.below) (not-false (is_done ds (parent (take n ps) h)) l.outside))
+            (r h l.below l.apart)
 
-    pub filled : Readied ps ds n n → TablesOf ks n ps bs gs
+    pub filled : Readied ps ds n None → TablesOf ks n ps bs gs
     filled r =
         record {
           below_is = λ v x vb d xb. f.below_ok v x vb d xb (all_done r x xb);
@@ -109,14 +107,14 @@ module _ (ks : List ℕ) (n : ℕ) (ps : List ℕ) (t : Tree n ps) where
       not_below : (x : ℕ) → x < n → is_done ds x ≡ true → reaches n v (take n ps) x ≡ false
       not_below x xb e = is_false (reaches n v (take n ps) x) (λ r. not_both (is_done ds v) (above_done n v x vb xb e r) v_undone)
 
-      abbrev after : List ℕ
-      after = set ds v 1
+      abbrev after : List Bool
+      after = set ds v true
 
       now_done : is_done after v ≡ true
-      now_done = let s = f.done_size in let m = t.places.small in eq-eqb (get_or after v 0) 1 (get_or-set_same ds v 1 0 (omega arith))
+      now_done = let s = f.done_size in let m = t.places.small in get_or-set_same ds v true false (omega arith)
 
       same_done : (x : ℕ) → x ≢ v → is_done after x ≡ is_done ds x
-      same_done x d = ap (λ (k : ℕ). eqb k 1) (get_or-set_other ds v x 1 0 d)
+      same_done x d = get_or-set_other ds v x true false d
 
       was_done : (x : ℕ) → is_done ds x ≡ true → x ≢ v
       was_done x e z = not_both (is_done ds v) (subst (λ (y : ℕ). is_done ds y ≡ true) z e) v_undone
@@ -124,7 +122,7 @@ module _ (ks : List ℕ) (n : ℕ) (ps : List ℕ) (t : Tree n ps) where
       pub done_more : count_below n (is_done ds) + 1 ≤ count_below n (is_done after)
       done_more = count_more n (is_done ds) (is_done after) (λ x _ e. same_done x (was_done x e) ∙ e) v vb v_undone now_done
 
-      module _ (bs' gs' : List ℕ) (eb : ExtendsBelow n v (get_or ps v 0) bs bs') (eg : ExtendsBetween ds v (get_or ps v 0) (key_at ks (get_or ps v 0) v) n gs gs') where
+      module _ (bs' : List Bool) (gs' : List ℕ) (eb : ExtendsBelow n v (get_or ps v 0) bs bs') (eg : ExtendsBetween ds v (get_or ps v 0) (key_at ks (get_or ps v 0) v) n gs gs') where
         step : (x : ℕ) → x < n → is_done ds x ≡ true → max (key_at ks (get_or ps v 0) v) (get_or gs (cell (get_or ps v 0) x) 0) ≡ greatest_between ks n (take n ps) v x
         step x xb e =
             rw (parent_at n ps t v vb)
@@ -165,14 +163,14 @@ module _ (ks : List ℕ) (n : ℕ) (ps : List ℕ) (t : Tree n ps) where
             closed_at x xb d e (yes z) = rw z (keeps (get_or ps v 0) (ready_parts ps ds v ready).1)
             closed_at x xb d e (no z) = keeps (get_or ps x 0) (f.closed x xb d (sym (same_done x z) ∙ e))
 
-            own_column : (y : ℕ) → y < n → y ≢ 0 → Dec (y ≡ v) → get_or bs' (32 * y + v) 0 ≡ cond (reaches n y (take n ps) v) 1 0
-            own_column y yb d (yes z) = rw (z, reach_own n ps t v vb va) eb.own
+            own_column : (y : ℕ) → y < n → y ≢ 0 → Dec (y ≡ v) → get_or bs' (32 * y + v) false ≡ reaches n y (take n ps) v
+            own_column y yb d (yes z) = rw z (eb.own ∙ sym (reach_own n ps t v vb va))
             own_column y yb d (no z) =
                 eb.column y yb z
                 ∙ f.below_ok y (get_or ps v 0) yb d (tail_at n ps t v vb va) (ready_parts ps ds v ready).1
                 ∙ rw (reach_step n ps t v vb va y yb z, parent_at n ps t v vb)
 
-            below_at : (y x : ℕ) → y < n → y ≢ 0 → x < n → is_done after x ≡ true → Dec (x ≡ v) → get_or bs' (32 * y + x) 0 ≡ cond (reaches n y (take n ps) x) 1 0
+            below_at : (y x : ℕ) → y < n → y ≢ 0 → x < n → is_done after x ≡ true → Dec (x ≡ v) → get_or bs' (32 * y + x) false ≡ reaches n y (take n ps) x
             below_at y x yb d xb e (yes z) = rw z (own_column y yb d (ℕ_discrete y v))
             below_at y x yb d xb e (no z) = let q = m in eb.others y x (omega arith) z ∙ f.below_ok y x yb d xb (sym (same_done x z) ∙ e)
 

@@ -4,7 +4,6 @@ use mathlib.Core.Path.{◌≡◌, refl, sym, ap, ◌∙◌}
 use mathlib.Core.Bool.{Bool, true, false, ◌&&◌, not, cond}
 use mathlib.Core.List.{List}
 use mathlib.Core.Logic.{◌⊎◌, inl, inr, ⊎_elim, ◌≢◌}
-use mathlib.Core.Option.{some}
 use Prim.Native.Nat.{ℕ, max, ◌+◌, ◌*◌, ◌/◌, ◌%◌, ◌≤◌, ◌<◌}
 use native.Mathlib.Omega.{arith}
 use native.Mathlib.Nat.{div-add-mod'}
@@ -40,8 +39,7 @@ use Rattle.spanning.proofs.CostLaws.{cheapest_least, replacement_is, tree_allowe
 use Rattle.spanning.proofs.EdgeStateLaws.{state_absent, state_inside, state_outside}
 use Rattle.runs.specs.Replacement.{cost_of}
 use Rattle.runs.specs.Show.{inside_state, outside_state, tree_state, place_state, pair_cost, cost_at}
-use Rattle.runs.specs.Planning.{Accepts}
-use Rattle.runs.specs.declared.planning.RunsView.TheVariants.{Shown}
+use Rattle.runs.specs.Planning.{Shown, Accepts}
 
 -- A PLACE AND ITS PAIR
 module _ (g : Graph) (valid : ValidGraph g) (k : ℕ) (l : k < g.n * g.n) where

@@ -1,26 +1,26 @@
 -- The refusal of a cell by what a program reads, of cells one after the other, and what a graph has that is not
 -- refused. Assumes nothing.
 use mathlib.Core.Path.{◌≡◌, refl, sym, ◌∙◌}
-use mathlib.Core.Bool.{Bool, false, ◌&&◌, ◌||◌, cond}
+use mathlib.Core.Bool.{Bool, true, false, ◌&&◌, ◌||◌, cond}
 use mathlib.Core.List.{List}
-use mathlib.Core.Logic.{◌≢◌}
+use mathlib.Core.Logic.{◌⊎◌, inl, inr, ◌≢◌}
 use Prim.Native.Nat.{ℕ, zero, suc, ◌+◌, ◌-◌, ◌*◌, ◌/◌, ◌%◌, ◌≤◌, ◌<◌}
 use native.Mathlib.Omega.{arith}
 use native.Mathlib.Decide.{ℕ_discrete}
 use lib.Arith.{digits_lt}
 use lib.Dec.{ltb, eqb}
 use lib.ListN.{length, get_or}
-use borrow.Author.Tests.{ltb-false, eqb-false, eq-eqb, ne_eqb}
-use Rattle.base.proofs.BoolLaws.{or_false_left, or_false_right, passed}
+use borrow.Author.Tests.{lt-ltb, le-ltb, ltb-false, eqb-false, eq-eqb, ne_eqb}
+use Rattle.base.proofs.BoolLaws.{and_false_right, or_left, or_right, or_false_left, or_false_right, passed}
 use Rattle.base.proofs.GridLaws.{grid_at_row, grid_at_column}
 use Rattle.base.proofs.ListLaws.{default}
 use Rattle.instance.specs.Limits.{max_vertices, no_arc}
-use Rattle.instance.specs.Refusals.{out_of_range, unequal_pair}
+use Rattle.instance.specs.RefusalNumbers.{refusal_number}
+use Rattle.instance.specs.declared.refusals.Refusal.{Refusal}
+use Rattle.instance.specs.Refusals.{buffer_short, count_out_of_range, out_of_range, unequal_pair}
 use Rattle.instance.specs.Valid.{cell_ok}
 use Rattle.spanning.specs.Graph.{Graph, graph_of}
 use Rattle.spanning.specs.Refusal.{same_both_ways, cell_refusal, refusal_from, graph_refusal, room_refusal, call_refusal, ValidGraph}
-use Rattle.prim.specs.Place.{Placed}
-use Rattle.prim.proofs.PlaceLaws.{row_is, column_is}
 
 -- A CELL
 module _ (n : ℕ) (ws ms : List ℕ) (i j : ℕ) (inside : i * n + j < length ws) (turned : j * n + i < length ws) where
@@ -43,6 +43,18 @@ module _ (n : ℕ) (ws ms : List ℕ) (i j : ℕ) (inside : i * n + j < length w
   unfolding cell_refusal same_both_ways
   edge_read d = rw (ne_eqb i j d, default ws (i * n + j) 0 no_arc inside, default ws (j * n + i) 0 no_arc turned)
 
+  module _ (d : i ≢ j) where
+    pub edge_out : cell_ok w m ≡ false → out_of_range ≡ cell_refusal g i j
+    edge_out e = sym (edge_read d ∙ rw e)
+
+    module _ (fine : cell_ok w m ≡ true) where
+      pub edge_unequal : (w ≢ w') ⊎ (m ≢ m') → unequal_pair ≡ cell_refusal g i j
+      edge_unequal (inl e) = sym (edge_read d ∙ rw (fine, ne_eqb w w' e))
+      edge_unequal (inr e) = sym (edge_read d ∙ rw (fine, and_false_right (eqb w w') (eqb m m') (ne_eqb m m' e)))
+
+      pub edge_equal : w ≡ w' → m ≡ m' → 0 ≡ cell_refusal g i j
+      edge_equal e f = sym (edge_read d ∙ rw (fine, eq-eqb w w' e, eq-eqb m m' f))
+
 -- the diagonal is not judged
 pub edge_same : (g : Graph) (i j : ℕ) → i ≡ j → 0 ≡ cell_refusal g i j
 unfolding cell_refusal
@@ -57,17 +69,14 @@ module _ (g : Graph) where
   unfolding graph_refusal
   from_first = let e : g.n * g.n - 0 ≡ g.n * g.n = omega arith in rw e
 
-  module _ (c k i j : ℕ) (p : Placed g.n k i j) (l : k < c) where
-    here_is : here_at k ≡ cell_refusal g i j
-    here_is = rw (row_is g.n k i j p, column_is g.n k i j p)
-
-    pub from_stop : cell_refusal g i j ≢ 0 → refusal_from g (c - k) k ≡ cell_refusal g i j
+  module _ (c k : ℕ) (l : k < c) where
+    pub from_stop : cell_refusal g (k / g.n) (k % g.n) ≢ 0 → refusal_from g (c - k) k ≡ cell_refusal g (k / g.n) (k % g.n)
     unfolding refusal_from
-    from_stop d = let e : c - k ≡ suc (c - (k + 1)) = omega arith in rw (e, ne_eqb (here_at k) 0 (λ z. d (sym here_is ∙ z))) here_is
+    from_stop d = let e : c - k ≡ suc (c - (k + 1)) = omega arith in rw (e, ne_eqb (here_at k) 0 d)
 
-    pub from_next : cell_refusal g i j ≡ 0 → refusal_from g (c - k) k ≡ refusal_from g (c - (k + 1)) (k + 1)
+    pub from_next : cell_refusal g (k / g.n) (k % g.n) ≡ 0 → refusal_from g (c - k) k ≡ refusal_from g (c - (k + 1)) (k + 1)
     unfolding refusal_from
-    from_next z = let e : c - k ≡ suc (c - (k + 1)) = omega arith in let s : suc k ≡ k + 1 = omega arith in rw (e, eq-eqb (here_at k) 0 (here_is ∙ z), s)
+    from_next z = let e : c - k ≡ suc (c - (k + 1)) = omega arith in let s : suc k ≡ k + 1 = omega arith in rw (e, eq-eqb (here_at k) 0 z, s)
 
   pub from_end : (c k : ℕ) → c ≤ k → refusal_from g (c - k) k ≡ 0
   unfolding refusal_from
@@ -147,9 +156,36 @@ module _ (g : Graph) (a b : ℕ) where
   unfolding call_refusal
   answer_room r e d = rw (← e, ne_eqb r 0 d)
 
-  pub answer_cells : (r : ℕ) → r ≡ room_refusal g.n (length g.weights) (length g.marks) a b → r ≡ 0 → graph_refusal g ≡ call_refusal g a b
+  pub answer_cells : room_refusal g.n (length g.weights) (length g.marks) a b ≡ 0 → graph_refusal g ≡ call_refusal g a b
   unfolding call_refusal
-  answer_cells r e z = rw (← e, eq-eqb r 0 z)
+  answer_cells z = rw (eq-eqb (room_refusal g.n (length g.weights) (length g.marks) a b) 0 z)
+
+-- one test after the other
+module _ (n a b c d : ℕ) where
+  pub room_count : (n ≡ 0) ⊎ (max_vertices < n) → count_out_of_range ≡ room_refusal n a b c d
+  unfolding room_refusal
+  room_count (inl e) = rw (eq-eqb n 0 e)
+  room_count (inr l) = rw (or_right (eqb n 0) (ltb max_vertices n) (lt-ltb max_vertices n l))
+
+  module _ (some : 1 ≤ n) (small : n ≤ max_vertices) where
+    counted : eqb n 0 || ltb max_vertices n ≡ false
+    counted = rw (ne_eqb n 0 (λ e. omega arith), le-ltb max_vertices n small)
+
+    abbrev short : Bool
+    short = (ltb a (n * n) || ltb b (n * n)) || (ltb c (n * n) || ltb d (n * n))
+
+    by_short : (t : Bool) → short ≡ t → cond t buffer_short 0 ≡ room_refusal n a b c d
+    unfolding room_refusal
+    by_short t e = sym (rw (counted, e))
+
+    pub room_short : ((a < n * n) ⊎ (b < n * n)) ⊎ ((c < n * n) ⊎ (d < n * n)) → buffer_short ≡ room_refusal n a b c d
+    room_short (inl (inl l)) = by_short true (rw (lt-ltb a (n * n) l))
+    room_short (inl (inr l)) = by_short true (or_left (ltb a (n * n) || ltb b (n * n)) _ (or_right (ltb a (n * n)) (ltb b (n * n)) (lt-ltb b (n * n) l)))
+    room_short (inr (inl l)) = by_short true (or_right (ltb a (n * n) || ltb b (n * n)) _ (or_left (ltb c (n * n)) (ltb d (n * n)) (lt-ltb c (n * n) l)))
+    room_short (inr (inr l)) = by_short true (or_right (ltb a (n * n) || ltb b (n * n)) _ (or_right (ltb c (n * n)) (ltb d (n * n)) (lt-ltb d (n * n) l)))
+
+    pub room_enough : n * n ≤ a → n * n ≤ b → n * n ≤ c → n * n ≤ d → 0 ≡ room_refusal n a b c d
+    room_enough w x y z = by_short false (rw (le-ltb a (n * n) w, le-ltb b (n * n) x, le-ltb c (n * n) y, le-ltb d (n * n) z))
 
 -- enough room
 pub record Room (n a b : ℕ) : Type 0 where

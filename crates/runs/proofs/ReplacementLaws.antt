@@ -3,19 +3,19 @@ use mathlib.Core.Path.{◌≡◌, refl, sym, ◌∙◌}
 use mathlib.Core.Bool.{Bool, true, false, ◌&&◌}
 use mathlib.Core.List.{List}
 use mathlib.Core.Logic.{◌≢◌}
-use Prim.Native.Nat.{ℕ, ◌+◌, ◌*◌, ◌≤◌, ◌<◌}
+use Prim.Native.Nat.{ℕ, min, ◌+◌, ◌<◌}
 use native.Mathlib.Omega.{arith}
 use lib.Dec.{eqb}
 use lib.ListN.{get_or, take}
 use borrow.Author.Tests.{eqb-true, eq-eqb, ne_eqb}
-use Rattle.base.proofs.BoolLaws.{is_true, is_false, same_test, and_false_right}
+use Rattle.base.proofs.BoolLaws.{same_test, and_false_right}
 use Rattle.instance.specs.Arborescence.{parent, reaches}
 use Rattle.paths.proofs.TreeLaws.{parent_read}
 use Rattle.spanning.specs.Extremes.{least_below}
 use Rattle.spanning.specs.Keys.{no_key}
 use Rattle.spanning.specs.KeyTables.{crossing_key, least_into}
 use Rattle.spanning.proofs.ExtremeLaws.{least_more, least_none}
-use Rattle.runs.specs.Tables.{Places, BelowTable}
+use Rattle.runs.specs.Tables.{Places}
 
 -- an equation both ways
 eqb_turned : (a b : ℕ) → eqb a b ≡ eqb b a
@@ -33,13 +33,9 @@ module _ (n : ℕ) (parents : List ℕ) where
       whole true = refl
       whole false = refl
 
--- a loop that keeps the least, and one that keeps the greatest
-module _ (f : ℕ → ℕ) (k x best : ℕ) (e : x ≡ f k) where
-  pub least_smaller : (m : ℕ) → best ≡ least_below m k f → x < best → x ≡ least_below m (k + 1) f
-  least_smaller m h l = let s = least_more m f k in omega arith
-
-  pub least_stays : (m : ℕ) → best ≡ least_below m k f → best ≤ x → best ≡ least_below m (k + 1) f
-  least_stays m h l = let s = least_more m f k in omega arith
+-- a loop that keeps the least
+pub least_next : (m : ℕ) (f : ℕ → ℕ) (k x best : ℕ) → x ≡ f k → best ≡ least_below m k f → min best x ≡ least_below m (k + 1) f
+least_next m f k x best e h = let s = least_more m f k in omega arith
 
 pub least_first : (m : ℕ) (f : ℕ → ℕ) → m ≡ least_below m 0 f
 unfolding least_below
@@ -49,11 +45,3 @@ least_first m f = refl
 pub into_outside : (ks : List ℕ) (n : ℕ) (ps : List ℕ) (v j : ℕ) → reaches n v ps j ≡ false → no_key ≡ least_into ks n ps v j
 unfolding least_into crossing_key
 into_outside ks n ps v j e = sym (least_none no_key (crossing_key ks n ps v j) n (λ i l. rw e))
-
--- A FLAG of the first table, as it is read
-module _ (n : ℕ) (parents below : List ℕ) (t : BelowTable n parents below) (v x : ℕ) (vb : v < n) (va : v ≢ 0) (xb : x < n) where
-  pub flag_true : get_or below (32 * v + x) 0 ≡ 1 → reaches n v (take n parents) x ≡ true
-  flag_true e = is_true (reaches n v (take n parents) x) (λ o. let z = t v x vb va xb in let q : get_or below (32 * v + x) 0 ≡ 0 = z ∙ rw o in omega arith)
-
-  pub flag_false : get_or below (32 * v + x) 0 ≢ 1 → reaches n v (take n parents) x ≡ false
-  flag_false e = is_false (reaches n v (take n parents) x) (λ i. e (t v x vb va xb ∙ rw i))

@@ -1,8 +1,8 @@
 -- States and costs of a place, by what a program reads. Assumes nothing.
-use mathlib.Core.Path.{◌≡◌, sym, ◌∙◌}
-use mathlib.Core.Bool.{true, false}
+use mathlib.Core.Path.{◌≡◌, refl, sym, ◌∙◌}
+use mathlib.Core.Bool.{Bool, true, false, cond}
 use mathlib.Core.List.{List}
-use mathlib.Core.Logic.{◌≢◌}
+use mathlib.Core.Logic.{◌⊎◌, inl, inr, ◌≢◌}
 use Prim.Native.Nat.{ℕ, ◌/◌, ◌%◌, ◌<◌}
 use lib.Dec.{eqb}
 use lib.ListN.{get_or, take}
@@ -13,11 +13,9 @@ use Rattle.paths.proofs.TreeLaws.{parent_read}
 use Rattle.spanning.specs.Keys.{cost_by}
 use Rattle.spanning.specs.KeyTables.{key_at, least_crossing, greatest_between}
 use Rattle.spanning.specs.ReplacementCosts.{not_in_tree}
-use Rattle.prim.specs.Place.{Placed}
-use Rattle.prim.proofs.PlaceLaws.{row_is, column_is}
 use Rattle.runs.specs.Tables.{Places}
 use Rattle.runs.specs.Replacement.{cost_of}
-use Rattle.runs.specs.Show.{inside_state, outside_state, tree_state, place_state, closed_state, pair_cost, cost_at}
+use Rattle.runs.specs.Show.{inside_state, outside_state, tree_state, place_state, closed_state, pair_cost}
 
 -- THE COST OF A VERTEX'S EDGE
 module _ (ks : List ℕ) (n : ℕ) (ps : List ℕ) (v : ℕ) where
@@ -73,32 +71,30 @@ module _ (n : ℕ) (ps : List ℕ) (p : Places n ps) (i j : ℕ) (ib : i < n) (j
     pair_out d e = rw (not_j d, not_i e)
 
 -- A PLACE
-module _ (ws ks : List ℕ) (n : ℕ) (ps : List ℕ) (t l k i j : ℕ) (p : Placed n k i j) where
-  pub place_diagonal : i ≡ j → 0 ≡ place_state ws ks n ps t l k
-  unfolding place_state
-  place_diagonal e = rw (row_is n k i j p, column_is n k i j p, eq-eqb i j e)
-
-  pub place_empty : i ≢ j → get_or ws k 0 ≡ no_arc → 0 ≡ place_state ws ks n ps t l k
-  unfolding place_state
-  place_empty d e = rw (row_is n k i j p, column_is n k i j p, ne_eqb i j d, eq-eqb (get_or ws k 0) no_arc e)
-
-  pub place_edge : i ≢ j → get_or ws k 0 ≢ no_arc → tree_state ks n ps t l i j ≡ place_state ws ks n ps t l k
-  unfolding place_state
-  place_edge d e = rw (row_is n k i j p, column_is n k i j p, ne_eqb i j d, ne_eqb (get_or ws k 0) no_arc e)
-
--- its cost, by row and column
-pub cost_placed : (ps : List ℕ) (f : ℕ → ℕ) (n k i j : ℕ) → Placed n k i j → pair_cost ps f i j ≡ cost_at ps f n k
-cost_placed ps f n k i j p = rw (row_is n k i j p, column_is n k i j p)
-
--- where there is no tree
 module _ (ws : List ℕ) (n k : ℕ) where
-  pub closed_diagonal : k / n ≡ k % n → 0 ≡ closed_state ws n k
-  unfolding closed_state
-  closed_diagonal e = rw (eq-eqb (k / n) (k % n) e)
+  module _ (ks ps : List ℕ) (t l : ℕ) where
+    pub place_absent : (k / n ≡ k % n) ⊎ (get_or ws k 0 ≡ no_arc) → 0 ≡ place_state ws ks n ps t l k
+    unfolding place_state
+    place_absent (inl e) = rw (eq-eqb (k / n) (k % n) e)
+    place_absent (inr e) = at (eqb (k / n) (k % n))
+      where
+        at : (b : Bool) → 0 ≡ cond b 0 (cond (eqb (get_or ws k 0) no_arc) 0 (tree_state ks n ps t l (k / n) (k % n)))
+        at true = refl
+        at false = rw (eq-eqb (get_or ws k 0) no_arc e)
 
-  pub closed_empty : k / n ≢ k % n → get_or ws k 0 ≡ no_arc → 0 ≡ closed_state ws n k
+    pub place_edge : k / n ≢ k % n → get_or ws k 0 ≢ no_arc → tree_state ks n ps t l (k / n) (k % n) ≡ place_state ws ks n ps t l k
+    unfolding place_state
+    place_edge d e = rw (ne_eqb (k / n) (k % n) d, ne_eqb (get_or ws k 0) no_arc e)
+
+  -- where there is no tree
+  pub closed_absent : (k / n ≡ k % n) ⊎ (get_or ws k 0 ≡ no_arc) → 0 ≡ closed_state ws n k
   unfolding closed_state
-  closed_empty d e = rw (ne_eqb (k / n) (k % n) d, eq-eqb (get_or ws k 0) no_arc e)
+  closed_absent (inl e) = rw (eq-eqb (k / n) (k % n) e)
+  closed_absent (inr e) = at (eqb (k / n) (k % n))
+    where
+      at : (b : Bool) → ◌≡◌ {A = ℕ} 0 (cond b 0 (cond (eqb (get_or ws k 0) no_arc) 0 1))
+      at true = refl
+      at false = rw (eq-eqb (get_or ws k 0) no_arc e)
 
   pub closed_edge : k / n ≢ k % n → get_or ws k 0 ≢ no_arc → 1 ≡ closed_state ws n k
   unfolding closed_state

@@ -3,15 +3,15 @@
 use mathlib.Core.Path.{◌≡◌, refl, sym, ap, ◌∙◌, subst}
 use mathlib.Core.Bool.{Bool, true, false, cond, not}
 use mathlib.Core.List.{List}
-use mathlib.Core.Logic.{◌⊎◌, inl, inr, ◌≢◌}
+use mathlib.Core.Logic.{◌≢◌}
 use Prim.Native.Nat.{ℕ, max, ◌+◌, ◌*◌, ◌≤◌, ◌<◌}
 use native.Mathlib.Omega.{arith}
 use native.Mathlib.Decide.{ℕ_discrete}
 use lib.Dec.{eqb}
 use lib.ListN.{length, get_or, set, take, length-set}
 use lib.Seq.{get_or-set_same, get_or-set_other}
-use borrow.Author.Tests.{eqb-true, eq-eqb, ne_eqb}
-use Rattle.base.proofs.BoolLaws.{test, not_both, is_false, same_test}
+use borrow.Author.Tests.{ne_eqb, not-true}
+use Rattle.base.proofs.BoolLaws.{not_both, is_false, same_test, and_left, and_right}
 use Rattle.instance.specs.Limits.{max_vertices, cells}
 use Rattle.instance.specs.Instance.{cell}
 use Rattle.instance.specs.Arborescence.{parent, reaches}
@@ -20,7 +20,7 @@ use Rattle.paths.proofs.TreeLaws.{parent_read, rooted_tail}
 use Rattle.spanning.specs.KeyTables.{key_at, between_key, greatest_between}
 use Rattle.spanning.proofs.ExtremeLaws.{greatest_same, greatest_one, greatest_zero}
 use Rattle.spanning.proofs.CrossingLaws.{descends_tested}
-use Rattle.runs.specs.Tables.{Tree, is_done, is_ready, Readied, ExtendsBelow, ExtendsBetween}
+use Rattle.runs.specs.Tables.{Tree, is_done, is_ready, ExtendsBelow, ExtendsBetween}
 
 -- A TREE AS A PROGRAM READS IT
 module _ (n : ℕ) (ps : List ℕ) (t : Tree n ps) where
@@ -82,28 +82,15 @@ between_same ks n ps x = greatest_zero n (between_key ks n ps x x) (λ v _. at v
     at v false false = refl
 
 -- A VERTEX THAT IS READY
-module _ (ps ds : List ℕ) where
-  pub ready_done : (v : ℕ) → get_or ds v 0 ≡ 1 → false ≡ is_ready ps ds v
+module _ (ps : List ℕ) (ds : List Bool) where
+  pub ready_by : (v : ℕ) → is_done ds v ≡ false → is_done ds (get_or ps v 0) ≡ is_ready ps ds v
   unfolding is_ready
-  ready_done v e = rw (eq-eqb (get_or ds v 0) 1 e)
-
-  pub ready_by : (v : ℕ) → get_or ds v 0 ≢ 1 → eqb (get_or ds (get_or ps v 0) 0) 1 ≡ is_ready ps ds v
-  unfolding is_ready
-  ready_by v e = rw (ne_eqb (get_or ds v 0) 1 e)
+  ready_by v e = rw e
 
   pub ready_parts : (v : ℕ) → is_ready ps ds v ≡ true → (is_done ds v ≡ false) × (is_done ds (get_or ps v 0) ≡ true)
   unfolding is_ready
-  ready_parts v e = at (test (is_done ds v))
-    where
-      at : (is_done ds v ≡ true) ⊎ (is_done ds v ≡ false) → (is_done ds v ≡ false) × (is_done ds (get_or ps v 0) ≡ true)
-      at (inl d) = absurd (not_both (is_ready ps ds v) e (sym (ready_done v (eqb-true (get_or ds v 0) 1 d))))
-      at (inr d) = (d, rw d at e)
-
-  pub ready_found : (n v : ℕ) → v < n → v ≢ 0 → is_ready ps ds v ≡ true → Readied ps ds n v
-  ready_found n v vb d e = record { most = omega arith; ready = λ _. (d, e); none = λ z. absurd (omega arith) }
-
-  pub ready_none : (n v : ℕ) → n ≤ v → ((w : ℕ) → w < v → w ≢ 0 → is_ready ps ds w ≡ false) → Readied ps ds n n
-  ready_none n v l h = record { most = omega arith; ready = λ b. absurd (omega arith); none = λ _ w b d. h w (omega arith) d }
+  ready_parts v e =
+      (not-true (is_done ds v) (and_left (not (is_done ds v)) (is_done ds (get_or ps v 0)) e), and_right (not (is_done ds v)) (is_done ds (get_or ps v 0)) e)
 
   -- one vertex more that is not ready
   pub ready_more : (v : ℕ) → ((w : ℕ) → w < v → w ≢ 0 → is_ready ps ds w ≡ false) → is_ready ps ds v ≡ false → (w : ℕ) → w < v + 1 → w ≢ 0 → is_ready ps ds w ≡ false
@@ -114,42 +101,42 @@ module _ (ps ds : List ℕ) where
       at (no z) = h w (omega arith) d
 
 -- THE COLUMN OF THE FIRST TABLE
-pub record Column (v tail bound : ℕ) (old new : List ℕ) : Type 0 where
+pub record Column (v tail bound : ℕ) (old new : List Bool) : Type 0 where
   pub size : length new ≡ cells
-  pub done : (y : ℕ) → y < bound → get_or new (32 * y + v) 0 ≡ get_or old (32 * y + tail) 0
-  pub others : (y x : ℕ) → x < max_vertices → x ≢ v → get_or new (32 * y + x) 0 ≡ get_or old (32 * y + x) 0
-  pub later : (y x : ℕ) → x < max_vertices → bound ≤ y → get_or new (32 * y + x) 0 ≡ get_or old (32 * y + x) 0
+  pub done : (y : ℕ) → y < bound → get_or new (32 * y + v) false ≡ get_or old (32 * y + tail) false
+  pub others : (y x : ℕ) → x < max_vertices → x ≢ v → get_or new (32 * y + x) false ≡ get_or old (32 * y + x) false
+  pub later : (y x : ℕ) → x < max_vertices → bound ≤ y → get_or new (32 * y + x) false ≡ get_or old (32 * y + x) false
 
-pub column_first : (v tail : ℕ) (old : List ℕ) → length old ≡ cells → Column v tail 0 old old
+pub column_first : (v tail : ℕ) (old : List Bool) → length old ≡ cells → Column v tail 0 old old
 column_first v tail old e = record { size = e; done = λ y l. absurd (omega arith); others = λ y x _ _. refl; later = λ y x _ _. refl }
 
-module _ (v tail b : ℕ) (old new : List ℕ) (c : Column v tail b old new) (vb : v < max_vertices) (tb : tail < max_vertices) (bb : b < max_vertices) where
-  pub column_more : Column v tail (b + 1) old (set new (32 * b + v) (get_or new (32 * b + tail) 0))
+module _ (v tail b : ℕ) (old new : List Bool) (c : Column v tail b old new) (vb : v < max_vertices) (tb : tail < max_vertices) (bb : b < max_vertices) where
+  pub column_more : Column v tail (b + 1) old (set new (32 * b + v) (get_or new (32 * b + tail) false))
   column_more =
       let s = c.size in
       record {
         size = simp length-set c.size;
         done = λ y l. at y l (ℕ_discrete y b);
-        others = λ y x xb d. get_or-set_other new (32 * b + v) (32 * y + x) _ 0 (λ z. d (omega arith)) ∙ c.others y x xb d;
-        later = λ y x xb l. get_or-set_other new (32 * b + v) (32 * y + x) _ 0 (λ z. omega arith) ∙ c.later y x xb (omega arith);
+        others = λ y x xb d. get_or-set_other new (32 * b + v) (32 * y + x) _ false (λ z. d (omega arith)) ∙ c.others y x xb d;
+        later = λ y x xb l. get_or-set_other new (32 * b + v) (32 * y + x) _ false (λ z. omega arith) ∙ c.later y x xb (omega arith);
       }
     where
-      at : (y : ℕ) → y < b + 1 → Dec (y ≡ b) → get_or (set new (32 * b + v) (get_or new (32 * b + tail) 0)) (32 * y + v) 0 ≡ get_or old (32 * y + tail) 0
-      at y l (yes z) = let s = c.size in rw z (get_or-set_same new (32 * b + v) (get_or new (32 * b + tail) 0) 0 (omega arith) ∙ c.later b tail tb (omega arith))
-      at y l (no z) = get_or-set_other new (32 * b + v) (32 * y + v) _ 0 (λ q. z (omega arith)) ∙ c.done y (omega arith)
+      at : (y : ℕ) → y < b + 1 → Dec (y ≡ b) → get_or (set new (32 * b + v) (get_or new (32 * b + tail) false)) (32 * y + v) false ≡ get_or old (32 * y + tail) false
+      at y l (yes z) = let s = c.size in rw z (get_or-set_same new (32 * b + v) (get_or new (32 * b + tail) false) false (omega arith) ∙ c.later b tail tb (omega arith))
+      at y l (no z) = get_or-set_other new (32 * b + v) (32 * y + v) _ false (λ q. z (omega arith)) ∙ c.done y (omega arith)
 
-pub column_end : (n v tail b : ℕ) (old new : List ℕ) → Column v tail b old new → n ≤ b → v < n → n ≤ max_vertices → ExtendsBelow n v tail old (set new (32 * v + v) 1)
+pub column_end : (n v tail b : ℕ) (old new : List Bool) → Column v tail b old new → n ≤ b → v < n → n ≤ max_vertices → ExtendsBelow n v tail old (set new (32 * v + v) true)
 column_end n v tail b old new c l vb small =
     let s = c.size in
     record {
       size = simp length-set c.size;
-      column = λ y yb d. get_or-set_other new (32 * v + v) (32 * y + v) 1 0 (λ z. d (omega arith)) ∙ c.done y (omega arith);
-      own = get_or-set_same new (32 * v + v) 1 0 (omega arith);
-      others = λ y x xb d. get_or-set_other new (32 * v + v) (32 * y + x) 1 0 (λ z. d (omega arith)) ∙ c.others y x xb d;
+      column = λ y yb d. get_or-set_other new (32 * v + v) (32 * y + v) true false (λ z. d (omega arith)) ∙ c.done y (omega arith);
+      own = get_or-set_same new (32 * v + v) true false (omega arith);
+      others = λ y x xb d. get_or-set_other new (32 * v + v) (32 * y + x) true false (λ z. d (omega arith)) ∙ c.others y x xb d;
     }
 
 -- THE ROW AND THE COLUMN OF THE SECOND TABLE
-module _ (ds : List ℕ) (v tail key : ℕ) (old : List ℕ) where
+module _ (ds : List Bool) (v tail key : ℕ) (old : List ℕ) where
   pub row_first : length old ≡ cells → ExtendsBetween ds v tail key 0 old old
   row_first e = record { size = e; row = λ x l. absurd (omega arith); column = λ x l. absurd (omega arith); own = refl; others = λ x y _ _ _ _. refl }
 

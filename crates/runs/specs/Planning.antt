@@ -1,13 +1,23 @@
 -- What `plan_runs` promises, for every input (02, A11). Unique, and so an equation: the result, the states, and what
 -- both buffers hold after a refusal. Free, with what holds of it: which cheapest spanning tree has its replacement
 -- costs in the buffer (Shows-graph: tree, cheapest). Assumes nothing: these are definitions.
-use Rattle.std.specs.Prelude.{◌≡◌, Bool, true, false, List, ℕ, eqb, length}
+use Rattle.std.specs.Prelude.{◌≡◌, Bool, true, false, List, ℕ, Result, Ok, Err, eqb, length}
+use Rattle.instance.specs.RefusalNumbers.{refusal_number}
+use Rattle.instance.specs.declared.Outcome.{Outcome}
+use Rattle.instance.specs.declared.refusals.Refusal.{Refusal}
 use Rattle.spanning.specs.EdgeStates.{graph_outcome}
 use Rattle.spanning.specs.Graph.{Graph}
 use Rattle.spanning.specs.Refusal.{call_refusal}
 use Rattle.spanning.specs.Shown.{ShowsGraph}
-use Rattle.runs.specs.declared.planning.RunsView.{RunsView}
-use Rattle.runs.specs.declared.planning.RunsView.TheVariants.{Shown, Refused}
+
+-- the outcome, or the number of a refusal
+pub data RunsView : Type 0 where
+  Shown : Outcome → RunsView
+  Refused : ℕ → RunsView
+
+abbrev pub view_of : Result Outcome Refusal → RunsView
+view_of (Ok o) = Shown o
+view_of (Err r) = Refused (refusal_number r)
 
 -- the number of a result: 0 where something is shown
 unfoldable pub view_number : RunsView → ℕ

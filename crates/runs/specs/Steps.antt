@@ -1,11 +1,12 @@
 -- What is shown of a tree, or where there is none, by weights and keys: the steps of `plan_runs`. Assumes nothing:
 -- these are definitions.
-use Rattle.std.specs.Prelude.{◌≡◌, cond, List, ℕ, max, ◌*◌, ◌≤◌, leb, take}
+use Rattle.std.specs.Prelude.{◌≡◌, cond, List, ℕ, max, ◌*◌, ◌≤◌, leb, take, replicate}
 use Rattle.base.specs.Bounded.{sum_below}
 use Rattle.base.specs.Lists.{tabulate, in_front}
 use Rattle.instance.specs.declared.Outcome.{Outcome}
 use Rattle.instance.specs.declared.Outcome.TheVariants.{Plan, Over}
 use Rattle.paths.specs.Paths.{Rooted}
+use Rattle.spanning.specs.ReplacementCosts.{not_in_tree}
 use Rattle.prim.specs.Tree.{edge_cost, Summable}
 use Rattle.runs.specs.Replacement.{cost_of}
 use Rattle.runs.specs.Show.{place_state, closed_state, cost_at}
@@ -29,6 +30,6 @@ pub record ShowsTree (weights keys parents : List ℕ) (n budget : ℕ) (states�
   pub costs_in : costs ≡ in_front (tabulate (n * n) (cost_at (take n parents) (cost_of keys n (take n parents)) n)) costs₀
 
 -- and where there is no tree
-pub record ShowsNone (weights parents : List ℕ) (n : ℕ) (states₀ states costs₀ costs : List ℕ) : Type 0 where
+pub record ShowsNone (weights : List ℕ) (n : ℕ) (states₀ states costs₀ costs : List ℕ) : Type 0 where
   pub states_in : states ≡ in_front (tabulate (n * n) (closed_state weights n)) states₀
-  pub costs_in : costs ≡ in_front (tabulate (n * n) (cost_at (take n parents) (λ v. 0) n)) costs₀
+  pub costs_in : costs ≡ in_front (replicate (n * n) not_in_tree) costs₀

@@ -8,4 +8,4 @@ mod replacement; // replacement.rt: what the edges of a tree cost to replace
 mod show; // show.rt: the states and the costs, into the caller's buffers
 mod planning; // planning.rt: the public call
 
-pub use planning::{RunsView, plan_runs};
+pub use planning::plan_runs;

@@ -1,25 +1,19 @@
 // The public call for passive runs.
 ghost use Rattle.std.specs.Prelude.{◌*◌, ◌≤◌, length};
+ghost use Rattle.instance.specs.Limits.{max_vertices};
 ghost use Rattle.spanning.specs.Graph.{graph_of};
-ghost use Rattle.runs.specs.Tables.{Places};
-ghost use Rattle.runs.specs.Planning.{PlansRuns};
+ghost use Rattle.runs.specs.Planning.{view_of, PlansRuns};
 ghost use Rattle.runs.specs.Steps.{Showable, ShowsTree, ShowsNone};
 
-use crate::refusal::runs_answer;
-use crate::replacement::edge_costs;
-use crate::show::{write_closed, write_costs, write_states};
-use crate::tables::{fill_tables, larger};
+use crate::refusal::check_runs;
+use crate::replacement::{KeyedTree, edge_costs};
+use crate::show::{NOT_IN_TREE, Shown, write_closed, write_costs, write_states};
+use crate::tables::fill_tables;
 use instance::Outcome;
 use instance::limits::{CELLS, VERTICES};
+use instance::refusals::Refusal;
 use prim::keys::key_table;
 use prim::tree::{cheapest_tree, total_of};
-
-// The outcome, or the number of a refusal.
-#[derive(Clone, Copy)]
-pub enum RunsView {
-    Shown(Outcome),
-    Refused(u32),
-}
 
 // What is shown of a tree.
 fn show_tree(
@@ -36,35 +30,38 @@ fn show_tree(
         states.old states.new costs.old costs.new result }
 {
     let tables = fill_tables(keys, parents, n);
-    let below = tables.below;
-    let between = tables.between;
-    let found = edge_costs(keys, &below, parents, n);
+    let found = edge_costs(&KeyedTree {
+        keys,
+        below: &tables.below,
+        parents,
+        n,
+    });
     let total = total_of(weights, parents, n);
     write_costs(parents, &found, n, costs);
-    let limit = larger(budget, total);
-    write_states(
-        weights, keys, &between, parents, &found, n, total, limit, states,
-    );
+    let shown = Shown {
+        keys,
+        between: &tables.between,
+        parents,
+        costs: &found,
+        n,
+        total,
+        limit: budget.max(total),
+    };
+    write_states(weights, &shown, states);
     if total <= budget {
-        return Outcome::Plan(total);
+        Outcome::Plan(total)
+    } else {
+        Outcome::Over(total)
     }
-    Outcome::Over(total)
 }
 
 // What is shown where there is no tree.
-fn show_none(
-    weights: &[u32],
-    parents: &[u8; VERTICES],
-    n: u32,
-    states: &mut [u8],
-    costs: &mut [u32],
-)
-    requires { (1 ≤ n) × Places n parents.now × (n * n ≤ length weights.now) × (n * n ≤ length states.old) × (n * n ≤ length costs.old) }
-    ensures { ShowsNone weights.now parents.now n states.old states.new costs.old costs.new }
+fn show_none(weights: &[u32], n: u32, states: &mut [u8], costs: &mut [u32])
+    requires { (n ≤ max_vertices) × (n * n ≤ length weights.now) × (n * n ≤ length states.old) × (n * n ≤ length costs.old) }
+    ensures { ShowsNone weights.now n states.old states.new costs.old costs.new }
 {
-    let none = [0u32; VERTICES];
     write_closed(weights, n, states);
-    write_costs(parents, &none, n, costs);
+    costs[..(n * n) as usize].fill(NOT_IN_TREE);
 }
 
 pub fn plan_runs(
@@ -74,21 +71,25 @@ pub fn plan_runs(
     budget: u32,
     states: &mut [u8],
     replacements: &mut [u32],
-) -> RunsView
+) -> Result<Outcome, Refusal>
     ensures { PlansRuns (graph_of count prices.now marks.now) budget
-        states.old states.new replacements.old replacements.new result }
+        states.old states.new replacements.old replacements.new (view_of result) }
 {
-    let answer = runs_answer(prices, marks, count, states.len(), replacements.len());
-    if answer != 0 {
-        return RunsView::Refused(answer);
-    }
+    check_runs(prices, marks, count, states.len(), replacements.len())?;
     let keys = key_table(prices, marks, count);
-    let tree = cheapest_tree(&keys, count);
-    let parents = tree.parents;
-    if tree.found {
-        let outcome = show_tree(prices, &keys, &parents, count, budget, states, replacements);
-        return RunsView::Shown(outcome);
+    match cheapest_tree(&keys, count) {
+        Some(parents) => Ok(show_tree(
+            prices,
+            &keys,
+            &parents,
+            count,
+            budget,
+            states,
+            replacements,
+        )),
+        None => {
+            show_none(prices, count, states, replacements);
+            Ok(Outcome::NoTree)
+        }
     }
-    show_none(prices, &parents, count, states, replacements);
-    RunsView::Shown(Outcome::NoTree)
 }

@@ -3,162 +3,123 @@
 ghost use Rattle.std.specs.Prelude.{◌≡◌, ◌≢◌, ◌*◌, ◌≤◌, ◌<◌, length, get_or, take};
 ghost use Rattle.base.specs.Lists.{tabulate, in_front};
 ghost use Rattle.instance.specs.Limits.{max_vertices};
-ghost use Rattle.prim.specs.Place.{Placed};
+ghost use Rattle.instance.specs.StateNumbers.{state_number};
 ghost use Rattle.runs.specs.Tables.{Places, BetweenTable};
 ghost use Rattle.runs.specs.Replacement.{Costs};
-ghost use Rattle.runs.specs.Show.{inside_state, outside_state, tree_state, place_state, closed_state, pair_cost, cost_at};
+ghost use Rattle.runs.specs.Show.{inside_state, outside_state, tree_state, place_state, closed_state, cost_at};
 
 use crate::replacement::NO_REPLACEMENT;
 use instance::limits::{CELLS, NO_ARC, VERTICES};
-use instance::states::{ABSENT, EXCLUDED, MANDATORY, OPTIONAL};
+use instance::states::State;
 use prim::keys::NO_KEY;
 
 // "4,294,967,294 for whatever is not in the tree"
-const NOT_IN_TREE: u32 = 4_294_967_294;
+pub const NOT_IN_TREE: u32 = 4_294_967_294;
 
 // An edge of the tree: mandatory where no tree within the limit is without it.
-fn inside_state(cost: u32, total: u32, limit: u32) -> u8
-    ensures { result ≡ inside_state cost total limit }
+fn inside_state(cost: u32, total: u32, limit: u32) -> State
+    ensures { state_number result ≡ inside_state cost total limit }
 {
-    if cost == NO_REPLACEMENT {
-        return MANDATORY;
+    if cost != NO_REPLACEMENT && total as u64 + cost as u64 <= limit as u64 {
+        return State::Optional;
     }
-    if total as u64 + cost as u64 <= limit as u64 {
-        return OPTIONAL;
-    }
-    MANDATORY
+    State::Mandatory
 }
 
 // Another edge, by its key and the greatest key on the tree's path between its ends.
-fn outside_state(key: u32, greatest: u32, total: u32, limit: u32) -> u8
-    ensures { result ≡ outside_state key greatest total limit }
+fn outside_state(key: u32, greatest: u32, total: u32, limit: u32) -> State
+    ensures { state_number result ≡ outside_state key greatest total limit }
 {
-    if key == NO_KEY {
-        return EXCLUDED;
-    }
-    if greatest == 0 {
-        return EXCLUDED;
+    if key == NO_KEY || greatest == 0 {
+        return State::Excluded;
     }
     if total as u64 + key as u64 <= limit as u64 + greatest as u64 {
-        return OPTIONAL;
+        return State::Optional;
     }
-    EXCLUDED
+    State::Excluded
+}
+
+// What the states are told by, where there is a tree: the greatest keys between any two vertices, the costs of the
+// tree's edges, its total and the limit.
+#[derive(Clone, Copy)]
+pub struct Shown<'a> {
+    pub keys: &'a [u32; CELLS],
+    pub between: &'a [u32; CELLS],
+    pub parents: &'a [u8; VERTICES],
+    pub costs: &'a [u32; VERTICES],
+    pub n: u32,
+    pub total: u32,
+    pub limit: u32,
+    ghost places: { Places n parents.now },
+    ghost between_is: { BetweenTable keys.now n parents.now between.now },
+    ghost costs_are: { Costs keys.now n (take n parents.now) n costs.now },
 }
 
 // The state of an edge, where there is a tree.
-fn tree_state(
-    keys: &[u32; CELLS],
-    between: &[u32; CELLS],
-    parents: &[u8; VERTICES],
-    costs: &[u32; VERTICES],
-    n: u32,
-    total: u32,
-    limit: u32,
-    i: u32,
-    j: u32,
-) -> u8
-    requires { Places n parents.now × BetweenTable keys.now n parents.now between.now × Costs keys.now n (take n parents.now) n costs.now × (i < n) × (j < n) × (i ≢ j) }
-    ensures { result ≡ tree_state keys.now n (take n parents.now) total limit i j }
+fn tree_state(shown: &Shown<'_>, i: u32, j: u32) -> State
+    requires { (i < shown.now.n) × (j < shown.now.n) × (i ≢ j) }
+    ensures { state_number result ≡ tree_state shown.now.keys.now shown.now.n (take shown.now.n shown.now.parents.now) shown.now.total shown.now.limit i j }
 {
-    if parents[j as usize] == i as u8 {
-        return inside_state(costs[j as usize], total, limit);
+    if shown.parents[j as usize] == i as u8 {
+        return inside_state(shown.costs[j as usize], shown.total, shown.limit);
     }
-    if parents[i as usize] == j as u8 {
-        return inside_state(costs[i as usize], total, limit);
+    if shown.parents[i as usize] == j as u8 {
+        return inside_state(shown.costs[i as usize], shown.total, shown.limit);
     }
-    let key = keys[(32 * i + j) as usize];
-    let greatest = between[(32 * i + j) as usize];
-    outside_state(key, greatest, total, limit)
+    let key = shown.keys[(32 * i + j) as usize];
+    let greatest = shown.between[(32 * i + j) as usize];
+    outside_state(key, greatest, shown.total, shown.limit)
 }
 
-// The state of a place: 0 on the diagonal and where no price is.
-fn place_state(
-    weights: &[u32],
-    keys: &[u32; CELLS],
-    between: &[u32; CELLS],
-    parents: &[u8; VERTICES],
-    costs: &[u32; VERTICES],
-    n: u32,
-    total: u32,
-    limit: u32,
-    k: u32,
-    i: u32,
-    j: u32,
-) -> u8
-    requires { Places n parents.now × BetweenTable keys.now n parents.now between.now × Costs keys.now n (take n parents.now) n costs.now × (n * n ≤ length weights.now) × (k < n * n) × Placed n k i j }
-    ensures { result ≡ place_state weights.now keys.now n (take n parents.now) total limit k }
+// The state of a place: absent on the diagonal and where no price is.
+fn place_state(weights: &[u32], shown: &Shown<'_>, k: u32) -> State
+    requires { (shown.now.n * shown.now.n ≤ length weights.now) × (k < shown.now.n * shown.now.n) }
+    ensures { state_number result ≡ place_state weights.now shown.now.keys.now shown.now.n (take shown.now.n shown.now.parents.now) shown.now.total shown.now.limit k }
 {
-    if i == j {
-        return ABSENT;
+    let i = k / shown.n;
+    let j = k % shown.n;
+    if i == j || weights[k as usize] == NO_ARC {
+        return State::Absent;
     }
-    if weights[k as usize] == NO_ARC {
-        return ABSENT;
-    }
-    tree_state(keys, between, parents, costs, n, total, limit, i, j)
+    tree_state(shown, i, j)
 }
 
-pub fn write_states(
-    weights: &[u32],
-    keys: &[u32; CELLS],
-    between: &[u32; CELLS],
-    parents: &[u8; VERTICES],
-    costs: &[u32; VERTICES],
-    n: u32,
-    total: u32,
-    limit: u32,
-    states: &mut [u8],
-)
-    requires { (1 ≤ n) × Places n parents.now × BetweenTable keys.now n parents.now between.now × Costs keys.now n (take n parents.now) n costs.now × (n * n ≤ length weights.now) × (n * n ≤ length states.old) }
-    ensures { states.new ≡ in_front (tabulate (n * n) (place_state weights.now keys.now n (take n parents.now) total limit)) states.old }
+pub fn write_states(weights: &[u32], shown: &Shown<'_>, states: &mut [u8])
+    requires { (shown.now.n * shown.now.n ≤ length weights.now) × (shown.now.n * shown.now.n ≤ length states.old) }
+    ensures { states.new ≡ in_front (tabulate (shown.now.n * shown.now.n) (place_state weights.now shown.now.keys.now shown.now.n (take shown.now.n shown.now.parents.now) shown.now.total shown.now.limit)) states.old }
 {
-    let size = n * n;
-    let mut k: u32 = 0;
-    let mut i: u32 = 0;
-    let mut j: u32 = 0;
-    while k < size {
-        states[k as usize] = place_state(
-            weights, keys, between, parents, costs, n, total, limit, k, i, j,
-        );
-        k += 1;
-        j += 1;
-        if j == n {
-            i += 1;
-            j = 0;
-        }
+    for k in 0..shown.n * shown.n {
+        states[k as usize] = u8::from(place_state(weights, shown, k));
     }
 }
 
 // The state of a place, where there is no tree.
-fn closed_state(weights: &[u32], n: u32, k: u32) -> u8
+fn closed_state(weights: &[u32], n: u32, k: u32) -> State
     requires { (n * n ≤ length weights.now) × (k < n * n) }
-    ensures { result ≡ closed_state weights.now n k }
+    ensures { state_number result ≡ closed_state weights.now n k }
 {
-    if k / n == k % n {
-        return ABSENT;
+    if k / n == k % n || weights[k as usize] == NO_ARC {
+        return State::Absent;
     }
-    if weights[k as usize] == NO_ARC {
-        return ABSENT;
-    }
-    EXCLUDED
+    State::Excluded
 }
 
 pub fn write_closed(weights: &[u32], n: u32, states: &mut [u8])
     requires { (n ≤ max_vertices) × (n * n ≤ length weights.now) × (n * n ≤ length states.old) }
     ensures { states.new ≡ in_front (tabulate (n * n) (closed_state weights.now n)) states.old }
 {
-    let size = n * n;
-    let mut k: u32 = 0;
-    while k < size {
-        states[k as usize] = closed_state(weights, n, k);
-        k += 1;
+    for k in 0..n * n {
+        states[k as usize] = u8::from(closed_state(weights, n, k));
     }
 }
 
 // The cost of a place: of an edge of the tree, whichever way.
-fn cost_at(parents: &[u8; VERTICES], costs: &[u32; VERTICES], n: u32, i: u32, j: u32) -> u32
-    requires { Places n parents.now × (i < n) × (j < n) }
-    ensures { result ≡ pair_cost (take n parents.now) (λ v. get_or costs.now v 0) i j }
+fn cost_at(parents: &[u8; VERTICES], costs: &[u32; VERTICES], n: u32, k: u32) -> u32
+    requires { Places n parents.now × (k < n * n) }
+    ensures { result ≡ cost_at (take n parents.now) (λ v. get_or costs.now v 0) n k }
 {
+    let i = k / n;
+    let j = k % n;
     if parents[j as usize] == i as u8 {
         return costs[j as usize];
     }
@@ -169,20 +130,10 @@ fn cost_at(parents: &[u8; VERTICES], costs: &[u32; VERTICES], n: u32, i: u32, j:
 }
 
 pub fn write_costs(parents: &[u8; VERTICES], costs: &[u32; VERTICES], n: u32, out: &mut [u32])
-    requires { (1 ≤ n) × Places n parents.now × (n * n ≤ length out.old) }
+    requires { Places n parents.now × (n * n ≤ length out.old) }
     ensures { out.new ≡ in_front (tabulate (n * n) (cost_at (take n parents.now) (λ v. get_or costs.now v 0) n)) out.old }
 {
-    let size = n * n;
-    let mut k: u32 = 0;
-    let mut i: u32 = 0;
-    let mut j: u32 = 0;
-    while k < size {
-        out[k as usize] = cost_at(parents, costs, n, i, j);
-        k += 1;
-        j += 1;
-        if j == n {
-            i += 1;
-            j = 0;
-        }
+    for k in 0..n * n {
+        out[k as usize] = cost_at(parents, costs, n, k);
     }
 }

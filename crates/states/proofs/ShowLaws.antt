@@ -1,14 +1,13 @@
--- Counting the used arcs into a head; and the states that are written are those of the instance. Assumes nothing.
+-- The state by a count of the used arcs; and the states that are written are those of the instance. Assumes nothing.
 use mathlib.Core.Path.{◌≡◌, refl, sym, ap, ◌∙◌}
 use mathlib.Core.Bool.{Bool, true, false, ◌&&◌, not, cond}
 use mathlib.Core.List.{List}
-use Prim.Native.Nat.{ℕ, ◌+◌, ◌*◌, ◌/◌, ◌%◌, ◌≤◌, ◌<◌}
+use Prim.Native.Nat.{ℕ, ◌*◌, ◌/◌, ◌%◌, ◌≤◌, ◌<◌}
 use native.Mathlib.Omega.{arith}
 use lib.Dec.{eqb}
-use lib.ListN.{length, get_or, set}
+use lib.ListN.{length, get_or}
 use Rattle.base.specs.Bounded.{any_below, count_below}
 use Rattle.base.specs.Lists.{tabulate}
-use Rattle.base.proofs.FillingLaws.{filled_none, filled_more}
 use Rattle.base.proofs.GridLaws.{grid_row, grid_column}
 use Rattle.base.proofs.ListLaws.{tabulate_is, length_tabulate, get_d_tabulate}
 use Rattle.base.proofs.SumLaws.{others_count, any_same}
@@ -22,16 +21,7 @@ use Rattle.theory.specs.Usable.{usable}
 use Rattle.theory.proofs.Usable.{state_usable}
 use Rattle.theory.proofs.MatrixInstances.{matrix_usable}
 use Rattle.usable.specs.Table.{is_used, UsableTable}
-use Rattle.states.specs.Show.{Counts, state_by, states_by}
-
--- COUNTS
-module _ (n : ℕ) (used : List ℕ) where
-  pub counts_none : (counts : List ℕ) → Counts used n 0 counts
-  counts_none counts = record { at = filled_none (λ h v. v ≡ count_below n (λ g. is_used used g h)) counts }
-
-  pub counts_more : (counts : List ℕ) (h v : ℕ) → h < length counts → Counts used n h counts → v ≡ count_below n (λ g. is_used used g h)
-      → Counts used n (h + 1) (set counts h v)
-  counts_more counts h v l k e = record { at = filled_more (λ h v. v ≡ count_below n (λ g. is_used used g h)) counts h v l k.at e }
+use Rattle.states.specs.Show.{state_by, states_by}
 
 -- the state by a count is the state by the table
 pub state_counted : (n root : ℕ) (used weights : List ℕ) (t h : ℕ)

@@ -5,23 +5,22 @@ ghost use Rattle.base.specs.Bounded.{count_below};
 ghost use Rattle.base.specs.Lists.{in_front};
 ghost use Rattle.instance.specs.Limits.{max_vertices, no_arc};
 ghost use Rattle.usable.specs.Table.{is_used};
+ghost use Rattle.instance.specs.StateNumbers.{state_number};
 ghost use Rattle.states.specs.Show.{Counts, states_by};
 
 use checks::arc::can_be_arc;
 use instance::limits::{CELLS, NO_ARC, VERTICES};
-use instance::states::{ABSENT, EXCLUDED, MANDATORY, OPTIONAL};
+use instance::states::State;
 
 fn used_into(used: &[u8; CELLS], n: u32, head: u32) -> u32
     requires { (n ≤ max_vertices) × (head < max_vertices) }
     ensures { result ≡ count_below n (λ g. is_used used.now g head) }
 {
     let mut count: u32 = 0;
-    let mut g: u32 = 0;
-    while g < n {
+    for g in 0..n {
         if used[(32 * g + head) as usize] == 1 {
             count += 1;
         }
-        g += 1;
     }
     count
 }
@@ -31,32 +30,26 @@ fn counts_into(used: &[u8; CELLS], n: u32) -> [u32; VERTICES]
     ensures { Counts used.now n n result }
 {
     let mut counts = [0u32; VERTICES];
-    let mut head: u32 = 0;
-    while head < n {
+    for head in 0..n {
         counts[head as usize] = used_into(used, n, head);
-        head += 1;
     }
     counts
 }
 
 // The state of a cell where an arc can be or not, with its weight, whether it is used, and the number of used arcs into
 // its head.
-fn state_of(possible: bool, weight: u32, used: u8, count: u32) -> u8
-    ensures { result ≡ cond (possible && not (eqb weight no_arc)) (cond (eqb used 1) (cond (eqb count 1) 3 2) 1) 0 }
+fn state_of(possible: bool, weight: u32, used: u8, count: u32) -> State
+    ensures { state_number result ≡ cond (possible && not (eqb weight no_arc)) (cond (eqb used 1) (cond (eqb count 1) 3 2) 1) 0 }
 {
-    if !possible {
-        return ABSENT;
+    if !possible || weight == NO_ARC {
+        State::Absent
+    } else if used != 1 {
+        State::Excluded
+    } else if count == 1 {
+        State::Mandatory
+    } else {
+        State::Optional
     }
-    if weight == NO_ARC {
-        return ABSENT;
-    }
-    if used != 1 {
-        return EXCLUDED;
-    }
-    if count == 1 {
-        return MANDATORY;
-    }
-    OPTIONAL
 }
 
 // The n times n states, tail by tail, at the front of the caller's buffer.
@@ -66,13 +59,12 @@ pub fn write_states(used: &[u8; CELLS], weights: &[u32; CELLS], n: u32, root: u3
 {
     let counts = counts_into(used, n);
     let total = n * n;
-    let mut k: u32 = 0;
-    while k < total {
+    for k in 0..total {
         let tail = k / n;
         let head = k % n;
         let i = (32 * tail + head) as usize;
         let possible = can_be_arc(n, root, tail, head);
-        out[k as usize] = state_of(possible, weights[i], used[i], counts[head as usize]);
-        k += 1;
+        let state = state_of(possible, weights[i], used[i], counts[head as usize]);
+        out[k as usize] = u8::from(state);
     }
 }

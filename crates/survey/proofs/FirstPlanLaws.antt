@@ -26,9 +26,8 @@ use Rattle.theory.proofs.Duality.{no_entry}
 use Rattle.theory.proofs.FirstLaws.{first_none, first_budget}
 use Rattle.theory.proofs.Optimality.{proved_cheapest, shut_outcome}
 use Rattle.edmonds.specs.declared.Planned.{Planned}
-use Rattle.edmonds.specs.Planned.{PlannedMatrix}
-use Rattle.survey.specs.FirstPlan.{PlansFirst}
-use Rattle.survey.specs.Survey.{CutsShown}
+use Rattle.edmonds.specs.Planned.{PlannedMatrix, NonePlanned}
+use Rattle.survey.specs.FirstPlan.{CutsShown, PlansFirst}
 use Rattle.survey.proofs.WordLaws.{words_again}
 
 -- WHAT THE TEST OF THE TOTAL TELLS
@@ -51,8 +50,7 @@ module _ (v b : ℕ) where
       go false = p
 
 -- WHAT A PLANNING OF THE MATRIX TELLS, of the instance that the matrix is with a budget
-module _ (n root budget : ℕ) (m reduced words : List ℕ) (r : Planned) (small : n ≤ max_vertices)
-    (p : PlannedMatrix m reduced n root (replicate cut_words 0) words r) where
+module _ (n root budget : ℕ) (m : List ℕ) where
   abbrev s : Instance
   s = matrix_instance n root budget m
 
@@ -62,21 +60,40 @@ module _ (n root budget : ℕ) (m reduced words : List ℕ) (r : Planned) (small
   to : SameArcs left s
   to = same_back s left (matrix_instance_same n root budget m)
 
-  abbrev ps : List ℕ
-  ps = take n r.parents
+  -- no arborescence
+  pub none_plan : (set₀ : ℕ) → n ≤ max_vertices → NonePlanned m n root set₀ →
+      PlansFirst (matrix_instance n root budget m) (record { outcome = NoTree; parents = replicate max_vertices no_parent; pairs = 1; cuts = set (replicate cut_words 0) 0 set₀ })
+  unfolding CutsShown words_of pair_words
+  none_plan set₀ small p =
+      let x : Cut = record { set = set₀; value = 0 } in
+      let e = same_no_entry left s to x p in
+      let is : outcome s ≡ NoTree = shut_outcome s x e in
+      record {
+        result = sym is;
+        places = refl;
+        parents_found = take_replicate n max_vertices no_parent small ∙ sym (first_none s (λ qs. is_false (is_arborescence s qs) (λ a. no_entry s qs a x e)));
+        cut_list = x ∷ [];
+        counted = refl;
+        cuts_found = rw is (x, refl, e);
+        words = refl;
+      }
 
-  abbrev cs : List Cut
-  cs = cuts_in r.count words
+  -- an arborescence
+  module _ (small : n ≤ max_vertices) (reduced words : List ℕ) (r : Planned) (p : PlannedMatrix m reduced n root (replicate cut_words 0) words r) where
+    abbrev ps : List ℕ
+    ps = take n r.parents
 
-  module _ (f : r.found ≡ true) where
+    abbrev cs : List Cut
+    cs = cuts_in r.count words
+
     tree : is_arborescence left ps ≡ true
-    tree = (p.minimum f).arborescence
+    tree = p.minimum.arborescence
 
     adds : values cs ≡ total left ps
-    adds = (p.minimum f).proved.adds
+    adds = p.minimum.proved.adds
 
     proves : Proves s cs r.total
-    proves = same_proves left s to cs r.total (subst (λ (v : ℕ). Proves left cs v) (sym (p.is_total f)) (p.minimum f).proved)
+    proves = same_proves left s to cs r.total (subst (λ (v : ℕ). Proves left cs v) (sym p.is_total) p.minimum.proved)
 
     cut_count : length cs ≡ r.count
     unfolding cuts_in
@@ -85,10 +102,10 @@ module _ (n root budget : ℕ) (m reduced words : List ℕ) (r : Planned) (small
     found_words : words ≡ words_of cs
     found_words =
         words_again r.count words (omega (arith, proves.few, cut_count, p.cuts_size))
-        (p.rest f ∙ drop_replicate (2 * r.count) cut_words 0)
+        (p.rest ∙ drop_replicate (2 * r.count) cut_words 0)
 
     pub found_cheapest : cheapest (matrix_instance n root budget m) ≡ some r.total
-    found_cheapest = sym (same_cheapest left s to) ∙ proved_cheapest left ps cs tree (p.minimum f).proved.feasible adds ∙ ap some (sym (p.is_total f))
+    found_cheapest = sym (same_cheapest left s to) ∙ proved_cheapest left ps cs tree p.minimum.proved.feasible adds ∙ ap some (sym p.is_total)
 
     found_outcome : outcome s ≡ outcome_at budget (some r.total)
     unfolding outcome
@@ -108,21 +125,3 @@ module _ (n root budget : ℕ) (m reduced words : List ℕ) (r : Planned) (small
           cuts_found = rw found_outcome (cuts-at r.total budget s cs proves);
           words = found_words;
         }
-
-  -- no arborescence
-  pub none_plan : r.found ≡ false →
-      PlansFirst (matrix_instance n root budget m) (record { outcome = NoTree; parents = replicate max_vertices no_parent; pairs = 1; cuts = set (replicate cut_words 0) 0 r.set })
-  unfolding CutsShown words_of pair_words
-  none_plan f =
-      let x : Cut = record { set = r.set; value = 0 } in
-      let e = same_no_entry left s to x (p.no_entry f) in
-      let is : outcome s ≡ NoTree = shut_outcome s x e in
-      record {
-        result = sym is;
-        places = refl;
-        parents_found = take_replicate n max_vertices no_parent small ∙ sym (first_none s (λ qs. is_false (is_arborescence s qs) (λ a. no_entry s qs a x e)));
-        cut_list = x ∷ [];
-        counted = refl;
-        cuts_found = rw is (x, refl, e);
-        words = refl;
-      }

@@ -10,8 +10,7 @@ use Rattle.instance.specs.declared.Outcome.TheVariants.{Plan, Over, NoTree}
 use Rattle.instance.specs.States.{outcome_at, outcome}
 use Rattle.theory.proofs.SameArcs.{SameArcs, same_proves, same_no_entry, same_cheapest}
 use Rattle.theory.proofs.FirstLaws.{first_same}
-use Rattle.survey.specs.FirstPlan.{PlansFirst}
-use Rattle.survey.specs.Survey.{CutsShown}
+use Rattle.survey.specs.FirstPlan.{CutsShown, PlansFirst}
 use Rattle.survey.specs.declared.first_plan.FirstPlan.{FirstPlan}
 
 module _ (a b : Instance) (e : SameArcs a b) where

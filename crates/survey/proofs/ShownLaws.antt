@@ -9,7 +9,7 @@ use Rattle.instance.specs.Instance.{Instance}
 use Rattle.instance.specs.Cuts.{Cut, pair_words, words_of}
 use Rattle.instance.specs.declared.Outcome.{Outcome}
 use Rattle.instance.specs.declared.Outcome.TheVariants.{Plan, Over, NoTree}
-use Rattle.survey.specs.Survey.{CutsShown}
+use Rattle.survey.specs.FirstPlan.{CutsShown}
 
 few_cuts : (o : Outcome) (s : Instance) (cs : List Cut) → s.n ≤ max_vertices → CutsShown o s cs → 2 * length cs ≤ cut_words
 unfolding CutsShown

@@ -1,15 +1,15 @@
 // The plan of a matrix: outcome, first tree and cuts, or that there is no tree. What a planning of the matrix gave is
 // turned into it; which arcs are usable nobody asks here.
-ghost use Rattle.std.specs.Prelude.{◌≡◌, length, set as set_at, replicate};
+ghost use Rattle.std.specs.Prelude.{◌≡◌, length, set as set_at, replicate, IfOk, IfErr};
 ghost use Rattle.std.proofs.Math.Option.{some};
 ghost use Rattle.instance.specs.Limits.{max_vertices, no_parent, cut_words};
 ghost use Rattle.instance.specs.Matrix.{matrix_instance, MatrixOk};
 ghost use Rattle.instance.specs.States.{outcome_at as outcome-by};
 ghost use Rattle.instance.specs.declared.Outcome.TheVariants as outcomes;
-ghost use Rattle.edmonds.specs.Planned.{PlannedMatrix};
+ghost use Rattle.edmonds.specs.Planned.{PlannedMatrix, NonePlanned};
 ghost use Rattle.survey.specs.FirstPlan.{PlansFirst};
 
-use edmonds::Planned;
+use edmonds::{Planned, Unreached};
 use first_tree::first_tree;
 use instance::limits::{CELLS, CUT_WORDS, NO_PARENT, VERTICES};
 use instance::{Outcome, Vertex};
@@ -32,8 +32,8 @@ fn outcome_at(budget: u32, total: u32) -> Outcome
     Outcome::Over(total)
 }
 
-// No arborescence: no tree is shown; one pair, a set that no remaining arc enters and the value 0.
-fn no_tree(set: u32) -> FirstPlan
+// Where there is no arborescence: no tree is shown; one pair, a set that no remaining arc enters and the value 0.
+pub(crate) fn no_tree(set: u32) -> FirstPlan
     ensures { result ≡ record { outcome = outcomes.NoTree; parents = replicate max_vertices no_parent; pairs = 1; cuts = set_at (replicate cut_words 0) 0 set } }
 {
     let mut cuts = [0u32; CUT_WORDS];
@@ -46,8 +46,8 @@ fn no_tree(set: u32) -> FirstPlan
     }
 }
 
-// By what a planning of the matrix gave: the reduced costs, the cuts and the tree.
-pub fn first_plan(
+// Where planning the matrix gave an arborescence: by the reduced costs, the cuts and the tree.
+pub(crate) fn tree_plan(
     m: &[u32; CELLS],
     reduced: &[u32; CELLS],
     cuts: &[u32; CUT_WORDS],
@@ -59,9 +59,6 @@ pub fn first_plan(
     requires { MatrixOk n root m.now × PlannedMatrix m.now reduced.now n root (replicate cut_words 0) cuts.now planned }
     ensures { PlansFirst (matrix_instance n root budget m.now) result }
 {
-    if !planned.found {
-        return no_tree(planned.set);
-    }
     let found = planned.parents;
     let total = planned.total;
     let pairs = planned.count;
@@ -71,6 +68,27 @@ pub fn first_plan(
         parents,
         pairs,
         cuts: *cuts,
+    }
+}
+
+// By what a planning of the matrix gave.
+pub fn first_plan(
+    m: &[u32; CELLS],
+    reduced: &[u32; CELLS],
+    cuts: &[u32; CUT_WORDS],
+    planned: Result<Planned, Unreached>,
+    n: u32,
+    root: u32,
+    budget: u32,
+) -> FirstPlan
+    requires matrix { MatrixOk n root m.now }
+    requires tree { IfOk planned (PlannedMatrix m.now reduced.now n root (replicate cut_words 0) cuts.now) }
+    requires none { IfErr planned (λ e. NonePlanned m.now n root e.set) }
+    ensures { PlansFirst (matrix_instance n root budget m.now) result }
+{
+    match planned {
+        Ok(tree) => tree_plan(m, reduced, cuts, tree, n, root, budget),
+        Err(unreached) => no_tree(unreached.set),
     }
 }
 

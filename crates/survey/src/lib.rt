@@ -5,44 +5,24 @@
 
 pub mod first_plan; // first_plan.rt: outcome, first tree and cuts of a matrix
 
-ghost use Rattle.std.specs.Prelude.{◌≡◌, true, length};
+ghost use Rattle.std.specs.Prelude.{◌≡◌, true};
 ghost use Rattle.std.proofs.Math.Option.{some};
-ghost use Rattle.instance.specs.Limits.{cells};
 ghost use Rattle.instance.specs.Valid.{valid_instance};
 ghost use Rattle.instance.specs.Instance.{instance_with};
 ghost use Rattle.instance.specs.States.{limit_at as limit_by};
 ghost use Rattle.survey.specs.Survey.{Surveys};
 
-use first_plan::{FirstPlan, first_plan};
-use instance::limits::{CELLS, CUT_WORDS, VERTICES};
-use instance::{Outcome, Vertex};
+use first_plan::{FirstPlan, no_tree, tree_plan};
+use instance::Vertex;
+use instance::limits::{CELLS, CUT_WORDS};
 use remaining::remaining_matrix;
-use usable::usable_arcs;
+use usable::{Fitting, usable_arcs};
 
-// What planning found: the outcome, the parents of the tree that is shown, the number of cuts, the cuts as pairs of
-// words, and 1 at each arc that some arborescence within the limit uses.
+// What planning found: the plan, and 1 at each arc that some arborescence within the limit uses.
 #[derive(Clone, Copy)]
 pub struct Survey {
-    pub outcome: Outcome,
-    pub parents: [u8; VERTICES],
-    pub pairs: u32,
-    pub cuts: [u32; CUT_WORDS],
+    pub plan: FirstPlan,
     pub used: [u8; CELLS],
-}
-
-// The plan with the usable arcs.
-fn with_used(plan: FirstPlan, used: [u8; CELLS]) -> Survey
-    ensures { result ≡ record { outcome = plan.outcome; parents = plan.parents; pairs = plan.pairs; cuts = plan.cuts; used = used } }
-{
-    let parents = plan.parents;
-    let cuts = plan.cuts;
-    Survey {
-        outcome: plan.outcome,
-        parents,
-        pairs: plan.pairs,
-        cuts,
-        used,
-    }
 }
 
 // What a total may be at most for the states: the larger of the two.
@@ -62,20 +42,34 @@ pub fn plan_instance<'a>(
     root: u32,
     budget: u32,
 ) -> Survey
-    requires { (valid_instance (instance_with n root budget weights.now marks.now) ≡ true) × (length weights.now ≡ cells) × (length marks.now ≡ cells) }
+    requires { valid_instance (instance_with n root budget weights.now marks.now) ≡ true }
     ensures { Surveys (instance_with n root budget weights.now marks.now) result }
 {
     let m = remaining_matrix(weights, marks, n, root);
     let mut reduced = m;
     let mut cuts = [0u32; CUT_WORDS];
-    let planned = edmonds::plan_matrix(&mut reduced, n as usize, Vertex(root), &mut cuts);
-    let plan = first_plan(&m, &reduced, &cuts, planned, n, root, budget);
-    if !planned.found {
-        return with_used(plan, [0u8; CELLS]);
+    match edmonds::plan_matrix(&mut reduced, n as usize, Vertex(root), &mut cuts) {
+        Ok(planned) => {
+            let plan = tree_plan(&m, &reduced, &cuts, planned, n, root, budget);
+            let total = planned.total;
+            let limit = limit_at(budget, total);
+            let used = usable_arcs(Fitting {
+                m: &m,
+                reduced: &reduced,
+                parents: &planned.parents,
+                n,
+                root,
+                total,
+                limit,
+            });
+            Survey { plan, used }
+        }
+        Err(unreached) => {
+            let used = [0u8; CELLS];
+            Survey {
+                plan: no_tree(unreached.set),
+                used,
+            }
+        }
     }
-    let parents = planned.parents;
-    let total = planned.total;
-    let limit = limit_at(budget, total);
-    let used = usable_arcs(&m, &reduced, &parents, n, root, total, limit);
-    with_used(plan, used)
 }

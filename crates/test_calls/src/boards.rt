@@ -4,7 +4,7 @@ use board::Board;
 use harness::damage::Damaged;
 use harness::replies::Reply;
 use harness::{boards, buffers, calls, changes, replies};
-use reference::call::Call;
+use reference::call::{Call, Kind};
 use reference::card::CARD_ROOM;
 use reference::certificate::PARENT_ROOM;
 use reference::problem::MAX_VERTICES;
@@ -12,7 +12,7 @@ use reference::random::Random;
 use reference::refusals::{BUFFER_SHORT, INVALID_BOARD, NOT_A_TREE};
 use reference::shown::CUT_WORDS;
 use reference::tally::Tally;
-use reference::{call, random, sample, tally};
+use reference::{call, sample};
 
 // What the program counts beside the faults.
 const SOUND: u32 = 3;
@@ -45,23 +45,15 @@ const SHORT_CHECK: u32 = 16;
 
 fn nth_call(k: u32) -> Call {
     match k {
-        0 => new_call(call::PIN, 0, 1),
-        1 => new_call(call::BAN, 1, 0),
-        2 => new_call(call::CLEAR, 33, 4294967295),
-        3 => new_call(call::BUDGET, 17, 0),
-        4 => new_call(call::BUDGET, 4294967295, 0),
-        5 => new_call(call::PIN_GROUP, 0, 3),
-        6 => new_call(call::BAN_GROUP, 33, 4294967295),
-        7 => new_call(call::CLEAR_GROUP, 1, 0),
-        _ => new_call(call::TAKE_BACK, 0, 0),
-    }
-}
-
-fn new_call(kind: u32, first: u32, second: u32) -> Call {
-    Call {
-        kind: kind,
-        first: first,
-        second: second,
+        0 => Call::new(Kind::Pin, 0, 1),
+        1 => Call::new(Kind::Ban, 1, 0),
+        2 => Call::new(Kind::Clear, 33, 4294967295),
+        3 => Call::budget(17),
+        4 => Call::budget(4294967295),
+        5 => Call::new(Kind::PinGroup, 0, 3),
+        6 => Call::new(Kind::BanGroup, 33, 4294967295),
+        7 => Call::new(Kind::ClearGroup, 1, 0),
+        _ => Call::take_back(),
     }
 }
 
@@ -107,7 +99,7 @@ fn planted_touch(tally: Tally, r: Reply, k: u32, is_damaged: bool) -> Tally {
     let mut touched = r;
     touched.untouched = false;
     if is_damaged {
-        return tally::planted(tally, !is_right(touched, k, true));
+        return tally.planted(!is_right(touched, k, true));
     }
     tally
 }
@@ -117,11 +109,11 @@ fn planted_touch(tally: Tally, r: Reply, k: u32, is_damaged: bool) -> Tally {
 fn tried_call(tally: Tally, d: Damaged, k: u32) -> Tally {
     let b = d.board;
     let r = reply_of(b, k);
-    let t = tally::checked(tally, CALLS, is_right(r, k, d.is_damaged));
-    let v = tally::planted(t, !is_right(r, k, !d.is_damaged));
+    let t = tally.checked(CALLS, is_right(r, k, d.is_damaged));
+    let v = t.planted(!is_right(r, k, !d.is_damaged));
     let u = planted_touch(v, r, k, d.is_damaged);
     if r.answer == INVALID_BOARD {
-        return tally::with(u, REFUSED, 1);
+        return u.with(REFUSED, 1);
     }
     u
 }
@@ -129,18 +121,12 @@ fn tried_call(tally: Tally, d: Damaged, k: u32) -> Tally {
 // Whether a call is left out: a look at a large sound board takes long, and test_cases has it.
 fn is_left_out(d: Damaged, k: u32) -> bool {
     let b = d.board;
-    if k != LOOK {
-        return false;
-    }
-    if d.is_damaged {
-        return false;
-    }
-    7 < b.n
+    k == LOOK && !d.is_damaged && 7 < b.n
 }
 
 // Every call on one board.
 fn tried(tally: Tally, d: Damaged) -> Tally {
-    let mut t = tally::with(tally, if d.is_damaged { DAMAGED } else { SOUND }, 1);
+    let mut t = tally.with(if d.is_damaged { DAMAGED } else { SOUND }, 1);
     for k in 0..KINDS_OF_CALL {
         if !is_left_out(d, k) {
             t = tried_call(t, d, k);
@@ -154,10 +140,10 @@ const SIZES: u32 = MAX_VERTICES - 1;
 
 // A sound board of each size in turn, with some history.
 pub fn some_board(k: u32) -> Board {
-    let g = random::seeded(k);
+    let g = Random::seeded(k);
     let p = sample::any_instance(g, k % SIZES + 2);
     let mut b = boards::of_problem(p);
-    let mut r = random::next(g);
+    let mut r = g.next();
     for step in 0u32..70 {
         let made = calls::made(b, call::some_call(r, p, 4));
         b = made.board;
@@ -172,25 +158,19 @@ fn tried_all(tally: Tally, b: Board, g: Random) -> Tally {
         is_damaged: false,
         board: b,
     };
-    let mut t = tried(tally, sound);
-    for kind in 0..changes::KINDS {
-        t = tried(t, changes::nth_change(b, kind, g));
-    }
-    t
+    (0..changes::KINDS).fold(
+        tried(tally, sound),
+        |t, kind| tried(t, changes::nth_change(b, kind, g)),
+    )
 }
 
 fn run(count: u32) -> Tally {
-    let mut t = tally::zero();
-    for k in 0..count {
-        let g = random::seeded(k);
-        t = tried_all(t, some_board(k), g);
-    }
-    t
+    (0..count).fold(Tally::zero(), |t, k| {
+        let g = Random::seeded(k);
+        tried_all(t, some_board(k), g)
+    })
 }
 
 pub fn all() {
-    tally::report(
-        run(310),
-        b"sound boards\ndamaged boards\ncalls\nrefused with 15\n",
-    );
+    run(310).report(b"sound boards\ndamaged boards\ncalls\nrefused with 15\n");
 }

@@ -6,12 +6,13 @@ use crate::singles::Singles;
 use crate::{restores, singles};
 use board::{Answered, Board};
 use harness::{boards, calls, faults, records};
-use reference::call::Call;
+use reference::call::{Call, Kind};
 use reference::history::RECORDS;
 use reference::problem::MAX_VERTICES;
 use reference::random::Random;
+use reference::refusals::number_of;
 use reference::tally::Tally;
-use reference::{access, call, group, log, random, tally};
+use reference::{call, group, log};
 
 // What the program counts beside the faults.
 const GROUPS: u32 = 3;
@@ -28,10 +29,10 @@ const PASSED_OVER: u32 = 7;
 // the mark that each had before.
 fn board_due(before: Board, s: Singles, c: Call) -> Board {
     let p = boards::problem_of(before);
-    let links = group::links(p, c.first, c.second);
+    let links = group::links(&p, c.first, c.second);
     let mut b = s.board;
-    let earlier = before.records;
-    b.records = earlier;
+    let records = before.records;
+    b.records = records;
     b.count = before.count % RECORDS + 1;
     let at = before.count % RECORDS;
     b.records[at] = records::marks_record(c.first, links, records::marks_into(p, c.first, links));
@@ -45,15 +46,15 @@ fn is_right(made: Answered, before: Board, s: Singles, c: Call) -> bool {
     if made.answer != singles::answer_due(s, p.n, c.first) {
         return false;
     }
-    if made.answer != group::answer(p, c.first, c.second) {
+    if made.answer != number_of(group::check(&p, c.first, c.second)) {
         return false;
     }
     if made.answer != 0 {
         return boards::identical(before, after);
     }
-    let links = group::links(p, c.first, c.second);
+    let links = group::links(&p, c.first, c.second);
     let marked = group::marked(p, c.first, links, log::mark_set(c.kind));
-    if !boards::equal_problems(boards::problem_of(after), marked, true) {
+    if boards::problem_of(after) != marked {
         return false;
     }
     boards::equal(after, board_due(before, s, c))
@@ -62,15 +63,15 @@ fn is_right(made: Answered, before: Board, s: Singles, c: Call) -> bool {
 // What the press gave with another answer, or with one fault in its board: all of it has to be reported.
 fn planted(tally: Tally, made: Answered, before: Board, s: Singles, c: Call, head: u32) -> Tally {
     let mut wrong = made;
-    wrong.answer = access::plus(made.answer, 1);
-    let mut t = tally::planted(tally, !is_right(wrong, before, s, c));
+    wrong.answer = made.answer.wrapping_add(1);
+    let mut t = tally.planted(!is_right(wrong, before, s, c));
     let after = made.board;
     for kind in 0..faults::KINDS {
         let w = Answered {
             answer: made.answer,
             board: faults::with_fault(after, kind, c.first, head),
         };
-        t = tally::planted(t, !is_right(w, before, s, c));
+        t = t.planted(!is_right(w, before, s, c));
     }
     t
 }
@@ -89,9 +90,9 @@ fn planted_singles(
     let b = s.board;
     marked.board = faults::with_fault(b, faults::MARK, c.first, head);
     let mut refused = s;
-    refused.no_vertex = access::plus(s.no_vertex, 1);
-    let t = tally::planted(tally, !is_right(made, before, marked, c));
-    tally::planted(t, !is_right(made, before, refused, c))
+    refused.no_vertex = s.no_vertex.wrapping_add(1);
+    let t = tally.planted(!is_right(made, before, marked, c));
+    t.planted(!is_right(made, before, refused, c))
 }
 
 // What follows an accepted group: it is taken back, as it is and with other bits at a head that its record does not
@@ -105,11 +106,11 @@ fn tried_accepted(
     head: u32,
 ) -> Tally {
     let after = made.board;
-    let back = calls::made(after, call::take_back());
-    let other = calls::made(faults::with_rubbish(after, head), call::take_back());
-    let t = tally::with(tally, ACCEPTED, 1);
-    let u = tally::checked(t, TAKEN_BACK, restores::is_right(back, before));
-    let v = tally::checked(u, PASSED_OVER, restores::is_right(other, before));
+    let back = calls::made(after, Call::take_back());
+    let other = calls::made(faults::with_rubbish(after, head), Call::take_back());
+    let t = tally.with(ACCEPTED, 1);
+    let u = t.checked(TAKEN_BACK, restores::is_right(back, before));
+    let v = u.checked(PASSED_OVER, restores::is_right(other, before));
     let w = planted_singles(v, made, before, s, c, head);
     restores::planted(w, back, before, c.first, head)
 }
@@ -122,16 +123,16 @@ struct Progress {
 }
 
 // One group press, and the single presses that it is held against.
-fn tried(p: Progress, kind: u32, g: Random) -> Progress {
+fn tried(p: Progress, kind: Kind, g: Random) -> Progress {
     let before = p.board;
     let q = boards::problem_of(before);
     let c = call::some_group(g, q, kind);
-    let links = group::links(q, c.first, c.second);
-    let head = group::member_from(links, random::below(g, MAX_VERTICES));
+    let links = group::links(&q, c.first, c.second);
+    let head = group::member_from(links, g.below(MAX_VERTICES));
     let made = calls::made(before, c);
     let s = singles::singles_for(before, c, call::drawn(g));
-    let t = tally::checked(p.tally, GROUPS, is_right(made, before, s, c));
-    let mut u = planted(tally::with(t, SINGLES, s.pressed), made, before, s, c, head);
+    let t = p.tally.checked(GROUPS, is_right(made, before, s, c));
+    let mut u = planted(t.with(SINGLES, s.pressed), made, before, s, c, head);
     if made.answer == 0 {
         u = tried_accepted(u, made, before, s, c, head);
     }
@@ -144,29 +145,24 @@ fn tried(p: Progress, kind: u32, g: Random) -> Progress {
 
 // A board, and three groups on it.
 fn tried_all(tally: Tally, k: u32) -> Tally {
-    let g = random::seeded(k);
-    let h = random::next(g);
+    let g = Random::seeded(k);
+    let h = g.next();
     let start = Progress {
         board: some_board(k),
-        tally: tally,
+        tally,
     };
-    let pinned = tried(start, call::PIN_GROUP, g);
-    let banned = tried(pinned, call::BAN_GROUP, h);
-    let cleared = tried(banned, call::CLEAR_GROUP, random::next(h));
+    let pinned = tried(start, Kind::PinGroup, g);
+    let banned = tried(pinned, Kind::BanGroup, h);
+    let cleared = tried(banned, Kind::ClearGroup, h.next());
     cleared.tally
 }
 
 fn run(count: u32) -> Tally {
-    let mut t = tally::zero();
-    for k in 0..count {
-        t = tried_all(t, k);
-    }
-    t
+    (0..count).fold(Tally::zero(), |t, k| tried_all(t, k))
 }
 
 pub fn all() {
-    tally::report(
-        run(620),
+    run(620).report(
         b"group presses\naccepted\nsingle presses\ntaken back\nother heads passed over\n",
     );
 }

@@ -3,11 +3,14 @@
 // records (02, A8).
 use harness::session::Session;
 use harness::{boards, calls, replies, session};
-use reference::call::Call;
+use reference::call::{Call, Kind};
+use reference::history::History;
+use reference::log::Log;
 use reference::problem::{MAX_BUDGET, Problem};
 use reference::random::Random;
+use reference::refusals::number_of;
 use reference::tally::Tally;
-use reference::{access, call, history, history_sample, log, random, sample, tally};
+use reference::{call, history_sample, sample};
 
 // What the program counts beside the faults: each answer has a count.
 const LISTS: u32 = 3;
@@ -41,11 +44,7 @@ struct Progress {
 fn nth_call(g: Random, card: Problem, crowded: bool, step: u32) -> Call {
     if crowded {
         if step < 190 {
-            return Call {
-                kind: call::BUDGET,
-                first: step,
-                second: 0,
-            };
+            return Call::budget(step);
         }
         return call::some_call(g, card, 2);
     }
@@ -56,47 +55,39 @@ fn nth_call(g: Random, card: Problem, crowded: bool, step: u32) -> Call {
 fn between(tally: Tally, s: Session, dice: u32) -> Tally {
     let mut t = tally;
     if dice == 0 {
-        t = tally::checked(t, LOOKS, session::look_right(s));
-        t = tally::checked(t, HISTORY_WRITES, session::history_write_right(s));
+        t = t.checked(LOOKS, session::look_right(s));
+        t = t.checked(HISTORY_WRITES, session::history_write_right(s));
     }
     if dice < 2 {
-        t = tally::checked(t, WRITES, session::write_right(s));
+        t = t.checked(WRITES, session::write_right(s));
     }
     t
 }
 
 // Counts what kind of call was made, and the answer to it.
-fn counted(tally: Tally, kind: u32, answer: u32) -> Tally {
-    let t = tally::with(tally, access::plus(ANSWERS, answer), 1);
-    if !call::is_group(kind) {
+fn counted(tally: Tally, kind: Kind, answer: u32) -> Tally {
+    let t = tally.with(ANSWERS.wrapping_add(answer), 1);
+    if !kind.is_group() {
         return t;
     }
-    let u = tally::with(t, GROUPS, 1);
+    let u = t.with(GROUPS, 1);
     if answer == 0 {
-        return tally::with(u, ACCEPTED, 1);
+        return u.with(ACCEPTED, 1);
     }
     u
 }
 
 // One call, held to the log's answer and then to another, which has to be reported.
 fn called(p: Progress, c: Call) -> Progress {
-    let before = p.session;
-    let made = session::with_call(before, c);
+    let made = session::with_call(p.session, c);
     let reply = made.reply;
     let answer = made.log_answer;
-    let t = tally::checked(p.tally, CALLS, replies::is_reply(reply, answer));
-    let u = tally::planted(t, !replies::is_reply(reply, access::plus(answer, 1)));
-    let s = made.session;
+    let t = p.tally.checked(CALLS, replies::is_reply(reply, answer));
+    let u = t.planted(!replies::is_reply(reply, answer.wrapping_add(1)));
     Progress {
-        session: s,
+        session: made.session,
         tally: counted(u, c.kind, answer),
     }
-}
-
-// Whether a call takes back a record of the card.
-fn reaches_card(s: Session, c: Call) -> bool {
-    let log = s.log;
-    c.kind == call::TAKE_BACK && log.count == 0 && log::standing(log) != 0
 }
 
 // A take-back of a record of the card, in a log that does not know the record, and in one that strikes it out and
@@ -104,24 +95,23 @@ fn reaches_card(s: Session, c: Call) -> bool {
 fn planted_record(tally: Tally, before: Session, after: Session) -> Tally {
     let known = before.log;
     let card = known.card;
-    let below = known.below;
-    let unknown = log::note(log::opened(card, history::empty()), call::take_back());
-    let back = calls::made(before.board, call::take_back());
-    let t = tally::planted(tally, back.answer != unknown.answer);
+    let unknown = Log::opened(card, History::empty()).note(Call::take_back());
+    let back = calls::made(before.board, Call::take_back());
+    let t = tally.planted(back.answer != number_of(unknown));
     let mut wrong = after;
-    wrong.log = log::opened(card, history::without_latest(below));
-    if boards::equal_problems(card, session::problem_now(after), false) {
+    wrong.log = Log::opened(card, known.below.without_latest());
+    if boards::alike_problems(&card, &session::problem_now(after)) {
         return t;
     }
-    tally::planted(t, !session::write_right(wrong))
+    t.planted(!session::write_right(wrong))
 }
 
 // A call, and what has to be reported where it takes back a record of the card.
 fn called_on_card(p: Progress, c: Call) -> Progress {
     let before = p.session;
     let mut after = called(p, c);
-    if reaches_card(before, c) {
-        let t = tally::with(after.tally, RECORDS_BACK, 1);
+    if session::reaches_card(before, c) {
+        let t = after.tally.with(RECORDS_BACK, 1);
         after.tally = planted_record(t, before, after.session);
     }
     after
@@ -129,14 +119,13 @@ fn called_on_card(p: Progress, c: Call) -> Progress {
 
 // The call of a step, and what comes after it.
 fn stepped(p: Progress, crowded: bool, seed: u32, step: u32) -> Progress {
-    let g = random::seeded(access::plus(seed, step));
+    let g = Random::seeded(seed.wrapping_add(step));
     let card = session::card_of(p.session);
-    let after = called_on_card(p, nth_call(random::next(g), card, crowded, step));
+    let after = called_on_card(p, nth_call(g.next(), card, crowded, step));
     let s = after.session;
-    let t = after.tally;
     Progress {
         session: s,
-        tally: between(t, s, random::below(g, 20)),
+        tally: between(after.tally, s, g.below(20)),
     }
 }
 
@@ -156,46 +145,41 @@ fn length_of(g: Random, crowded: bool) -> u32 {
     if crowded {
         return LONGEST;
     }
-    if random::below(g, 8) == 0 {
-        return random::below(random::next(g), LONGEST + 1);
+    if g.below(8) == 0 {
+        return g.next().below(LONGEST + 1);
     }
-    random::below(random::next(g), 61)
+    g.next().below(61)
 }
 
 // A call on the board that the log does not know: where it changes something, what is written then has to be reported.
 fn planted_call(tally: Tally, s: Session, c: Call) -> Tally {
     let made = session::with_call(s, c);
     let after = made.session;
-    if boards::equal_problems(session::problem_now(s), session::problem_now(after), false) {
+    if boards::alike_problems(&session::problem_now(s), &session::problem_now(after)) {
         return tally;
     }
     let mut wrong = s;
     let changed = after.board;
     wrong.board = changed;
-    let t = tally::planted(tally, !session::write_right(wrong));
-    tally::planted(t, !session::history_write_right(wrong))
+    let t = tally.planted(!session::write_right(wrong));
+    t.planted(!session::history_write_right(wrong))
 }
 
 // A budget press and a group press that the log does not know.
 fn planted(tally: Tally, s: Session, g: Random) -> Tally {
     let now = session::problem_now(s);
-    let budget = Call {
-        kind: call::BUDGET,
-        first: access::plus(now.budget % MAX_BUDGET, 1),
-        second: 0,
-    };
+    let budget = Call::budget((now.budget % MAX_BUDGET).wrapping_add(1));
     let t = planted_call(tally, s, budget);
-    planted_call(t, s, call::some_group(g, now, call::PIN_GROUP))
+    planted_call(t, s, call::some_group(g, now, Kind::PinGroup))
 }
 
 // Everything that stands taken back, the card's records too, and one take-back more, which is refused. Without records
 // the log says then that the board is written as its card was.
 fn unwound(start: Progress) -> Progress {
-    let s = start.session;
-    let count = access::plus(log::standing(s.log), 1);
+    let count = start.session.log.standing().wrapping_add(1);
     let mut p = start;
     for k in 0..count {
-        p = called_on_card(p, call::take_back());
+        p = called_on_card(p, Call::take_back());
     }
     p
 }
@@ -210,7 +194,7 @@ fn nth_session(k: u32) -> Session {
     if k < PLAIN {
         return session::opened(card);
     }
-    let count = history_sample::nth_count(k / 6, random::seeded(k));
+    let count = history_sample::nth_count(k / 6, Random::seeded(k));
     session::opened_with(
         card,
         history_sample::some_history(card, count, k % 4096 * 256),
@@ -224,34 +208,24 @@ fn one_list(tally: Tally, k: u32) -> Tally {
     let opened = nth_session(k);
     let start = Progress {
         session: opened,
-        tally: tally::with(
-            tally::with(tally, LISTS, 1),
-            RECORDS,
-            log::standing(opened.log),
-        ),
+        tally: tally.with(LISTS, 1).with(RECORDS, opened.log.standing()),
     };
-    let g = random::seeded(seed);
+    let g = Random::seeded(seed);
     let end = list_of_calls(start, crowded, seed, length_of(g, crowded));
     let s = end.session;
-    let t = end.tally;
     let last = unwound(Progress {
         session: s,
-        tally: planted(between(t, s, 0), s, g),
+        tally: planted(between(end.tally, s, 0), s, g),
     });
     between(last.tally, last.session, 0)
 }
 
 fn run(count: u32) -> Tally {
-    let mut t = tally::zero();
-    for k in 0..count {
-        t = one_list(t, k);
-    }
-    t
+    (0..count).fold(Tally::zero(), |t, k| one_list(t, k))
 }
 
 pub fn all() {
-    tally::report(
-        run(PLAIN + RECORDED),
+    run(PLAIN + RECORDED).report(
         b"lists\ncalls\ngroup presses\nof these accepted\nlooks\nwrites\nwrites as history cards\n\
         records on the cards\nof these taken back\n\
         answer 0:\nanswer 1:\nanswer 2:\nanswer 3:\nanswer 4:\nanswer 5:\nanswer 6:\n\

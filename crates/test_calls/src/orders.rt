@@ -5,11 +5,12 @@
 use board::Board;
 use harness::calls::Shown;
 use harness::{boards, calls};
-use reference::call::Call;
+use reference::call::{Call, Kind};
 use reference::history::RECORDS;
 use reference::problem::{BANNED, CELLS, FREE, MAX_VERTICES, NO_MARK, PINNED, Problem, STRIDE};
+use reference::random::Random;
 use reference::tally::Tally;
-use reference::{access, call, families, problem, random, tally, worked};
+use reference::{access, families};
 
 // What the program counts beside the faults.
 const INSTANCES: u32 = 3;
@@ -18,31 +19,27 @@ const PRESSES: u32 = 4;
 
 const ORDERS: u32 = 5;
 
-fn after(b: Board, kind: u32, first: u32, second: u32) -> Board {
-    let c = Call {
-        kind: kind,
-        first: first,
-        second: second,
-    };
+fn after(b: Board, kind: Kind, first: u32, second: u32) -> Board {
+    let c = Call::new(kind, first, second);
     calls::made(b, c).board
 }
 
 // The mark of an arc pressed, if it has one. With more, a budget is pressed before it, and another mark is pressed and
 // taken back.
 fn with_press(b: Board, p: Problem, tail: u32, head: u32, with_more: bool) -> Board {
-    let mark = problem::mark_of(p, tail, head);
+    let mark = p.mark_of(tail, head);
     if mark == FREE || mark == NO_MARK {
         return b;
     }
     let is_pin = mark == PINNED;
-    let kind = if is_pin { call::PIN } else { call::BAN };
-    let other_kind = if is_pin { call::BAN } else { call::PIN };
+    let kind = if is_pin { Kind::Pin } else { Kind::Ban };
+    let other_kind = if is_pin { Kind::Ban } else { Kind::Pin };
     if !with_more {
         return after(b, kind, tail, head);
     }
-    let budgeted = after(b, call::BUDGET, head, 0);
+    let budgeted = after(b, Kind::Budget, head, 0);
     let other = after(budgeted, other_kind, tail, head);
-    after(after(other, call::TAKE_BACK, 0, 0), kind, tail, head)
+    after(after(other, Kind::TakeBack, 0, 0), kind, tail, head)
 }
 
 // All marks, upwards or downwards.
@@ -59,21 +56,18 @@ fn pressed(p: Problem, downwards: bool) -> Board {
 
 // Whether a board shows the tree of that look.
 fn shows_tree(b: Board, s: Shown) -> bool {
-    let parents = s.parents;
     let other = calls::look(b);
-    let others = other.parents;
-    access::equal_bytes(&parents, &others, MAX_VERTICES)
+    access::equal_fronts(&s.parents, &other.parents, MAX_VERTICES)
 }
 
 // A board with an arc of the tree banned, which has to be reported.
 fn planted(tally: Tally, p: Problem, s: Shown, vertex: u32) -> Tally {
-    let parents = s.parents;
-    let tail = access::byte(&parents, vertex);
-    if !problem::is_arc(p, tail, vertex) {
+    let tail = access::byte(&s.parents, vertex);
+    if !p.is_arc(tail, vertex) {
         return tally;
     }
-    let other = worked::with_mark(p, tail, vertex, BANNED);
-    tally::planted(tally, !shows_tree(boards::of_problem(other), s))
+    let other = p.with_mark(tail, vertex, BANNED);
+    tally.planted(!shows_tree(boards::of_problem(other), s))
 }
 
 // Both orders.
@@ -82,24 +76,21 @@ fn tried(tally: Tally, p: Problem, vertex: u32) -> Tally {
     let up = pressed(p, false);
     let down = pressed(p, true);
     let presses = (up.count % (RECORDS + 1)) as u32;
-    let t = tally::with(tally::with(tally, INSTANCES, 1), PRESSES, presses);
-    let u = tally::checked(t, ORDERS, shows_tree(up, s));
-    let v = tally::checked(u, ORDERS, shows_tree(down, s));
+    let t = tally.with(INSTANCES, 1).with(PRESSES, presses);
+    let u = t.checked(ORDERS, shows_tree(up, s));
+    let v = u.checked(ORDERS, shows_tree(down, s));
     planted(v, p, s, vertex)
 }
 
 fn run(count: u32) -> Tally {
-    let mut t = tally::zero();
-    for k in 0..count {
-        let vertex = random::below(random::seeded(k), MAX_VERTICES);
-        t = tried(t, families::nth_tied(k), vertex);
-    }
-    t
+    (0..count).fold(Tally::zero(), |t, k| {
+        let vertex = Random::seeded(k).below(MAX_VERTICES);
+        tried(t, families::nth_tied(k), vertex)
+    })
 }
 
 pub fn all() {
-    tally::report(
-        run(16),
+    run(16).report(
         b"instances of 32 with many cheapest trees\nmarks pressed\norders of the presses\n",
     );
 }

@@ -4,11 +4,12 @@ use crate::boards::some_board;
 use board::{Answered, Board};
 use harness::group_records::GroupRecord;
 use harness::{boards, calls, damage, faults, group_records, records};
+use reference::call::Call;
 use reference::history::RECORDS;
 use reference::problem::MAX_VERTICES;
 use reference::random::Random;
 use reference::tally::Tally;
-use reference::{access, call, problem, random, shown, tally};
+use reference::{problem, shown};
 
 // What the program counts beside the faults.
 const RESTORED: u32 = 3;
@@ -39,17 +40,14 @@ fn restored(b: Board, r: GroupRecord) -> Board {
 // Whether a take-back gave that board.
 pub fn is_right(back: Answered, due: Board) -> bool {
     let after = back.board;
-    if back.answer != 0 {
-        return false;
-    }
-    boards::equal(after, due)
+    back.answer == 0 && boards::equal(after, due)
 }
 
 // What the take-back gave with another answer, or with one fault in its board: all of it has to be reported.
 pub fn planted(tally: Tally, back: Answered, due: Board, tail: u32, head: u32) -> Tally {
     let mut wrong = back;
-    wrong.answer = access::plus(back.answer, 1);
-    let mut t = tally::planted(tally, !is_right(wrong, due));
+    wrong.answer = back.answer.wrapping_add(1);
+    let mut t = tally.planted(!is_right(wrong, due));
     let after = back.board;
     for kind in 0..faults::KINDS {
         if kind < faults::RECORDS_FROM || after.count != 0 {
@@ -57,7 +55,7 @@ pub fn planted(tally: Tally, back: Answered, due: Board, tail: u32, head: u32) -
                 answer: back.answer,
                 board: faults::with_fault(after, kind, tail, head),
             };
-            t = tally::planted(t, !is_right(w, due));
+            t = t.planted(!is_right(w, due));
         }
     }
     t
@@ -68,27 +66,23 @@ pub fn planted(tally: Tally, back: Answered, due: Board, tail: u32, head: u32) -
 fn tried(tally: Tally, b: Board, g: Random) -> Tally {
     let arc = damage::some_arc(g, b.n, b.root);
     let c = damage::with_cell(b, arc.tail, arc.head, 5, 0);
-    let r = group_records::some_record(c, arc.tail, arc.head, random::next(random::next(g)));
+    let r = group_records::some_record(c, arc.tail, arc.head, g.next().next());
     let due = restored(c, r);
     let before = recorded(c, r);
-    let back = calls::made(before, call::take_back());
-    let t = tally::checked(tally, RESTORED, is_right(back, due));
-    let other = calls::made(faults::with_rubbish(before, arc.head), call::take_back());
-    let u = tally::checked(t, PASSED_OVER, is_right(other, due));
+    let back = calls::made(before, Call::take_back());
+    let t = tally.checked(RESTORED, is_right(back, due));
+    let other = calls::made(faults::with_rubbish(before, arc.head), Call::take_back());
+    let u = t.checked(PASSED_OVER, is_right(other, due));
     planted(u, back, due, arc.tail, arc.head)
 }
 
 fn run(count: u32) -> Tally {
-    let mut t = tally::zero();
-    for k in 0..count {
-        t = tried(t, some_board(k), random::seeded(k));
-    }
-    t
+    (0..count).fold(
+        Tally::zero(),
+        |t, k| tried(t, some_board(k), Random::seeded(k)),
+    )
 }
 
 pub fn all() {
-    tally::report(
-        run(620),
-        b"group records taken back\nother heads passed over\n",
-    );
+    run(620).report(b"group records taken back\nother heads passed over\n");
 }

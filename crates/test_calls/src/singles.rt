@@ -1,11 +1,11 @@
 // Single presses on the members of a group, in random order and with repetitions.
 use board::Board;
-use harness::{calls, counts};
+use harness::calls;
 use reference::call::Call;
 use reference::problem::MAX_VERTICES;
 use reference::random::Random;
 use reference::refusals::{NO_SUCH_ARC, NO_VERTEX};
-use reference::{access, call, random, shown};
+use reference::shown;
 
 // The board after single presses, and how many there were, how many of them accepted and how many refused with 9.
 #[derive(Clone, Copy)]
@@ -19,28 +19,26 @@ pub struct Singles {
 // One single press more, with the mark of the group.
 fn pressed(s: Singles, c: Call, head: u32) -> Singles {
     let b = s.board;
-    let single = Call {
-        kind: call::single_of(c.kind),
-        first: c.first,
-        second: head,
-    };
+    let single = Call::new(c.kind.single(), c.first, head);
     let made = calls::made(b, single);
     let after = made.board;
     Singles {
         board: after,
-        pressed: access::plus(s.pressed, 1),
-        accepted: access::plus(s.accepted, counts::one_if(made.answer == 0)),
-        no_vertex: access::plus(s.no_vertex, counts::one_if(made.answer == NO_VERTEX)),
+        pressed: s.pressed.wrapping_add(1),
+        accepted: s.accepted.wrapping_add(u32::from(made.answer == 0)),
+        no_vertex: s
+            .no_vertex
+            .wrapping_add(u32::from(made.answer == NO_VERTEX)),
     }
 }
 
 // The first 32 are any, the next 32 are each of them once, in an order that a number gives.
 fn nth_head(order: u32, k: u32, g: Random) -> u32 {
     if k < MAX_VERTICES {
-        return random::below(g, MAX_VERTICES);
+        return g.below(MAX_VERTICES);
     }
     let odd = order / 32 % 16 * 2 + 1;
-    access::plus(order, access::times(k, odd)) % MAX_VERTICES
+    order.wrapping_add(k.wrapping_mul(odd)) % MAX_VERTICES
 }
 
 // Every member is pressed at least once.
@@ -51,13 +49,13 @@ pub fn singles_for(b: Board, c: Call, seed: Random) -> Singles {
         accepted: 0,
         no_vertex: 0,
     };
-    let mut g = random::next(seed);
+    let mut g = seed.next();
     for k in 0..2 * MAX_VERTICES {
-        let head = nth_head(random::word(seed), k, g);
+        let head = nth_head(seed.word(), k, g);
         if shown::holds(c.second, head) {
             s = pressed(s, c, head);
         }
-        g = random::next(g);
+        g = g.next();
     }
     s
 }

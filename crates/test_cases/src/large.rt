@@ -4,10 +4,11 @@
 use crate::{exact, planted};
 use harness::calls::Shown;
 use harness::verdict;
+use harness::verdict::Wrong;
 use reference::problem::{CELLS, MAX_BUDGET, MAX_VERTICES, MAX_WEIGHT, Problem};
 use reference::random::Random;
 use reference::tally::Tally;
-use reference::{access, families, outcome, problem, random, tally, worked};
+use reference::{access, families, outcome, problem};
 
 // What the program counts beside the faults: the kinds of a look have a count each.
 const INSTANCES: u32 = 3;
@@ -35,8 +36,8 @@ fn is_right(p: Problem, s: Shown) -> bool {
     if !kind_right(s.kind, s.total, p.budget) {
         return false;
     }
-    let table = problem::costs(p);
-    if verdict::certified(&table, p.n, p.root, s) != 0 {
+    let table = p.costs();
+    if verdict::certified(&table, p.n, p.root, s).is_err() {
         return false;
     }
     exact::states_fit(&table, p, s)
@@ -47,13 +48,10 @@ fn with_over_faults(tally: Tally, p: Problem, s: Shown) -> Tally {
     if s.kind != outcome::OVER {
         return tally;
     }
-    let table = problem::costs(p);
+    let table = p.costs();
     let bare = planted::without_tree(s, p.n);
-    let t = tally::planted(
-        tally,
-        verdict::certified(&table, p.n, p.root, bare) == verdict::PARENTS,
-    );
-    tally::planted(t, !exact::states_fit(&table, p, planted::all_closed(s)))
+    let t = tally.planted(verdict::certified(&table, p.n, p.root, bare) == Err(Wrong::Parents));
+    t.planted(!exact::states_fit(&table, p, planted::all_closed(s)))
 }
 
 // An arc that its reduced price closes, shown open: that has to be reported.
@@ -61,55 +59,50 @@ fn with_opened(tally: Tally, p: Problem, s: Shown) -> Tally {
     if s.kind == outcome::NONE {
         return tally;
     }
-    let table = problem::costs(p);
-    let at = exact::first_priced_out(&table, p, s);
-    if CELLS as u32 <= at {
-        return tally;
+    let table = p.costs();
+    match exact::first_priced_out(&table, p, s) {
+        Some(at) => tally.planted(!exact::states_fit(&table, p, planted::with_state(s, at))),
+        None => tally,
     }
-    tally::planted(
-        tally,
-        !exact::states_fit(&table, p, planted::with_state(s, at)),
-    )
 }
 
 fn with_look(tally: Tally, p: Problem, s: Shown) -> Tally {
-    let t = tally::with(tally, access::plus(KINDS, s.kind), 1);
-    let u = tally::checked(t, LOOKS, is_right(p, s));
+    let t = tally.with(KINDS.wrapping_add(s.kind), 1);
+    let u = t.checked(LOOKS, is_right(p, s));
     with_opened(with_over_faults(u, p, s), p, s)
 }
 
 // One arc that the generator picks, exactly.
 fn with_arc(tally: Tally, p: Problem, s: Shown, g: Random) -> Tally {
-    let tail = random::below(g, MAX_VERTICES);
-    let head = random::below(random::next(g), MAX_VERTICES);
-    tally::checked(tally, ARCS, exact::arc_right(p, s, tail, head))
+    let tail = g.below(MAX_VERTICES);
+    let head = g.next().below(MAX_VERTICES);
+    tally.checked(ARCS, exact::arc_right(p, s, tail, head))
 }
 
 // A look under a budget; then two arcs exactly.
 fn tried(tally: Tally, p: Problem, budget: u32, g: Random) -> Tally {
-    let q = worked::with_budget(p, budget);
+    let q = p.with_budget(budget);
     let s = exact::look_at(q);
     let t = with_look(tally, q, s);
     let u = with_arc(t, q, s, g);
-    with_arc(u, q, s, random::next(random::next(g)))
+    with_arc(u, q, s, g.next().next())
 }
 
 // A plan held to the instance with one of its arcs dearer by 1, or cheaper where it has the dearest weight: that has to
 // be reported, or the test could not fail.
 fn with_changed_weight(tally: Tally, p: Problem, s: Shown, vertex: u32) -> Tally {
-    let parents = s.parents;
     if vertex == p.root {
         return tally;
     }
-    let tail = access::byte(&parents, vertex);
+    let tail = access::byte(&s.parents, vertex);
     let weight = p.weights[problem::cell(tail, vertex)];
     let other = if weight < MAX_WEIGHT {
-        access::plus(weight, 1)
+        weight.wrapping_add(1)
     } else {
         MAX_WEIGHT - 1
     };
-    let changed = worked::with_weight(p, tail, vertex, other);
-    tally::planted(tally, !is_right(changed, s))
+    let changed = p.with_weight(tail, vertex, other);
+    tally.planted(!is_right(changed, s))
 }
 
 // A look under a budget that is within the limit.
@@ -128,33 +121,33 @@ fn tried_over(tally: Tally, p: Problem, total: u32, g: Random) -> Tally {
         return tally;
     }
     let t = tried(tally, p, total - 1, g);
-    let at_total = exact::look_at(worked::with_budget(p, total));
-    let below = exact::look_at(worked::with_budget(p, total - 1));
-    let u = tally::checked(t, OVERS, exact::same_shown(at_total, below));
-    let wrong = planted::with_state(below, random::below(g, CELLS as u32));
-    let v = tally::planted(u, !exact::same_shown(at_total, wrong));
-    let other = planted::with_parent(below, random::below(g, MAX_VERTICES), MAX_VERTICES);
-    tally::planted(v, !exact::same_shown(at_total, other))
+    let at_total = exact::look_at(p.with_budget(total));
+    let below = exact::look_at(p.with_budget(total - 1));
+    let u = t.checked(OVERS, exact::same_shown(at_total, below));
+    let wrong = planted::with_state(below, g.below(CELLS as u32));
+    let v = u.planted(!exact::same_shown(at_total, wrong));
+    let other = planted::with_parent(below, g.below(MAX_VERTICES), MAX_VERTICES);
+    v.planted(!exact::same_shown(at_total, other))
 }
 
 // Budgets at the cheapest total, one above, somewhat above, and one below.
 fn tried_around(tally: Tally, p: Problem, total: u32, g: Random) -> Tally {
     let t = tried(tally, p, total, g);
-    let u = tried_within(t, p, access::plus(total, 1), g);
-    let v = tried_within(u, p, access::plus(total, total / 64), random::next(g));
+    let u = tried_within(t, p, total.wrapping_add(1), g);
+    let v = tried_within(u, p, total.wrapping_add(total / 64), g.next());
     tried_over(v, p, total, g)
 }
 
 // The cheapest total from a look under the largest budget, and then budgets around it.
 pub fn tried_all(tally: Tally, p: Problem, g: Random) -> Tally {
-    let q = worked::with_budget(p, MAX_BUDGET);
+    let q = p.with_budget(MAX_BUDGET);
     let s = exact::look_at(q);
-    let t = with_look(tally::with(tally, INSTANCES, 1), q, s);
+    let t = with_look(tally.with(INSTANCES, 1), q, s);
     if s.kind != outcome::PLAN {
         return t;
     }
     tried_around(
-        with_changed_weight(t, q, s, random::below(g, MAX_VERTICES)),
+        with_changed_weight(t, q, s, g.below(MAX_VERTICES)),
         p,
         s.total,
         g,
@@ -162,17 +155,14 @@ pub fn tried_all(tally: Tally, p: Problem, g: Random) -> Tally {
 }
 
 fn run(count: u32) -> Tally {
-    let mut t = tally::zero();
-    for k in 0..count {
-        let g = random::seeded(k);
-        t = tried_all(t, families::nth_instance(k), g);
-    }
-    t
+    (0..count).fold(Tally::zero(), |t, k| {
+        let g = Random::seeded(k);
+        tried_all(t, families::nth_instance(k), g)
+    })
 }
 
 pub fn all() {
-    tally::report(
-        run(240),
+    run(240).report(
         b"instances of 32\nlooks\nplan\nover\nnone\narcs looked at singly\nover held to the cheapest total\n",
     );
 }

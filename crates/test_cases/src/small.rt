@@ -2,12 +2,13 @@
 // state, with budgets at, just below and just above the cheapest total and the totals with one arc forced.
 use crate::planted;
 use harness::calls::Shown;
-use harness::{boards, buffers, calls, verdict};
+use harness::verdict::Wrong;
+use harness::{boards, calls, verdict};
 use reference::problem::{ABSENT, CELLS, MAX_BUDGET, Problem};
 use reference::random::Random;
 use reference::tally::Tally;
 use reference::trees::Listing;
-use reference::{access, outcome, problem, random, sample, tally, trees, worked};
+use reference::{access, outcome, sample, trees};
 
 // What the program counts beside the faults: the kinds of a look and the states have a count each.
 const INSTANCES: u32 = 3;
@@ -23,11 +24,10 @@ const STATES: u32 = 9;
 const SEVERAL: u32 = 13;
 
 // The tally with the states of a look.
-fn with_states(tally: Tally, states: [u8; buffers::STATES], n: u32) -> Tally {
+fn with_states(tally: Tally, states: &[u8]) -> Tally {
     let mut t = tally;
-    let count = access::times(n, n);
-    for k in 0..count {
-        t = tally::with(t, access::plus(STATES, access::byte(&states, k) % 4), 1);
+    for &state in states {
+        t = t.with(STATES + u32::from(state) % 4, 1);
     }
     t
 }
@@ -44,15 +44,9 @@ fn with_over_faults(
         return tally;
     }
     let bare = planted::without_tree(s, p.n);
-    let t = tally::planted(
-        tally,
-        verdict::against(table, list, p, bare) == verdict::PARENTS,
-    );
+    let t = tally.planted(verdict::against(table, list, p, bare) == Err(Wrong::Parents));
     let closed = planted::all_closed(s);
-    tally::planted(
-        t,
-        verdict::against(table, list, p, closed) == verdict::STATES,
-    )
+    t.planted(verdict::against(table, list, p, closed) == Err(Wrong::States))
 }
 
 // The last of several cheapest trees in the place of the first: the cuts prove it cheapest, so that it is not the first
@@ -69,24 +63,23 @@ fn with_last_tree(
         return tally;
     }
     let other = planted::with_tree(s, last, p.n);
-    tally::planted(
-        tally::with(tally, SEVERAL, 1),
-        verdict::against(table, list, p, other) == verdict::FIRST,
-    )
+    tally.with(SEVERAL, 1).planted(verdict::against(table, list, p, other) == Err(Wrong::First))
 }
 
 // A look under a budget, judged, and judged again with a fault planted.
 fn tried(tally: Tally, table: &[u32; CELLS], list: Listing, p: Problem, budget: u32) -> Tally {
-    let q = worked::with_budget(p, budget);
+    let q = p.with_budget(budget);
     let s = calls::look(boards::of_problem(q));
-    let states = s.states;
-    let t = tally::checked(tally, LOOKS, verdict::against(table, list, q, s) == 0);
-    let g = random::seeded(tally::count(t, LOOKS));
+    let t = tally.checked(LOOKS, verdict::against(table, list, q, s).is_ok());
+    let g = Random::seeded(t.count(LOOKS));
     let wrong = planted::with_fault(s, q.n, q.root, g);
-    let u = tally::planted(t, verdict::against(table, list, q, wrong) != 0);
+    let u = t.planted(verdict::against(table, list, q, wrong).is_err());
     let v = with_over_faults(u, table, list, q, s);
     let w = with_last_tree(v, table, list, q, s);
-    with_states(tally::with(w, access::plus(KINDS, s.kind), 1), states, q.n)
+    with_states(
+        w.with(KINDS.wrapping_add(s.kind), 1),
+        access::front(&s.states, q.n.wrapping_mul(q.n) as usize),
+    )
 }
 
 // Looks at, just below and just above a total, if there is one.
@@ -101,7 +94,7 @@ fn tried_around(
         return tally;
     }
     let t = tried(tally, table, list, p, total);
-    let u = tried(t, table, list, p, access::plus(total, 1));
+    let u = tried(t, table, list, p, total.wrapping_add(1));
     if total == 0 {
         return u;
     }
@@ -110,9 +103,9 @@ fn tried_around(
 
 // The cheapest total with one arc forced in, or out.
 fn forced_total(list: Listing, n: u32, g: Random) -> u32 {
-    let h = random::next(g);
-    let uses = random::below(random::next(h), 3) != 0;
-    let at = trees::place(random::below(g, n), random::below(h, n), uses);
+    let h = g.next();
+    let uses = h.next().below(3) != 0;
+    let at = trees::place(g.below(n), h.below(n), uses);
     list.totals[at]
 }
 
@@ -128,7 +121,7 @@ fn tried_forced(
     let mut g = seed;
     for step in 0u32..4 {
         let total = forced_total(list, p.n, g);
-        g = random::next(random::next(random::next(g)));
+        g = g.next().next().next();
         if total != list.cheapest {
             t = tried_around(t, table, list, p, total);
         }
@@ -138,11 +131,11 @@ fn tried_forced(
 
 // Looks around the cheapest total and the forced ones; where there is no tree, under any budget.
 fn tried_all(tally: Tally, p: Problem, g: Random) -> Tally {
-    let table = problem::costs(p);
+    let table = p.costs();
     let list = trees::list(&table, p.n, p.root);
-    let t = tally::with(tally::with(tally, INSTANCES, 1), TREES, list.trees);
+    let t = tally.with(INSTANCES, 1).with(TREES, list.trees);
     if list.cheapest == ABSENT {
-        return tried(t, &table, list, p, random::below(g, MAX_BUDGET + 1));
+        return tried(t, &table, list, p, g.below(MAX_BUDGET + 1));
     }
     let u = tried_around(t, &table, list, p, list.cheapest);
     tried_forced(u, &table, list, p, g)
@@ -150,17 +143,14 @@ fn tried_all(tally: Tally, p: Problem, g: Random) -> Tally {
 
 // Instances of 1 to 6 vertices, each root in turn.
 fn run(count: u32) -> Tally {
-    let mut t = tally::zero();
-    for k in 0..count {
-        let g = random::seeded(k);
-        t = tried_all(t, sample::small_instance(k), g);
-    }
-    t
+    (0..count).fold(Tally::zero(), |t, k| {
+        let g = Random::seeded(k);
+        tried_all(t, sample::small_instance(k), g)
+    })
 }
 
 pub fn all() {
-    tally::report(
-        run(20000),
+    run(20000).report(
         b"small instances\ntrees listed\nlooks\nplan\nover\nnone\nstate 0:\nstate 1:\nstate 2:\nstate 3:\nlooks with several cheapest trees\n",
     );
 }

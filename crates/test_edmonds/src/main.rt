@@ -85,20 +85,20 @@ fn show(w: [u32; CELLS], n: usize)
 {
     let mut lowered = w;
     let mut cuts = [0u32; CUT_WORDS];
-    let plan = plan_matrix(&mut lowered, n, Vertex(0), &mut cuts);
-    if !plan.found {
-        io::write_all(1, b"none, set ");
-        io::print_decimal(1, wide32(plan.set));
-        io::write_all(1, b"\n");
-        return;
+    match plan_matrix(&mut lowered, n, Vertex(0), &mut cuts) {
+        Ok(plan) => {
+            io::write_all(1, b"total ");
+            io::print_decimal(1, tree_total(&w, &plan.parents, n));
+            io::write_all(1, b", cuts ");
+            io::print_decimal(1, wide32(plan.count));
+            io::write_all(1, b" of value ");
+            io::print_decimal(1, wide32(plan.total));
+        }
+        Err(unreached) => {
+            io::write_all(1, b"none, set ");
+            io::print_decimal(1, wide32(unreached.set));
+        }
     }
-    let parents = plan.parents;
-    io::write_all(1, b"total ");
-    io::print_decimal(1, tree_total(&w, &parents, n));
-    io::write_all(1, b", cuts ");
-    io::print_decimal(1, wide32(plan.count));
-    io::write_all(1, b" of value ");
-    io::print_decimal(1, wide32(plan.total));
     io::write_all(1, b"\n");
 }
 

@@ -1,15 +1,16 @@
 // Cards with one bad record of each kind among sound ones: 27, whatever comes after it; 3 where it runs past the end.
 // And cards whose count is above 200.
 use crate::{changed, compared, samples};
-use harness::{calls, damage};
+use harness::{boards, calls, damage, histories};
 use reference::card::Card;
-use reference::history::{History, RECORDS, Record};
+use reference::history::{History, Record};
+use reference::history_card::Reading;
 use reference::history_sample::{BAD_KINDS, Bad};
 use reference::problem::Problem;
 use reference::random::Random;
-use reference::refusals::{BAD_FILLING, BAD_LENGTH, BAD_RECORDS};
+use reference::refusals::{BAD_FILLING, BAD_LENGTH, BAD_RECORDS, number_of};
 use reference::tally::Tally;
-use reference::{access, fields, history, history_card, history_sample, random, sample, tally};
+use reference::{fields, history_card, history_sample, sample};
 
 // What the program counts beside the faults.
 const CARDS: u32 = 3;
@@ -29,24 +30,29 @@ const COUNTS: u32 = 8;
 fn tried(tally: Tally, which: u32, c: Card, due: u32) -> Tally {
     let o = calls::open(c);
     let r = compared::reading_of(c);
-    let right = compared::opened_right(o, r);
-    let t = tally::checked(tally, CARDS, right && r.answer == due);
-    let mut wrong = r;
-    wrong.answer = if due == 0 { BAD_RECORDS } else { 0 };
-    tally::planted(tally::with(t, which, 1), !compared::opened_right(o, wrong))
+    let right = compared::opened_right(o, r) && number_of(r) == due;
+    let wrong = match r {
+        Ok(_) => Err(BAD_RECORDS),
+        Err(_) => Ok(Reading {
+            problem: boards::problem_of(o.board),
+            history: histories::of_board(o.board),
+        }),
+    };
+    tally
+        .checked(CARDS, right)
+        .with(which, 1)
+        .planted(!compared::opened_right(o, wrong))
 }
 
 // So many sound records, with that one put among them at a place.
 fn with_one(h: History, at: u32, r: Record) -> History {
-    let last = history::nth(h, at);
-    history::with_nth(history::with(h, last), at, r)
+    let last = h.nth(at);
+    h.with(last).with_nth(at, r)
 }
 
 // The bad record last: cut by a byte it runs past the end, and a byte more changes nothing.
 fn tried_last(tally: Tally, b: Bad, h: History) -> Tally {
-    let p = b.problem;
-    let bad = b.bad;
-    let c = history_card::build(p, history::with(h, bad));
+    let c = history_card::build(b.problem, h.with(b.bad));
     let t = tried(tally, BAD, c, BAD_RECORDS);
     let u = tried(t, PAST_THE_END, changed::cut(c), BAD_LENGTH);
     let v = tried(u, BAD, changed::with_byte(c, 255), BAD_RECORDS);
@@ -55,18 +61,16 @@ fn tried_last(tally: Tally, b: Bad, h: History) -> Tally {
 
 // The bad record in any place, with all the rest in order.
 fn tried_among(tally: Tally, b: Bad, h: History, g: Random) -> Tally {
-    let p = b.problem;
-    let at = random::below(g, h.count);
-    let c = history_card::build(p, with_one(h, at, b.bad));
+    let at = g.below(h.count);
+    let c = history_card::build(b.problem, with_one(h, at, b.bad));
     tried(tally, BAD, c, BAD_RECORDS)
 }
 
 fn tried_bad(tally: Tally, p: Problem, kind: u32, g: Random) -> Tally {
     let arc = damage::some_arc(g, p.n, p.root);
-    let b = history_sample::nth_bad(p, kind, arc.tail, arc.head, random::next(g));
-    let q = b.problem;
-    let count = random::below(g, 6);
-    let h = history_sample::some_history(q, count, random::below(g, 1000000));
+    let b = history_sample::nth_bad(p, kind, arc.tail, arc.head, g.next());
+    let count = g.below(6);
+    let h = history_sample::some_history(b.problem, count, g.below(1000000));
     let t = tried_last(tally, b, h);
     if count == 0 {
         return t;
@@ -75,16 +79,15 @@ fn tried_bad(tally: Tally, p: Problem, kind: u32, g: Random) -> Tally {
 }
 
 fn tried_kinds(tally: Tally, p: Problem, g: Random) -> Tally {
-    let mut t = tally;
-    for kind in 0..BAD_KINDS {
-        t = tried_bad(
+    (0..BAD_KINDS).fold(
+        tally,
+        |t, kind| tried_bad(
             t,
             p,
             kind,
-            random::seeded(access::plus(kind, random::below(g, 100000))),
-        );
-    }
-    t
+            Random::seeded(kind.wrapping_add(g.below(100000))),
+        ),
+    )
 }
 
 // Where the last bit is a filling bit, the card with it set is 8; and 3 with a byte more, as 3 comes first.
@@ -105,17 +108,15 @@ fn tried_filling(tally: Tally, c: Card, end: u32) -> Tally {
 // Where the records of a card for n positions end.
 fn end_of(n: u32, h: History) -> u32 {
     let mut at = history_card::records_at(n);
-    for k in 0..RECORDS as u32 {
-        if k < h.count {
-            at = access::plus(at, history_card::length_of(history::nth(h, k)));
-        }
+    for r in h.recorded() {
+        at = at.wrapping_add(history_card::length_of(r));
     }
     at
 }
 
 // A sound card: cut it runs past the end, with a byte more it is too long.
 fn tried_sound(tally: Tally, p: Problem, k: u32) -> Tally {
-    let s = samples::with_records(p, access::plus(k % 7, 1), k);
+    let s = samples::with_records(p, (k % 7).wrapping_add(1), k);
     let c = samples::recorded_card(s);
     let t = tried(tally, SOUND, c, 0);
     let u = tried(t, PAST_THE_END, changed::cut(c), BAD_LENGTH);
@@ -129,7 +130,7 @@ fn tried_sound(tally: Tally, p: Problem, k: u32) -> Tally {
 fn tried_count(tally: Tally, p: Problem, k: u32) -> Tally {
     let s = samples::with_records(p, 200, k);
     let mut h = s.history;
-    h.count = access::plus(201, k % 55);
+    h.count = (k % 55).wrapping_add(201);
     let c = history_card::build(p, h);
     let bare = changed::with_length(c, fields::whole_bytes(history_card::records_at(p.n)));
     let t = tried(tally, COUNTS, c, BAD_RECORDS);
@@ -139,9 +140,9 @@ fn tried_count(tally: Tally, p: Problem, k: u32) -> Tally {
 
 // Cards of 2 to 31 positions, so that there is an arc, and a position that is not there.
 fn run(count: u32) -> Tally {
-    let mut t = tally::zero();
+    let mut t = Tally::zero();
     for k in 0..count {
-        let g = random::seeded(k);
+        let g = Random::seeded(k);
         let p = sample::any_instance(g, k % 30 + 2);
         t = tried_kinds(t, p, g);
         t = tried_sound(t, p, k);
@@ -151,8 +152,7 @@ fn run(count: u32) -> Tally {
 }
 
 pub fn all() {
-    tally::report(
-        run(120),
+    run(120).report(
         b"cards\nof these with a bad record\nthat run past the end, or are too long\nsound\nwith a filling bit\n\
         with a count above 200\n",
     );

@@ -1,13 +1,13 @@
 // Cards with bits changed, cut or continued.
+use reference::access;
 use reference::card::{CARD_ROOM, Card};
 use reference::random::Random;
-use reference::{access, random};
 
 // The card with one bit changed.
 pub fn with_bit(c: Card, k: u32) -> Card {
     let mut d = c;
     let at = (k / 8 % CARD_ROOM as u32) as usize;
-    d.bytes[at] = d.bytes[at] ^ 128u8 >> (k % 8);
+    d.bytes[at] ^= 128u8 >> (k % 8);
     d
 }
 
@@ -23,19 +23,19 @@ pub fn with_byte(c: Card, x: u8) -> Card {
     let mut d = c;
     let at = (c.length % CARD_ROOM as u32) as usize;
     d.bytes[at] = x;
-    d.length = access::plus(c.length, 1);
+    d.length = c.length.wrapping_add(1);
     d
 }
 
 // The card without its last byte.
 pub fn cut(c: Card) -> Card {
-    with_length(c, std::num::wrapping_sub_u32(c.length, 1))
+    with_length(c, c.length.wrapping_sub(1))
 }
 
 // The card with the last bit of its last byte changed: a filling bit where there is one.
 pub fn with_last_bit(c: Card) -> Card {
-    let bits = access::times(8, c.length);
-    with_bit(c, std::num::wrapping_sub_u32(bits, 1))
+    let bits = c.length.wrapping_mul(8);
+    with_bit(c, bits.wrapping_sub(1))
 }
 
 // The card with ones in the upper five bits of its budget, which is too high with them: they stand behind 11 bits, and
@@ -43,9 +43,9 @@ pub fn with_last_bit(c: Card) -> Card {
 pub fn with_high_budget(c: Card, history: bool) -> Card {
     let mut d = c;
     if history {
-        d.bytes[2] = d.bytes[2] | 124;
+        d.bytes[2] |= 124;
     } else {
-        d.bytes[1] = d.bytes[1] | 31;
+        d.bytes[1] |= 31;
     }
     d
 }
@@ -54,11 +54,9 @@ pub fn with_high_budget(c: Card, history: bool) -> Card {
 pub fn with_noise(c: Card, from: u32, seed: Random) -> Card {
     let mut d = c;
     let mut g = seed;
-    for k in 0..CARD_ROOM as u32 {
-        if from <= k {
-            d.bytes[k as usize] = access::narrow(random::word(g));
-            g = random::next(g);
-        }
+    for place in d.bytes.iter_mut().skip(from as usize) {
+        *place = access::narrow(g.word());
+        g = g.next();
     }
     d
 }

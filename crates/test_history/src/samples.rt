@@ -2,7 +2,8 @@
 use reference::card::Card;
 use reference::history::History;
 use reference::problem::{MAX_VERTICES, Problem};
-use reference::{card, history_card, history_sample, random, sample};
+use reference::random::Random;
+use reference::{card, history_card, history_sample, sample};
 
 #[derive(Clone, Copy)]
 pub struct Sample {
@@ -13,7 +14,7 @@ pub struct Sample {
 // Three of four have 1 to 6 positions, the others any number of them.
 fn nth_problem(k: u32) -> Problem {
     if k % 4 == 3 {
-        return sample::any_instance(random::seeded(k), k / 4 % MAX_VERTICES + 1);
+        return sample::any_instance(Random::seeded(k), k / 4 % MAX_VERTICES + 1);
     }
     sample::small_instance(k)
 }
@@ -21,14 +22,14 @@ fn nth_problem(k: u32) -> Problem {
 // The k-th sample: any number of records up to 200.
 pub fn nth(k: u32) -> Sample {
     let p = nth_problem(k);
-    let count = history_sample::nth_count(k / 4, random::seeded(k));
+    let count = history_sample::nth_count(k / 4, Random::seeded(k));
     with_records(p, count, k)
 }
 
 // The k-th sample with few records, and at most four positions.
 pub fn nth_small(k: u32) -> Sample {
     let n = k % 4 + 1;
-    let p = sample::any_instance(random::seeded(k), n);
+    let p = sample::any_instance(Random::seeded(k), n);
     with_records(p, k / 4 % 5, k)
 }
 
@@ -40,9 +41,7 @@ pub fn with_records(p: Problem, count: u32, k: u32) -> Sample {
 }
 
 pub fn recorded_card(s: Sample) -> Card {
-    let p = s.problem;
-    let h = s.history;
-    history_card::build(p, h)
+    history_card::build(s.problem, s.history)
 }
 
 pub fn plain_card(s: Sample) -> Card {

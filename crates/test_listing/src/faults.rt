@@ -1,7 +1,9 @@
-// Whether two listings are the same, result and buffer; and listings with one fault planted, which this has to report.
-use crate::given::{Given, ROOM};
+// Listings held to what they should be, result and buffer; and with one fault planted, which that has to report. The
+// kinds of a fault are numbers, no enum: they are gone through and counted in their order.
+use crate::given::{Given, Listed, ROOM};
+use reference::access;
 use reference::tally::Tally;
-use reference::{access, tally};
+use reference::walk::Ended;
 
 // What is counted beside the faults that are found.
 pub const SHEETS: u32 = 3;
@@ -43,88 +45,109 @@ const AFTER: u32 = 7;
 
 const LAST: u32 = 8;
 
-// A refusal with the first byte changed. The last kind is another answer.
+// A refusal with the first byte changed; another answer.
 const TOUCHED: u32 = 9;
+
+const OTHER_ANSWER: u32 = 10;
 
 const KINDS: u32 = 11;
 
-// Of a refusal only the number counts, and that the buffer is as before.
-fn is_same(a: Given, b: Given) -> bool {
-    let x = a.bytes;
-    let y = b.bytes;
-    if a.answer != b.answer {
-        return false;
+// What a listing is counted by: how the walk ended, or a refusal.
+pub fn count_of(listed: Result<Listed, u32>) -> u32 {
+    match listed {
+        Ok(l) => match l.ended {
+            Some(Ended::AtLimit) => ENDS + 1,
+            Some(Ended::NoRoom) => ENDS + 2,
+            _ => ENDS,
+        },
+        Err(_) => BAD_LIMIT,
     }
-    if a.answer == 0 {
-        if a.ended != b.ended || a.trees != b.trees || a.tries != b.tries {
-            return false;
-        }
-    }
-    access::equal_bytes(&x, &y, ROOM as u32)
 }
 
 // Whether a listing can have a fault of that kind.
 fn applies(g: Given, kind: u32) -> bool {
-    if g.answer != 0 {
-        return TOUCHED <= kind;
-    }
-    match kind {
-        MISSING => 0 < g.trees,
-        SWAPPED => 1 < g.trees,
-        OTHER_FEEDER => 0 < g.trees,
-        TOUCHED => false,
-        _ => true,
+    match (g.listed, kind) {
+        (Err(_), _) => TOUCHED <= kind,
+        (Ok(l), MISSING | OTHER_FEEDER) => 0 < l.trees,
+        (Ok(l), SWAPPED) => 1 < l.trees,
+        (Ok(_), _) => kind != TOUCHED,
     }
 }
 
 // The buffer with the first tree given twice, left out, or after the second one. Trees have at most 32 bytes.
 fn moved(bytes: [u8; ROOM], n: u32, kind: u32) -> [u8; ROOM] {
     let mut b = bytes;
-    let first = (n % 64) as usize;
-    let rest = &bytes[first..ROOM];
+    let size = n as usize % 64;
+    let first = &bytes[..size];
+    let rest = &bytes[size..];
     match kind {
-        TOO_MANY => access::put_bytes(&mut b, n, &bytes, ROOM as u32),
-        MISSING => access::put_bytes(&mut b, 0, rest, rest.len() as u32),
+        TOO_MANY => access::put(&mut b, size, &bytes),
+        MISSING => access::put(&mut b, 0, rest),
         SWAPPED => {
-            access::put_bytes(&mut b, 0, rest, n);
-            access::put_bytes(&mut b, n, &bytes, n);
+            access::put(&mut b, 0, access::front(rest, size));
+            access::put(&mut b, size, first);
         }
         _ => {}
     }
     b
 }
 
-fn with_fault(g: Given, n: u32, kind: u32) -> Given {
-    let bytes = g.bytes;
-    let mut f = g;
-    f.bytes = moved(bytes, n, kind);
-    let length = access::times(g.trees, n);
-    let last = (std::num::wrapping_sub_u32(length, 1) % ROOM as u32) as usize;
-    let after = (length % ROOM as u32) as usize;
-    match kind {
-        TOO_MANY => f.trees = access::plus(g.trees, 1),
-        MISSING => f.trees = std::num::wrapping_sub_u32(g.trees, 1),
-        SWAPPED => {}
-        OTHER_FEEDER => f.bytes[last] = bytes[last] ^ 1,
-        MORE_TRIES => f.tries = access::plus(g.tries, 1),
-        FEWER_TRIES => f.tries = std::num::wrapping_sub_u32(g.tries, 1),
-        OTHER_END => f.ended = access::plus(g.ended, 1) % 3,
-        AFTER => f.bytes[after] = bytes[after] ^ 255,
-        LAST => f.bytes[ROOM - 1] = bytes[ROOM - 1] ^ 1,
-        TOUCHED => f.bytes[0] = bytes[0] ^ 128,
-        _ => f.answer = access::plus(g.answer, 1),
+fn other_end(ended: Option<Ended>) -> Option<Ended> {
+    match ended {
+        Some(Ended::Complete) => Some(Ended::AtLimit),
+        Some(Ended::AtLimit) => Some(Ended::NoRoom),
+        _ => Some(Ended::Complete),
     }
-    f
+}
+
+// The numbers of a walk with one of them changed, or a refusal in their place.
+fn with_other_number(listed: Listed, kind: u32) -> Result<Listed, u32> {
+    let mut l = listed;
+    match kind {
+        TOO_MANY => l.trees = l.trees.wrapping_add(1),
+        MISSING => l.trees = l.trees.wrapping_sub(1),
+        MORE_TRIES => l.tries = l.tries.wrapping_add(1),
+        FEWER_TRIES => l.tries = l.tries.wrapping_sub(1),
+        OTHER_END => l.ended = other_end(l.ended),
+        OTHER_ANSWER => return Err(1),
+        _ => {}
+    }
+    Ok(l)
+}
+
+// The buffer with a byte changed: the last of the trees, the first after them, or its own last.
+fn with_other_byte(bytes: [u8; ROOM], length: u32, kind: u32) -> [u8; ROOM] {
+    let mut b = bytes;
+    let after = length as usize % ROOM;
+    match kind {
+        OTHER_FEEDER => b[length.wrapping_sub(1) as usize % ROOM] ^= 1,
+        AFTER => b[after] ^= 255,
+        LAST => b[ROOM - 1] ^= 1,
+        TOUCHED => b[0] ^= 128,
+        _ => {}
+    }
+    b
+}
+
+fn with_fault(g: Given, n: u32, kind: u32) -> Given {
+    match g.listed {
+        Ok(l) => Given {
+            listed: with_other_number(l, kind),
+            bytes: with_other_byte(moved(g.bytes, n, kind), l.trees.wrapping_mul(n), kind),
+        },
+        Err(answer) => Given {
+            listed: Err(answer.wrapping_add(u32::from(kind == OTHER_ANSWER))),
+            bytes: with_other_byte(g.bytes, 0, kind),
+        },
+    }
 }
 
 // A listing held to what it should be, and then with each kind of fault.
 pub fn tried(tally: Tally, which: u32, g: Given, expected: Given, n: u32) -> Tally {
-    let mut t = tally::checked(tally, which, is_same(g, expected));
-    for kind in 0..KINDS {
-        if applies(g, kind) {
-            t = tally::with(t, access::plus(PLANTED, kind), 1);
-            t = tally::planted(t, !is_same(with_fault(g, n, kind), expected));
-        }
-    }
-    t
+    tally.checked(which, g == expected).with_faults(
+        PLANTED,
+        KINDS,
+        |kind| applies(g, kind),
+        |kind| with_fault(g, n, kind) == expected,
+    )
 }

@@ -1,47 +1,67 @@
 // What a listing gave: the planner's call, the reference's walk, and the reference's listing of all choices.
 use board::Board;
 use harness::buffers;
-use planner::{Ended, Listing};
 use reference::problem::{CELLS, Problem};
-use reference::{trees, walk};
+use reference::walk::Ended;
+use reference::{access, trees, walk};
 
 // The buffer has room for every tree of five positions, and for 64 of 32. So much of it is lent as a call says.
 pub const ROOM: usize = 2048;
 
-// The answer, 0 where there was no refusal; how the walk ended, the numbers of trees and tries; and the buffer.
-#[derive(Clone, Copy)]
-pub struct Given {
-    pub answer: u32,
-    pub ended: u32,
+// How the walk ended, and the numbers of trees and tries.
+#[derive(Clone, Copy, PartialEq, Eq)]
+pub struct Listed {
+    pub ended: Option<Ended>,
     pub trees: u32,
     pub tries: u32,
+}
+
+// That, or the number of the refusal; and the buffer.
+#[derive(Clone, Copy, PartialEq, Eq)]
+pub struct Given {
+    pub listed: Result<Listed, u32>,
     pub bytes: [u8; ROOM],
 }
 
+impl Given {
+    // The number of trees, and of tries; 0 of a refusal.
+    pub fn trees(&self) -> u32 {
+        self.listed.map_or(0, |l| l.trees)
+    }
+
+    pub fn tries(&self) -> u32 {
+        self.listed.map_or(0, |l| l.tries)
+    }
+}
+
 // A result with a buffer that nothing was put into.
-pub fn untouched(answer: u32, ended: u32, trees: u32, tries: u32) -> Given {
+pub fn untouched(listed: Result<Listed, u32>) -> Given {
     Given {
-        answer: answer,
-        ended: ended,
-        trees: trees,
-        tries: tries,
+        listed,
         bytes: [buffers::BYTE; ROOM],
+    }
+}
+
+fn of_end(e: planner::Ended) -> Ended {
+    match e {
+        planner::Ended::Complete => Ended::Complete,
+        planner::Ended::AtLimit => Ended::AtLimit,
+        planner::Ended::NoRoom => Ended::NoRoom,
     }
 }
 
 pub fn by_planner(b: Board, limit: u32, room: u32) -> Given {
     let mut bytes = [buffers::BYTE; ROOM];
-    let l = planner::list_plans(b, limit, buffers::front_mut(&mut bytes, room));
-    let mut g = match l {
-        Listing::Listed(e, trees, tries) => match e {
-            Ended::Complete => untouched(0, walk::COMPLETE, trees, tries),
-            Ended::AtLimit => untouched(0, walk::AT_LIMIT, trees, tries),
-            Ended::NoRoom => untouched(0, walk::NO_ROOM, trees, tries),
-        },
-        Listing::Refused(answer) => untouched(answer, 0, 0, 0),
+    let l = planner::list_plans(b, limit, access::front_mut(&mut bytes, room as usize));
+    let listed = match l {
+        Ok(listing) => Ok(Listed {
+            ended: Some(of_end(listing.ended)),
+            trees: listing.trees,
+            tries: listing.tries,
+        }),
+        Err(refusal) => Err(u32::from(refusal)),
     };
-    g.bytes = bytes;
-    g
+    Given { listed, bytes }
 }
 
 pub fn by_reference(table: &[u32; CELLS], p: Problem, limit: u32, room: u32) -> Given {
@@ -52,11 +72,14 @@ pub fn by_reference(table: &[u32; CELLS], p: Problem, limit: u32, room: u32) -> 
         p.root,
         p.budget,
         limit,
-        buffers::front_mut(&mut bytes, room),
+        access::front_mut(&mut bytes, room as usize),
     );
-    let mut g = untouched(w.answer, w.ended, w.trees, w.tries);
-    g.bytes = bytes;
-    g
+    let listed = w.map(|w| Listed {
+        ended: w.ended,
+        trees: w.trees,
+        tries: w.tries,
+    });
+    Given { listed, bytes }
 }
 
 // A complete walk of at most five positions, with no walk made: the trees of the listing of all choices, and the tries
@@ -64,12 +87,10 @@ pub fn by_reference(table: &[u32; CELLS], p: Problem, limit: u32, room: u32) -> 
 pub fn by_choices(table: &[u32; CELLS], p: Problem) -> Given {
     let mut bytes = [buffers::BYTE; ROOM];
     let trees = trees::put_within(table, p.n, p.root, p.budget, &mut bytes);
-    let mut g = untouched(
-        0,
-        walk::COMPLETE,
+    let listed = Ok(Listed {
+        ended: Some(Ended::Complete),
         trees,
-        trees::all_tries(table, p.n, p.root),
-    );
-    g.bytes = bytes;
-    g
+        tries: trees::all_tries(table, p.n, p.root),
+    });
+    Given { listed, bytes }
 }

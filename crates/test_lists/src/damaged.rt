@@ -1,6 +1,7 @@
 // Lists on damaged boards: 15 with nothing applied and the very board, for the empty list too; and the same lists on
 // the sound boards, as they are and with changes that are no damage.
 use crate::dues::Due;
+use crate::lent::ListAnswered;
 use crate::lists::{List, PERIOD};
 use crate::making::Style;
 use crate::{compared, dues, judged, lists, making};
@@ -8,12 +9,11 @@ use board::Board;
 use harness::damage::Damaged;
 use harness::session::Session;
 use harness::{boards, changes, session};
-use planner::ListAnswered;
 use reference::problem::MAX_VERTICES;
 use reference::random::Random;
 use reference::refusals::INVALID_BOARD;
 use reference::tally::Tally;
-use reference::{access, call, random, sample, tally};
+use reference::{call, sample};
 
 // What is counted beside what every part counts.
 const BOARDS: u32 = compared::OWN;
@@ -38,32 +38,31 @@ fn is_refused(a: ListAnswered, b: Board) -> bool {
 
 // The result with other numbers: all of it has to be reported.
 fn planted_numbers(tally: Tally, a: ListAnswered, b: Board) -> Tally {
-    let mut t = tally;
-    for kind in 0..judged::NUMBERS {
-        t = tally::planted(t, !is_refused(judged::with_number(a, kind), b));
-    }
-    t
+    (0..judged::NUMBERS).fold(
+        tally,
+        |t, kind| t.planted(!is_refused(judged::with_number(a, kind), b)),
+    )
 }
 
 // The board with one record more, and with one less; and the sound board in its place.
 fn planted_boards(tally: Tally, a: ListAnswered, b: Board, sound: Board) -> Tally {
     let mut more = b;
-    more.count = std::num::wrapping_add_usize(b.count, 1);
+    more.count = b.count.wrapping_add(1);
     let mut less = b;
-    less.count = std::num::wrapping_sub_usize(b.count, 1);
-    let t = tally::planted(tally, !is_refused(judged::with_board(a, more), b));
-    let u = tally::planted(t, !is_refused(judged::with_board(a, less), b));
-    tally::planted(u, !is_refused(judged::with_board(a, sound), b))
+    less.count = b.count.wrapping_sub(1);
+    let t = tally.planted(!is_refused(judged::with_board(a, more), b));
+    let u = t.planted(!is_refused(judged::with_board(a, less), b));
+    u.planted(!is_refused(judged::with_board(a, sound), b))
 }
 
 // A list on a damaged board. What it gave is not what is due on the sound one.
 fn tried_damaged(tally: Tally, b: Board, sound: Board, list: List, count: u32, due: Due) -> Tally {
     let a = lists::handed(b, list, 0, count);
-    let t = tally::checked(tally, DAMAGED, is_refused(a, b));
-    let u = tally::planted(t, !judged::is_right(a, due));
+    let t = tally.checked(DAMAGED, is_refused(a, b));
+    let u = t.planted(!judged::is_right(a, due));
     let v = planted_boards(planted_numbers(u, a, b), a, b, sound);
     if a.answer == INVALID_BOARD {
-        return tally::with(v, REFUSED, 1);
+        return v.with(REFUSED, 1);
     }
     v
 }
@@ -72,7 +71,7 @@ fn tried_damaged(tally: Tally, b: Board, sound: Board, list: List, count: u32, d
 fn tried_sound(tally: Tally, b: Board, list: List, count: u32, due: Due) -> Tally {
     let a = lists::handed(b, list, 0, count);
     let t = compared::compared(tally, a, due);
-    tally::planted(t, !is_refused(a, b))
+    t.planted(!is_refused(a, b))
 }
 
 // What is due on a sound board that was changed: by the same log where nobody may look at the change, and else by what
@@ -95,19 +94,17 @@ fn tried_changed(tally: Tally, d: Damaged, s: Session, list: List, count: u32, d
         return tried_damaged(tally, b, unchanged, list, count, due);
     }
     let own = due_on_changed(b, s, list, count);
-    let t = tally::with(tally, CHANGED, 1);
+    let t = tally.with(CHANGED, 1);
     tried_sound(t, b, list, count, own)
 }
 
 // The list on the board with each change.
 fn tried_changes(tally: Tally, s: Session, list: List, count: u32, due: Due, g: Random) -> Tally {
     let b = s.board;
-    let mut t = tally;
-    for kind in 0..changes::KINDS {
+    (0..changes::KINDS).fold(tally, |t, kind| {
         let d = changes::nth_change(b, kind, g);
-        t = tried_changed(t, d, s, list, count, due);
-    }
-    t
+        tried_changed(t, d, s, list, count, due)
+    })
 }
 
 // A list on the board as it is, and then with each change.
@@ -131,9 +128,9 @@ const SEVERAL: u32 = 12;
 
 // The empty list, a take-back, and several calls.
 fn tried_lists(tally: Tally, s: Session, seed: u32) -> Tally {
-    let g = random::seeded(seed);
+    let g = Random::seeded(seed);
     let several = making::some_list(s.log, STYLE, seed);
-    let t = tally::with(tally, BOARDS, 1);
+    let t = tally.with(BOARDS, 1);
     let u = tried(t, s, lists::take_backs(), 0, g);
     let v = tried(u, s, lists::take_backs(), 1, g);
     tried(v, s, several, SEVERAL, g)
@@ -146,7 +143,7 @@ fn with_history(start: Session, seed: u32, count: u32) -> Session {
     let mut s = start;
     let card = session::card_of(start);
     for k in 0..count {
-        let g = random::seeded(access::plus(seed, k));
+        let g = Random::seeded(seed.wrapping_add(k));
         let made = session::with_call(s, call::some_call(g, card, 4));
         s = made.session;
     }
@@ -155,22 +152,20 @@ fn with_history(start: Session, seed: u32, count: u32) -> Session {
 
 // A sound board of each size in turn, every fourth with no history.
 fn nth_session(k: u32) -> Session {
-    let card = sample::any_instance(random::seeded(k), k % SIZES + 2);
-    let seed = access::plus(making::nth_seed(k), PERIOD as u32);
+    let card = sample::any_instance(Random::seeded(k), k % SIZES + 2);
+    let seed = making::nth_seed(k).wrapping_add(PERIOD as u32);
     with_history(session::opened(card), seed, k % 4 * 25)
 }
 
 fn run(count: u32) -> Tally {
-    let mut t = tally::zero();
-    for k in 0..count {
-        t = tried_lists(t, nth_session(k), making::nth_seed(k));
-    }
-    t
+    (0..count).fold(
+        Tally::zero(),
+        |t, k| tried_lists(t, nth_session(k), making::nth_seed(k)),
+    )
 }
 
 pub fn all() {
-    tally::report(
-        run(31),
+    run(31).report(
         b"lists on sound boards\npresses applied\nof these take-backs\nof these groups\npresses refused\n\
         answer 0:\nanswer 9:\nanswer 10:\nanswer 11:\nanswer 12:\nanswer 13:\nanother answer:\n\
         boards\nlists on changed sound boards\n\

@@ -4,28 +4,31 @@ use crate::lists;
 use crate::lists::List;
 use board::Board;
 use harness::session::Session;
-use harness::{boards, calls, counts, histories};
-use reference::call::Call;
+use harness::{boards, calls, histories};
+use reference::call::{Call, Kind};
 use reference::log::Log;
 use reference::problem::Problem;
-use reference::{access, call, log};
 
-// The log after a part of a list, up to the first refused call: how many were accepted, and the refusal or 0.
+// The log after a part of a list, up to the first refused call: how many were accepted, and the refusal if there was
+// one.
 #[derive(Clone, Copy)]
 pub struct LogResult {
     pub applied: u32,
-    pub answer: u32,
+    pub ended: Result<(), u32>,
     pub log: Log,
 }
 
 fn with_call(r: LogResult, c: Call) -> LogResult {
-    let log = r.log;
-    let noted = log::note(log, c);
-    let after = noted.log;
-    LogResult {
-        applied: access::plus(r.applied, counts::one_if(noted.answer == 0)),
-        answer: noted.answer,
-        log: after,
+    match r.log.note(c) {
+        Ok(log) => LogResult {
+            applied: r.applied.wrapping_add(1),
+            ended: Ok(()),
+            log,
+        },
+        Err(answer) => LogResult {
+            ended: Err(answer),
+            ..r
+        },
     }
 }
 
@@ -33,12 +36,12 @@ fn with_call(r: LogResult, c: Call) -> LogResult {
 fn by_log(start: Log, list: List, from: u32, count: u32) -> LogResult {
     let mut r = LogResult {
         applied: 0,
-        answer: 0,
+        ended: Ok(()),
         log: start,
     };
     for k in 0..count {
-        r = with_call(r, lists::nth(list, access::plus(from, k)));
-        if r.answer != 0 {
+        r = with_call(r, lists::nth(list, from.wrapping_add(k)));
+        if r.ended.is_err() {
             return r;
         }
     }
@@ -46,7 +49,7 @@ fn by_log(start: Log, list: List, from: u32, count: u32) -> LogResult {
 }
 
 // The board after single calls, up to the first refused one, and the one before the last accepted one; how many were
-// accepted, how many of these were take-backs and groups, and the refusal or 0.
+// accepted, how many of these were take-backs and groups, and the refusal if there was one.
 #[derive(Clone, Copy)]
 pub struct Singles {
     pub board: Board,
@@ -54,7 +57,7 @@ pub struct Singles {
     pub applied: u32,
     pub take_backs: u32,
     pub groups: u32,
-    pub answer: u32,
+    pub ended: Result<(), u32>,
 }
 
 fn with_single(s: Singles, c: Call) -> Singles {
@@ -62,17 +65,20 @@ fn with_single(s: Singles, c: Call) -> Singles {
     let made = calls::made(before, c);
     let after = made.board;
     if made.answer != 0 {
-        let mut refused = s;
-        refused.answer = made.answer;
-        return refused;
+        return Singles {
+            ended: Err(made.answer),
+            ..s
+        };
     }
     Singles {
         board: after,
-        before: before,
-        applied: access::plus(s.applied, 1),
-        take_backs: access::plus(s.take_backs, counts::one_if(c.kind == call::TAKE_BACK)),
-        groups: access::plus(s.groups, counts::one_if(call::is_group(c.kind))),
-        answer: 0,
+        before,
+        applied: s.applied.wrapping_add(1),
+        take_backs: s
+            .take_backs
+            .wrapping_add(u32::from(c.kind == Kind::TakeBack)),
+        groups: s.groups.wrapping_add(u32::from(c.kind.is_group())),
+        ended: Ok(()),
     }
 }
 
@@ -84,11 +90,11 @@ fn singly(b: Board, list: List, from: u32, count: u32) -> Singles {
         applied: 0,
         take_backs: 0,
         groups: 0,
-        answer: 0,
+        ended: Ok(()),
     };
     for k in 0..count {
-        s = with_single(s, lists::nth(list, access::plus(from, k)));
-        if s.answer != 0 {
+        s = with_single(s, lists::nth(list, from.wrapping_add(k)));
+        if s.ended.is_err() {
             return s;
         }
     }
@@ -105,13 +111,11 @@ pub struct Due {
 
 pub fn due_for(s: Session, list: List, from: u32, count: u32) -> Due {
     let board = s.board;
-    let start = s.log;
-    let r = by_log(start, list, from, count);
-    let after = r.log;
+    let r = by_log(s.log, list, from, count);
     Due {
         singles: singly(board, list, from, count),
         by_log: r,
-        now: log::problem_now(after),
+        now: r.log.problem_now(),
     }
 }
 
@@ -120,7 +124,7 @@ pub fn due_for(s: Session, list: List, from: u32, count: u32) -> Due {
 pub fn due_on(b: Board, list: List, from: u32, count: u32) -> Due {
     let own = Session {
         board: b,
-        log: log::opened(boards::problem_of(b), histories::of_board(b)),
+        log: Log::opened(boards::problem_of(b), histories::of_board(b)),
     };
     due_for(own, list, from, count)
 }
@@ -136,13 +140,15 @@ pub fn with_single_board(due: Due, b: Board) -> Due {
 
 // Where the session has come to with the board that the planner gave.
 pub fn session_after(s: Session, due: Due, b: Board) -> Session {
-    let r = due.by_log;
-    let log = r.log;
-    Session { board: b, log: log }
+    Session {
+        board: b,
+        log: due.by_log.log,
+    }
 }
 
 // The place behind the calls that were accepted and the refused one, if there is one.
 pub fn place_behind(from: u32, due: Due) -> u32 {
     let r = due.by_log;
-    access::plus(access::plus(from, r.applied), counts::one_if(r.answer != 0))
+    from.wrapping_add(r.applied)
+        .wrapping_add(u32::from(r.ended.is_err()))
 }

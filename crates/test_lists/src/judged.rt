@@ -1,28 +1,19 @@
 // Whether what the planner gave for a list is what is due; and the same result with something else in it.
 use crate::dues::Due;
+use crate::lent::ListAnswered;
 use board::Board;
 use harness::boards;
-use planner::ListAnswered;
-use reference::refusals::HISTORY_FULL;
-use reference::{access, log};
+use reference::refusals::{HISTORY_FULL, number_of};
 
 // Whether as many presses were applied as the log accepts, with its answer, and the board has the marks, the budget and
 // the number of records that the log says.
 fn log_right(a: ListAnswered, due: Due) -> bool {
     let r = due.by_log;
     let b = a.board;
-    if a.applied != r.applied as usize {
-        return false;
-    }
-    if a.answer != r.answer {
-        return false;
-    }
-    let log = r.log;
-    if b.count != log::standing(log) as usize {
-        return false;
-    }
-    let now = due.now;
-    boards::equal_problems(now, boards::problem_of(b), false)
+    a.applied == r.applied as usize
+        && a.answer == number_of(r.ended)
+        && b.count == r.log.standing() as usize
+        && boards::alike_problems(&due.now, &boards::problem_of(b))
 }
 
 // Whether as many presses were applied as were accepted singly, with the same answer, and the board is the one that the
@@ -31,16 +22,10 @@ pub fn is_right(a: ListAnswered, due: Due) -> bool {
     let singles = due.singles;
     let single = singles.board;
     let b = a.board;
-    if a.applied != singles.applied as usize {
-        return false;
-    }
-    if a.answer != singles.answer {
-        return false;
-    }
-    if !boards::identical(single, b) {
-        return false;
-    }
-    log_right(a, due)
+    a.applied == singles.applied as usize
+        && a.answer == number_of(singles.ended)
+        && boards::identical(single, b)
+        && log_right(a, due)
 }
 
 // The result with other numbers: one press applied more, one less, the next answer, 0 for a refusal or 12 for 0.
@@ -49,9 +34,9 @@ pub const NUMBERS: u32 = 4;
 pub fn with_number(a: ListAnswered, kind: u32) -> ListAnswered {
     let mut w = a;
     match kind {
-        0 => w.applied = std::num::wrapping_add_usize(a.applied, 1),
-        1 => w.applied = std::num::wrapping_sub_usize(a.applied, 1),
-        2 => w.answer = access::plus(a.answer, 1),
+        0 => w.applied = a.applied.wrapping_add(1),
+        1 => w.applied = a.applied.wrapping_sub(1),
+        2 => w.answer = a.answer.wrapping_add(1),
         _ => w.answer = if a.answer == 0 { HISTORY_FULL } else { 0 },
     }
     w

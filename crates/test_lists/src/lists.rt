@@ -1,11 +1,10 @@
 // Lists of calls as the tests keep them, and a part of one handed over: put as presses into an array, whose front is
 // lent.
 use crate::lent;
-use crate::lent::LONGEST;
+use crate::lent::{LONGEST, ListAnswered};
 use board::Board;
-use planner::{Command, ListAnswered, Mark, Press, Vertex};
-use reference::call::Call;
-use reference::{access, call};
+use planner::{Command, Mark, Press, Vertex};
+use reference::call::{Call, Kind};
 
 // After so many calls a list begins anew. Enough for the 200 records and for as many take-backs.
 pub const PERIOD: usize = 400;
@@ -23,7 +22,7 @@ const NOWHERE: u32 = 4294967295;
 
 // Take-backs alone.
 pub fn take_backs() -> List {
-    let back = call::take_back();
+    let back = Call::take_back();
     List {
         calls: [back; PERIOD],
         other_at: NOWHERE,
@@ -35,9 +34,9 @@ pub fn take_backs() -> List {
 pub fn with_other(list: List, at: u32, other: Call) -> List {
     let calls = list.calls;
     List {
-        calls: calls,
+        calls,
         other_at: at,
-        other: other,
+        other,
     }
 }
 
@@ -45,33 +44,23 @@ pub fn nth(list: List, k: u32) -> Call {
     if k == list.other_at {
         return list.other;
     }
-    let at = (k % PERIOD as u32) as usize;
-    list.calls[at]
-}
-
-pub fn budget_call(budget: u32) -> Call {
-    Call {
-        kind: call::BUDGET,
-        first: budget,
-        second: 0,
-    }
+    list.calls[k as usize % PERIOD]
 }
 
 fn command_of(c: Call) -> Command {
-    let kind = c.kind;
     let first = c.first;
     let heads = c.second;
     let tail = Vertex(first);
     let head = Vertex(heads);
-    match kind {
-        call::PIN => Command::SetMark(Mark::Pinned, tail, head),
-        call::BAN => Command::SetMark(Mark::Banned, tail, head),
-        call::CLEAR => Command::SetMark(Mark::Free, tail, head),
-        call::BUDGET => Command::SetBudget(first),
-        call::PIN_GROUP => Command::SetMarks(Mark::Pinned, tail, heads),
-        call::BAN_GROUP => Command::SetMarks(Mark::Banned, tail, heads),
-        call::CLEAR_GROUP => Command::SetMarks(Mark::Free, tail, heads),
-        _ => Command::TakeBack,
+    match c.kind {
+        Kind::Pin => Command::SetMark(Mark::Pinned, tail, head),
+        Kind::Ban => Command::SetMark(Mark::Banned, tail, head),
+        Kind::Clear => Command::SetMark(Mark::Free, tail, head),
+        Kind::Budget => Command::SetBudget(first),
+        Kind::PinGroup => Command::SetMarks(Mark::Pinned, tail, heads),
+        Kind::BanGroup => Command::SetMarks(Mark::Banned, tail, heads),
+        Kind::ClearGroup => Command::SetMarks(Mark::Free, tail, heads),
+        Kind::TakeBack => Command::TakeBack,
     }
 }
 
@@ -83,12 +72,10 @@ fn press_of(c: Call) -> Press {
 
 // So many calls of a list from a place on, handed over. Behind them stand take-backs, which nobody may look at.
 pub fn handed(b: Board, list: List, from: u32, count: u32) -> ListAnswered {
-    let last = press_of(call::take_back());
+    let last = press_of(Call::take_back());
     let mut presses = [last; LONGEST];
-    for k in 0..count {
-        let c = nth(list, access::plus(from, k));
-        let at = (k % LONGEST as u32) as usize;
-        presses[at] = press_of(c);
+    for (place, k) in presses.iter_mut().zip(0..count) {
+        *place = press_of(nth(list, from.wrapping_add(k)));
     }
     lent::pressed(b, presses, count as usize)
 }

@@ -5,11 +5,12 @@ use crate::lists::{List, PERIOD};
 use crate::making::Style;
 use crate::{compared, dues, lists, making};
 use harness::session;
-use reference::call::Call;
-use reference::history::RECORDS;
+use reference::call::{Call, Kind};
+use reference::history::{History, RECORDS};
+use reference::log::Log;
 use reference::problem::Problem;
 use reference::tally::Tally;
-use reference::{call, families, history, log, sample, tally};
+use reference::{families, sample};
 
 // What is counted beside what every part counts.
 const WRITES: u32 = compared::OWN;
@@ -23,10 +24,8 @@ const MIDDLE: u32 = LENGTH / 2;
 // Budgets at the start of each period, and take-backs after them.
 fn budgets(presses: u32) -> List {
     let mut list = lists::take_backs();
-    for k in 0..PERIOD as u32 {
-        if k < presses {
-            list.calls[k as usize] = lists::budget_call(k * 7 + 1);
-        }
+    for (call, k) in list.calls.iter_mut().zip(0..presses) {
+        *call = Call::budget(k.wrapping_mul(7).wrapping_add(1));
     }
     list
 }
@@ -41,7 +40,7 @@ const STYLE: Style = Style {
 
 fn mixed(card: Problem) -> List {
     making::some_list(
-        log::opened(card, history::empty()),
+        Log::opened(card, History::empty()),
         STYLE,
         making::nth_seed(0),
     )
@@ -49,11 +48,7 @@ fn mixed(card: Problem) -> List {
 
 // A group press that names nothing.
 fn empty_group() -> Call {
-    Call {
-        kind: call::BAN_GROUP,
-        first: 0,
-        second: 0,
-    }
+    Call::new(Kind::BanGroup, 0, 0)
 }
 
 fn tried(tally: Tally, card: Problem, list: List) -> Tally {
@@ -75,7 +70,7 @@ fn run_small(tally: Tally, card: Problem) -> Tally {
     tried(
         u,
         card,
-        lists::with_other(filled, MIDDLE, call::take_back()),
+        lists::with_other(filled, MIDDLE, Call::take_back()),
     )
 }
 
@@ -86,11 +81,11 @@ fn run_large(tally: Tally, card: Problem) -> Tally {
 }
 
 pub fn all() {
-    tally::report(
-        run_large(
-            run_small(tally::zero(), sample::small_instance(5)),
-            families::nth_instance(9),
-        ),
+    run_large(
+        run_small(Tally::zero(), sample::small_instance(5)),
+        families::nth_instance(9),
+    )
+    .report(
         b"lists of 100000\npresses applied\nof these take-backs\nof these groups\npresses refused\n\
         answer 0:\nanswer 9:\nanswer 10:\nanswer 11:\nanswer 12:\nanswer 13:\nanother answer:\nwrites\n",
     );

@@ -4,17 +4,18 @@ use board::Board;
 use harness::calls::Shown;
 use harness::session::Session;
 use harness::{boards, calls, session};
+use reference::log::Log;
 use reference::problem::{BANNED, Problem};
 use reference::tally::Tally;
-use reference::{access, log, outcome, problem, tally, trees};
+use reference::{access, outcome, problem, trees};
 
 // The largest instance whose trees the reference lists.
 pub const LISTED: u32 = 6;
 
 // A session whose board and log do not go together.
 fn planted(tally: Tally, which: u32, wrong: Session) -> Tally {
-    let t = tally::with(tally, which, 1);
-    tally::planted(t, !session::look_right(wrong))
+    let t = tally.with(which, 1);
+    t.planted(!session::look_right(wrong))
 }
 
 // Another board with the same log.
@@ -25,7 +26,7 @@ fn planted_board(tally: Tally, which: u32, s: Session, b: Board) -> Tally {
 }
 
 fn kind_due(p: Problem) -> u32 {
-    let table = problem::costs(p);
+    let table = p.costs();
     outcome::kind(trees::list(&table, p.n, p.root), p.budget)
 }
 
@@ -33,7 +34,7 @@ fn kind_due(p: Problem) -> u32 {
 fn planted_log(tally: Tally, which: u32, s: Session) -> Tally {
     let mut wrong = s;
     let log = s.log;
-    wrong.log = log::opened(log.card, log.below);
+    wrong.log = Log::opened(log.card, log.below);
     let kind = kind_due(session::problem_now(s));
     if kind == kind_due(session::problem_now(wrong)) {
         return tally;
@@ -51,7 +52,7 @@ fn planted_budget(tally: Tally, which: u32, s: Session, shown: Shown) -> Tally {
         return tally;
     }
     match kind {
-        outcome::PLAN => b.budget = std::num::wrapping_sub_u32(total, 1),
+        outcome::PLAN => b.budget = total.wrapping_sub(1),
         outcome::OVER => b.budget = total,
         _ => return tally,
     }
@@ -61,13 +62,12 @@ fn planted_budget(tally: Tally, which: u32, s: Session, shown: Shown) -> Tally {
 // A ban that the log does not know: of an arc of the shown tree, which is not closed by the log.
 fn planted_mark(tally: Tally, which: u32, s: Session, shown: Shown) -> Tally {
     let mut b = s.board;
-    let parents = shown.parents;
     if b.n == 0 {
         return tally;
     }
-    let head = access::plus(b.root, 1) % b.n;
-    let tail = access::byte(&parents, head);
-    if !problem::is_arc(boards::problem_of(b), tail, head) {
+    let head = b.root.wrapping_add(1) % b.n;
+    let tail = access::byte(&shown.parents, head);
+    if !boards::problem_of(b).is_arc(tail, head) {
         return tally;
     }
     let at = problem::cell(tail, head);
@@ -82,7 +82,7 @@ pub fn looked(tally: Tally, which: u32, lacking: u32, s: Session) -> Tally {
         return tally;
     }
     let shown = calls::look(board);
-    let t = tally::checked(tally, which, session::look_right(s));
+    let t = tally.checked(which, session::look_right(s));
     let u = planted_budget(t, lacking, s, shown);
     let v = planted_mark(u, lacking, s, shown);
     planted_log(v, lacking, s)

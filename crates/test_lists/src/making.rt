@@ -1,11 +1,11 @@
 // Random lists of calls, made beside the log, so that it can be chosen how many of them are refused.
 use crate::lists;
 use crate::lists::{List, PERIOD};
+use reference::call;
 use reference::call::Call;
 use reference::history::RECORDS;
 use reference::log::Log;
 use reference::random::Random;
-use reference::{access, call, log, random};
 
 // A list takes a seed for each of its calls; so many more are there for what is done with it.
 const SEEDS: u32 = 1024;
@@ -27,30 +27,27 @@ pub struct Style {
 // A call that the log accepts where so many presses stand.
 fn some_accepted(count: u32, g: Random) -> Call {
     if count < RECORDS as u32 {
-        return lists::budget_call(random::below(g, 60));
+        return Call::budget(g.below(60));
     }
-    call::take_back()
+    Call::take_back()
 }
 
 // A call, which is replaced if the log refuses it and it is not kept.
 fn some_call(log: Log, g: Random, back: u32, kept: u32) -> Call {
     let c = call::some_call(g, log.card, back);
-    let noted = log::note(log, c);
-    if noted.answer == 0 {
+    if log.note(c).is_ok() {
         return c;
     }
     let h = call::drawn(g);
-    if random::below(h, 16) < kept {
+    if h.below(16) < kept {
         return c;
     }
-    some_accepted(log::standing(log), random::next(h))
+    some_accepted(log.standing(), h.next())
 }
 
 fn nth_call(log: Log, g: Random, style: Style, k: u32) -> Call {
-    if style.wound_up {
-        if PERIOD as u32 <= access::plus(log::standing(log), k) {
-            return call::take_back();
-        }
+    if style.wound_up && PERIOD as u32 <= log.standing().wrapping_add(k) {
+        return Call::take_back();
     }
     if k < style.presses {
         return some_call(log, g, 0, 0);
@@ -63,10 +60,9 @@ pub fn some_list(start: Log, style: Style, seed: u32) -> List {
     let mut list = lists::take_backs();
     let mut log = start;
     for k in 0..PERIOD as u32 {
-        let g = random::seeded(access::plus(seed, k));
+        let g = Random::seeded(seed.wrapping_add(k));
         let c = nth_call(log, g, style, k);
-        let noted = log::note(log, c);
-        log = noted.log;
+        log = log.note(c).unwrap_or(log);
         list.calls[k as usize] = c;
     }
     list

@@ -4,12 +4,12 @@ use crate::lists::{List, PERIOD};
 use crate::looks::LISTED;
 use crate::making::Style;
 use crate::{compared, dues, lists, looks, making};
+use harness::session;
 use harness::session::Session;
-use harness::{counts, session};
 use reference::problem::{MAX_VERTICES, Problem};
 use reference::random::Random;
 use reference::tally::Tally;
-use reference::{access, history_sample, log, random, sample, tally};
+use reference::{history_sample, sample};
 
 // What is counted beside what every part counts.
 const SESSIONS: u32 = compared::OWN;
@@ -49,40 +49,34 @@ struct Progress {
 
 // How long the next piece is where so much is left: nothing, all, a few or some.
 fn piece_length(g: Random, left: u32) -> u32 {
-    let some = random::next(g);
-    let length = match random::below(g, 16) {
+    let some = g.next();
+    let length = match g.below(16) {
         0 => 0,
         1 => left,
-        2 | 3 | 4 | 5 => access::plus(random::below(some, 4), 1),
-        _ => access::plus(random::below(some, 100), 1),
+        2 | 3 | 4 | 5 => some.below(4).wrapping_add(1),
+        _ => some.below(100).wrapping_add(1),
     };
     if left < length { left } else { length }
 }
 
 // The first piece of some lists is the whole of it.
 fn next_length(k: u32, g: Random, at: u32) -> u32 {
-    let left = std::num::wrapping_sub_u32(LENGTH, at);
-    if at == 0 {
-        if k % 7 < 3 {
-            return left;
-        }
+    let left = LENGTH.wrapping_sub(at);
+    if at == 0 && k % 7 < 3 {
+        return left;
     }
     piece_length(g, left)
 }
 
 // Counts the pieces that are empty, those that are all of a list, and those of them that were applied.
-fn counted(tally: Tally, count: u32, answer: u32) -> Tally {
+fn counted(tally: Tally, count: u32, is_applied: bool) -> Tally {
     if count == 0 {
-        return tally::with(tally, EMPTY, 1);
+        return tally.with(EMPTY, 1);
     }
     if count != LENGTH {
         return tally;
     }
-    let t = tally::with(tally, WHOLE, 1);
-    if answer == 0 {
-        return tally::with(t, APPLIED, 1);
-    }
-    t
+    tally.with(WHOLE, 1).with(APPLIED, u32::from(is_applied))
 }
 
 fn with_piece(p: Progress, list: List, count: u32) -> Progress {
@@ -90,8 +84,7 @@ fn with_piece(p: Progress, list: List, count: u32) -> Progress {
     let b = s.board;
     let due = dues::due_for(s, list, p.at, count);
     let a = lists::handed(b, list, p.at, count);
-    let r = due.by_log;
-    let t = counted(p.tally, count, r.answer);
+    let t = counted(p.tally, count, due.by_log.ended.is_ok());
     let after = a.board;
     Progress {
         session: dues::session_after(s, due, after),
@@ -105,7 +98,7 @@ fn in_pieces(start: Progress, list: List, k: u32) -> Progress {
     let mut p = start;
     for step in 0..PIECES {
         if p.at < LENGTH {
-            let g = random::seeded(access::plus(making::nth_seed(k), LENGTH + step));
+            let g = Random::seeded(making::nth_seed(k).wrapping_add(LENGTH + step));
             p = with_piece(p, list, next_length(k, g, p.at));
         }
     }
@@ -116,7 +109,7 @@ fn in_pieces(start: Progress, list: List, k: u32) -> Progress {
 fn nth_card(k: u32) -> Problem {
     if k % 4 == 3 {
         let size = k / 4 % 32 * 5 % (MAX_VERTICES - LISTED);
-        return sample::any_instance(random::seeded(k), size + LISTED + 1);
+        return sample::any_instance(Random::seeded(k), size + LISTED + 1);
     }
     sample::small_instance(k)
 }
@@ -162,7 +155,7 @@ fn nth_session(k: u32) -> Session {
     if k < PLAIN {
         return session::opened(card);
     }
-    let count = history_sample::nth_count(k / 4, random::seeded(k));
+    let count = history_sample::nth_count(k / 4, Random::seeded(k));
     session::opened_with(
         card,
         history_sample::some_history(card, count, k % 4096 * 256),
@@ -174,30 +167,21 @@ fn one_session(tally: Tally, k: u32) -> Tally {
     let list = making::some_list(s.log, nth_style(k), making::nth_seed(k));
     let start = Progress {
         session: s,
-        tally: tally::with(
-            tally::with(tally, SESSIONS, 1),
-            RECORDS,
-            log::standing(s.log),
-        ),
+        tally: tally.with(SESSIONS, 1).with(RECORDS, s.log.standing()),
         at: 0,
     };
     let end = in_pieces(start, list, k);
-    let t = tally::with(end.tally, ENDED, counts::one_if(end.at == LENGTH));
+    let t = end.tally.with(ENDED, u32::from(end.at == LENGTH));
     let u = compared::written(t, WRITES, end.session);
     looks::looked(u, LOOKS, LACKING, end.session)
 }
 
 fn run(count: u32) -> Tally {
-    let mut t = tally::zero();
-    for k in 0..count {
-        t = one_session(t, k);
-    }
-    t
+    (0..count).fold(Tally::zero(), |t, k| one_session(t, k))
 }
 
 pub fn all() {
-    tally::report(
-        run(PLAIN + RECORDED),
+    run(PLAIN + RECORDED).report(
         b"pieces\npresses applied\nof these take-backs\nof these groups\npresses refused\n\
         answer 0:\nanswer 9:\nanswer 10:\nanswer 11:\nanswer 12:\nanswer 13:\nanother answer:\n\
         lists\nof these handed over to the end\nempty pieces\nwhole lists\nof these applied\nlooks\n\

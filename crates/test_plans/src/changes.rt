@@ -6,30 +6,20 @@ use reference::refusals::{
     BAD_CUT, BUFFER_SHORT, NOT_A_TREE, OVERCHARGED, WRONG_AMOUNTS, WRONG_TOTAL,
 };
 use reference::shown::{NO_PARENT, PAIRS};
-use reference::{access, certificate, random, shown};
+use reference::{access, shown};
 
-// The plan, its number, and whether there was something to change.
+// The plan, and its number; where there is nothing to change there is none.
 #[derive(Clone, Copy)]
 pub struct Change {
     pub certificate: Certificate,
     pub answer: u32,
-    pub applies: bool,
 }
 
-fn changed(o: Certificate, answer: u32) -> Change {
-    Change {
-        certificate: o,
-        answer: answer,
-        applies: true,
-    }
-}
-
-fn unchanged(o: Certificate) -> Change {
-    Change {
-        certificate: o,
-        answer: 0,
-        applies: false,
-    }
+fn changed(certificate: Certificate, answer: u32) -> Option<Change> {
+    Some(Change {
+        certificate,
+        answer,
+    })
 }
 
 // A vertex other than the root, where there are two.
@@ -37,65 +27,55 @@ fn some_vertex(n: u32, root: u32, g: Random) -> u32 {
     if n < 2 {
         return root;
     }
-    access::plus(access::plus(root, 1), random::below(g, n - 1)) % n
+    root.wrapping_add(1).wrapping_add(g.below(n - 1)) % n
 }
 
 // Too little sent, for the plan or for a count that was changed: 14.
-fn too_short(o: Certificate, n: u32, which: u32) -> Change {
+fn too_short(o: Certificate, n: u32, which: u32) -> Option<Change> {
     let mut c = o;
     match which {
-        0 => c.parents_sent = std::num::wrapping_sub_u32(n, 1),
-        1 => c.words_sent = std::num::wrapping_sub_u32(access::plus(o.count, o.count), 1),
+        0 => c.parents_sent = n.wrapping_sub(1),
+        1 => c.words_sent = o.count.wrapping_add(o.count).wrapping_sub(1),
         2 => c.count = 2147483648,
         _ => c.count = 4000000000,
     }
     if which == 1 && o.count == 0 {
-        return unchanged(o);
+        return None;
     }
     changed(c, BUFFER_SHORT)
 }
 
 // A list that is no tree: 21. At the root, or at another vertex: none, itself, a position that is not there, a ring.
-fn no_tree(o: Certificate, n: u32, root: u32, which: u32, g: Random) -> Change {
+fn no_tree(o: Certificate, n: u32, root: u32, which: u32, g: Random) -> Option<Change> {
     if which == 0 {
         return changed(
-            certificate::with_parent(o, root, access::narrow(random::below(g, 255))),
+            o.with_parent(root, access::narrow(g.below(255))),
             NOT_A_TREE,
         );
     }
     let v = some_vertex(n, root, g);
     if v == root {
-        return unchanged(o);
+        return None;
     }
-    let parents = o.parents;
-    let parent = access::byte(&parents, v);
+    let parent = access::byte(&o.parents, v);
     if which == 4 && parent == root {
-        return unchanged(o);
+        return None;
     }
     match which {
-        1 => changed(certificate::with_parent(o, v, NO_PARENT as u8), NOT_A_TREE),
-        2 => changed(
-            certificate::with_parent(o, v, access::narrow(v)),
-            NOT_A_TREE,
-        ),
-        3 => changed(
-            certificate::with_parent(o, v, access::narrow(n)),
-            NOT_A_TREE,
-        ),
-        _ => changed(
-            certificate::with_parent(o, parent, access::narrow(v)),
-            NOT_A_TREE,
-        ),
+        1 => changed(o.with_parent(v, NO_PARENT), NOT_A_TREE),
+        2 => changed(o.with_parent(v, access::narrow(v)), NOT_A_TREE),
+        3 => changed(o.with_parent(v, access::narrow(n)), NOT_A_TREE),
+        _ => changed(o.with_parent(parent, access::narrow(v)), NOT_A_TREE),
     }
 }
 
 // A total that is not the tree's: 22.
-fn other_total(o: Certificate, which: u32) -> Change {
+fn other_total(o: Certificate, which: u32) -> Option<Change> {
     let mut c = o;
     match which {
-        0 => c.total = access::plus(o.total, 1),
-        1 => c.total = std::num::wrapping_sub_u32(o.total, 1),
-        _ => c.total = std::num::wrapping_sub_u32(0, access::plus(o.total, 1)),
+        0 => c.total = o.total.wrapping_add(1),
+        1 => c.total = o.total.wrapping_sub(1),
+        _ => c.total = 0u32.wrapping_sub(o.total.wrapping_add(1)),
     }
     changed(c, WRONG_TOTAL)
 }
@@ -105,16 +85,16 @@ fn filled(o: Certificate, set: u32, amount: u32, count: u32) -> Certificate {
     let mut c = o;
     for k in 0..count {
         if c.count < count {
-            c = certificate::with_pair(c, set, amount);
+            c = c.with_pair(set, amount);
         }
     }
     c
 }
 
 // A bad cut: 23. With one position every cut is one.
-fn bad_cut(o: Certificate, n: u32, root: u32, which: u32, g: Random) -> Change {
+fn bad_cut(o: Certificate, n: u32, root: u32, which: u32, g: Random) -> Option<Change> {
     if n < 2 {
-        return changed(certificate::with_pair(o, which, 0), BAD_CUT);
+        return changed(o.with_pair(which, 0), BAD_CUT);
     }
     if which == 0 {
         return changed(
@@ -123,135 +103,121 @@ fn bad_cut(o: Certificate, n: u32, root: u32, which: u32, g: Random) -> Change {
         );
     }
     if o.count == 0 {
-        return unchanged(o);
+        return None;
     }
-    let at = access::times(2, random::below(g, o.count));
-    let words = o.words;
-    let set = access::word(&words, at);
+    let at = g.below(o.count).wrapping_mul(2);
+    let set = access::word(&o.words, at);
     if which == 1 {
-        return changed(certificate::with_word(o, at, 0), BAD_CUT);
+        return changed(o.with_word(at, 0), BAD_CUT);
     }
     if which == 2 {
-        return changed(
-            certificate::with_word(o, at, set | shown::only(root)),
-            BAD_CUT,
-        );
+        return changed(o.with_word(at, set | shown::only(root)), BAD_CUT);
     }
     if n < MAX_VERTICES {
-        return changed(certificate::with_word(o, at, set | shown::only(n)), BAD_CUT);
+        return changed(o.with_word(at, set | shown::only(n)), BAD_CUT);
     }
-    unchanged(o)
+    None
 }
 
 // Amounts that charge too much: 24. One more on a cut, the largest, 61 pairs with the largest, two amounts that add to
 // nothing in 32 bits.
-fn too_dear(o: Certificate, which: u32, g: Random) -> Change {
+fn too_dear(o: Certificate, which: u32, g: Random) -> Option<Change> {
     if o.count == 0 {
-        return unchanged(o);
+        return None;
     }
-    let words = o.words;
-    let at = access::times(2, random::below(g, o.count));
-    let value = access::plus(at, 1);
-    let set = access::word(&words, at);
-    let amount = access::word(&words, value);
+    let at = g.below(o.count).wrapping_mul(2);
+    let value = at.wrapping_add(1);
+    let set = access::word(&o.words, at);
+    let amount = access::word(&o.words, value);
     if which == 0 {
-        return changed(
-            certificate::with_word(o, value, access::plus(amount, 1)),
-            OVERCHARGED,
-        );
+        return changed(o.with_word(value, amount.wrapping_add(1)), OVERCHARGED);
     }
     if which == 1 {
-        return changed(certificate::with_word(o, value, 4294967295), OVERCHARGED);
+        return changed(o.with_word(value, 4294967295), OVERCHARGED);
     }
     if which == 2 {
-        let least = certificate::with_word(o, value, 4294967295);
+        let least = o.with_word(value, 4294967295);
         return changed(filled(least, set, 4294967295, PAIRS), OVERCHARGED);
     }
-    if PAIRS < access::plus(o.count, 2) {
-        return unchanged(o);
+    if PAIRS < o.count.wrapping_add(2) {
+        return None;
     }
     changed(
-        certificate::with_pair(certificate::with_pair(o, set, 2147483648), set, 2147483648),
+        o.with_pair(set, 2147483648).with_pair(set, 2147483648),
         OVERCHARGED,
     )
 }
 
 // Amounts that add to less: 25. One less on a cut, the last cut left out.
-fn too_cheap(o: Certificate, which: u32, g: Random) -> Change {
+fn too_cheap(o: Certificate, which: u32, g: Random) -> Option<Change> {
     if o.count == 0 {
-        return unchanged(o);
+        return None;
     }
     let mut c = o;
-    let words = o.words;
-    let value = access::plus(access::times(2, random::below(g, o.count)), 1);
+    let value = g.below(o.count).wrapping_mul(2).wrapping_add(1);
     if which == 0 {
-        c = certificate::with_word(
-            c,
-            value,
-            std::num::wrapping_sub_u32(access::word(&words, value), 1),
-        );
+        c = c.with_word(value, access::word(&o.words, value).wrapping_sub(1));
     } else {
-        c.count = std::num::wrapping_sub_u32(c.count, 1);
+        c.count = c.count.wrapping_sub(1);
     }
     changed(c, WRONG_AMOUNTS)
 }
 
 // The first pair moved behind the others.
 fn moved(o: Certificate) -> Certificate {
-    let words = o.words;
-    let first = access::word(&words, 0);
-    let amount = access::word(&words, 1);
+    let first = access::word(&o.words, 0);
+    let amount = access::word(&o.words, 1);
     let mut c = o;
-    let last = std::num::wrapping_sub_u32(access::plus(o.count, o.count), 2);
+    let last = o.count.wrapping_add(o.count).wrapping_sub(2);
     for k in 0..last {
-        c = certificate::with_word(c, k, access::word(&words, access::plus(k, 2)));
+        c = c.with_word(k, access::word(&o.words, k.wrapping_add(2)));
     }
-    certificate::with_word(
-        certificate::with_word(c, last, first),
-        access::plus(last, 1),
-        amount,
-    )
+    c.with_word(last, first)
+        .with_word(last.wrapping_add(1), amount)
 }
 
 // What may be changed: one cut of amount 0 more, no more sent than is needed, a cut moved.
-fn harmless(o: Certificate, n: u32, root: u32, which: u32, g: Random) -> Change {
+fn harmless(o: Certificate, n: u32, root: u32, which: u32, g: Random) -> Option<Change> {
     let mut c = o;
     if which == 0 {
         if n < 2 || PAIRS <= o.count {
-            return unchanged(o);
+            return None;
         }
-        return changed(
-            certificate::with_pair(o, shown::only(some_vertex(n, root, g)), 0),
-            0,
-        );
+        return changed(o.with_pair(shown::only(some_vertex(n, root, g)), 0), 0);
     }
     if which == 1 {
         c.parents_sent = n;
-        c.words_sent = access::plus(o.count, o.count);
+        c.words_sent = o.count.wrapping_add(o.count);
         return changed(c, 0);
     }
     if o.count < 2 || PAIRS < o.count {
-        return unchanged(o);
+        return None;
     }
     changed(moved(o), 0)
 }
 
 // Another tree with its own total, which the cuts do not add to unless it is as cheap: one arc for another.
-fn other_tree(table: &[u32; CELLS], o: Certificate, n: u32, root: u32, g: Random) -> Change {
+fn other_tree(
+    table: &[u32; CELLS],
+    o: Certificate,
+    n: u32,
+    root: u32,
+    g: Random,
+) -> Option<Change> {
     let v = some_vertex(n, root, g);
     if v == root {
-        return unchanged(o);
+        return None;
     }
-    let mut c = certificate::with_parent(o, v, access::narrow(random::below(random::next(g), n)));
+    let mut c = o.with_parent(v, access::narrow(g.next().below(n)));
     let parents = c.parents;
     c.total = shown::tree_total(table, &parents, n, root);
     if c.total == o.total || c.total == ABSENT {
-        return unchanged(o);
+        return None;
     }
     if shown::tree_spans(&parents, n, root) {
         return changed(c, WRONG_AMOUNTS);
     }
-    unchanged(o)
+    None
 }
 
 // The changes in the order of their numbers.
@@ -264,7 +230,7 @@ pub fn nth_change(
     root: u32, // one of them
     kind: u32, // which change
     g: Random, // where to change
-) -> Change {
+) -> Option<Change> {
     if kind < 4 {
         return too_short(o, n, kind);
     }

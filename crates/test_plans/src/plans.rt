@@ -8,13 +8,10 @@ use reference::certificate::Certificate;
 use reference::problem::{ABSENT, BANNED, CELLS, MAX_BUDGET, Problem};
 use reference::random::Random;
 use reference::refusals::{
-    BAD_CUT, BUFFER_SHORT, NOT_A_TREE, OVERCHARGED, WRONG_AMOUNTS, WRONG_TOTAL,
+    BAD_CUT, BUFFER_SHORT, NOT_A_TREE, OVERCHARGED, WRONG_AMOUNTS, WRONG_TOTAL, number_of,
 };
 use reference::tally::Tally;
-use reference::{
-    access, certificate, dual, families, outcome, problem, random, sample, shown, tally, trees,
-    worked,
-};
+use reference::{access, certificate, dual, families, outcome, problem, sample, shown, trees};
 
 // What is counted beside the faults: the answers have a count each.
 const INSTANCES: u32 = 3;
@@ -57,29 +54,22 @@ struct Replies {
 fn both_replies(table: &[u32; CELLS], p: Problem, o: Certificate) -> Replies {
     Replies {
         planner: calls::check(boards::of_problem(p), o),
-        reference: certificate::answer(table, o, p.n, p.root),
+        reference: number_of(certificate::check(table, &o, p.n, p.root)),
     }
 }
 
 fn are_right(r: Replies, answer: u32) -> bool {
-    if r.reference != answer {
-        return false;
-    }
-    r.planner == answer
+    r.reference == answer && r.planner == answer
 }
 
 // One plan; and its replies with another answer in the planner's place, and in the reference's: both have to be
 // reported.
 fn tried(tally: Tally, table: &[u32; CELLS], p: Problem, o: Certificate, answer: u32) -> Tally {
     let r = both_replies(table, p, o);
-    let t = tally::checked(
-        tally,
-        access::plus(ANSWERS, place_of(answer)),
-        are_right(r, answer),
-    );
+    let t = tally.checked(ANSWERS.wrapping_add(place_of(answer)), are_right(r, answer));
     let mut wrong = r;
     wrong.reference = other_than(answer);
-    let u = tally::planted(t, !are_right(wrong, answer));
+    let u = t.planted(!are_right(wrong, answer));
     with_wrong_answer(u, r, answer)
 }
 
@@ -91,15 +81,14 @@ fn other_than(answer: u32) -> u32 {
 fn with_wrong_answer(tally: Tally, r: Replies, answer: u32) -> Tally {
     let mut wrong = r;
     wrong.planner = other_than(answer);
-    tally::planted(tally, !are_right(wrong, answer))
+    tally.planted(!are_right(wrong, answer))
 }
 
 // A plan whose answer the reference knows.
 fn tried_by_reference(tally: Tally, table: &[u32; CELLS], p: Problem, o: Certificate) -> Tally {
     let r = both_replies(table, p, o);
-    let t = tally::checked(
-        tally,
-        access::plus(ANSWERS, place_of(r.reference)),
+    let t = tally.checked(
+        ANSWERS.wrapping_add(place_of(r.reference)),
         are_right(r, r.reference),
     );
     with_wrong_answer(t, r, r.reference)
@@ -107,12 +96,8 @@ fn tried_by_reference(tally: Tally, table: &[u32; CELLS], p: Problem, o: Certifi
 
 // A plan with one change, counted by its kind.
 fn tried_change(tally: Tally, table: &[u32; CELLS], p: Problem, c: Change, kind: u32) -> Tally {
-    let o = c.certificate;
-    if !c.applies {
-        return tally;
-    }
-    let t = tally::with(tally, access::plus(CHANGES, kind), 1);
-    tried(t, table, p, o, c.answer)
+    let t = tally.with(CHANGES.wrapping_add(kind), 1);
+    tried(t, table, p, c.certificate, c.answer)
 }
 
 // Every change by itself; and after each another one, whose answer the reference knows.
@@ -126,19 +111,17 @@ fn tried_changes(
     let mut t = tally;
     let mut g = seed;
     for kind in 0..changes::KINDS {
-        let c = changes::nth_change(table, o, p.n, p.root, kind, g);
-        t = tried_change(t, table, p, c, kind);
-        g = random::next(random::next(g));
-        let first = c.certificate;
-        let d = changes::nth_change(
-            table,
+        let change = changes::nth_change(table, o, p.n, p.root, kind, g);
+        if let Some(c) = change {
+            t = tried_change(t, table, p, c, kind);
+        }
+        g = g.next().next();
+        let first = change.map_or(o, |c| c.certificate);
+        let other = g.below(changes::KINDS);
+        let both = changes::nth_change(table, first, p.n, p.root, other, g).map_or(
             first,
-            p.n,
-            p.root,
-            random::below(g, changes::KINDS),
-            g,
+            |d| d.certificate,
         );
-        let both = d.certificate;
         t = tried_by_reference(t, table, p, both);
     }
     t
@@ -149,16 +132,9 @@ fn tried_banned(tally: Tally, p: Problem, o: Certificate, vertex: u32) -> Tally 
     if vertex == p.root {
         return tally;
     }
-    let parents = o.parents;
-    let q = worked::with_mark(p, access::byte(&parents, vertex), vertex, BANNED);
-    let table = problem::costs(q);
-    tried(
-        tally::with(tally, BANNED_LINKS, 1),
-        &table,
-        q,
-        o,
-        NOT_A_TREE,
-    )
+    let q = p.with_mark(access::byte(&o.parents, vertex), vertex, BANNED);
+    let table = q.costs();
+    tried(tally.with(BANNED_LINKS, 1), &table, q, o, NOT_A_TREE)
 }
 
 // The board with the price of a link outside the tree one below what the cuts charge it: 24.
@@ -170,32 +146,24 @@ fn tried_lowered(
     tail: u32,
     head: u32,
 ) -> Tally {
-    let parents = o.parents;
-    let words = o.words;
-    let charge = shown::charge(&words, o.count, tail, head);
+    let charge = shown::charge(&o.words, o.count, tail, head);
     if table[problem::cell(tail, head)] == ABSENT || charge == 0 {
         return tally;
     }
-    if access::byte(&parents, head) == tail {
+    if access::byte(&o.parents, head) == tail {
         return tally;
     }
-    let lower = std::num::wrapping_sub_u32((charge % 4294967296) as u32, 1);
-    let q = worked::with_weight(p, tail, head, lower);
-    let costs = problem::costs(q);
-    tried(
-        tally::with(tally, LOWERED_PRICES, 1),
-        &costs,
-        q,
-        o,
-        OVERCHARGED,
-    )
+    let lower = ((charge % 4294967296) as u32).wrapping_sub(1);
+    let q = p.with_weight(tail, head, lower);
+    let costs = q.costs();
+    tried(tally.with(LOWERED_PRICES, 1), &costs, q, o, OVERCHARGED)
 }
 
 // What a look gave, as a plan that is sent.
 fn own_plan(s: Shown) -> Certificate {
+    let mut o = Certificate::empty();
     let parents = s.parents;
     let words = s.cuts;
-    let mut o = certificate::empty();
     o.parents = parents;
     o.total = s.total;
     o.count = s.pairs;
@@ -217,28 +185,28 @@ fn kind_at(total: u32, budget: u32) -> u32 {
 // "All that our own planner gives as plan or over must be accepted."; what it shows where there is no tree is none. The
 // total is that of the reference's planner.
 fn tried_own(tally: Tally, table: &[u32; CELLS], p: Problem, total: u32, budget: u32) -> Tally {
-    let q = worked::with_budget(p, budget);
+    let q = p.with_budget(budget);
     let s = calls::look(boards::of_problem(q));
     let kind = kind_at(total, budget);
-    let t = tally::checked(tally, OWN_PLANS, s.kind == kind);
+    let t = tally.checked(OWN_PLANS, s.kind == kind);
     let answer = if kind == outcome::NONE { NOT_A_TREE } else { 0 };
     tried(t, table, q, own_plan(s), answer)
 }
 
 // The plan of the reference's planner, with the budgets at both ends: "the budget is not judged".
 fn tried_made(tally: Tally, table: &[u32; CELLS], p: Problem, o: Certificate, g: Random) -> Tally {
-    let t = tally::with(tally, MADE, 1);
-    let u = tried(t, table, worked::with_budget(p, 0), o, 0);
-    let v = tried(u, table, worked::with_budget(p, MAX_BUDGET), o, 0);
+    let t = tally.with(MADE, 1);
+    let u = tried(t, table, p.with_budget(0), o, 0);
+    let v = tried(u, table, p.with_budget(MAX_BUDGET), o, 0);
     let w = tried_changes(v, table, p, o, g);
-    let h = random::next(g);
-    let x = tried_banned(w, p, o, random::below(g, p.n));
-    tried_lowered(x, table, p, o, random::below(g, p.n), random::below(h, p.n))
+    let h = g.next();
+    let x = tried_banned(w, p, o, g.below(p.n));
+    tried_lowered(x, table, p, o, g.below(p.n), h.below(p.n))
 }
 
 // Every plan for an instance: our own, and the one that the reference's planner made.
 fn tried_all(tally: Tally, table: &[u32; CELLS], p: Problem, o: Certificate, g: Random) -> Tally {
-    let t = tried_own(tally::with(tally, INSTANCES, 1), table, p, o.total, 0);
+    let t = tried_own(tally.with(INSTANCES, 1), table, p, o.total, 0);
     if o.total == ABSENT {
         return tried(t, table, p, o, NOT_A_TREE);
     }
@@ -249,41 +217,32 @@ fn tried_all(tally: Tally, table: &[u32; CELLS], p: Problem, o: Certificate, g: 
 // A small instance: the reference's planner has found the cheapest total of the listing.
 fn tried_small(tally: Tally, k: u32) -> Tally {
     let p = sample::small_instance(k);
-    let table = problem::costs(p);
+    let table = p.costs();
     let list = trees::list(&table, p.n, p.root);
     let o = dual::plan(&table, p.n, p.root);
-    let t = tally::checked(tally, LISTED, o.total == list.cheapest);
-    let u = tally::planted(t, access::plus(o.total, 1) != list.cheapest);
-    tried_all(u, &table, p, o, random::seeded(k))
+    let t = tally.checked(LISTED, o.total == list.cheapest);
+    let u = t.planted(o.total.wrapping_add(1) != list.cheapest);
+    tried_all(u, &table, p, o, Random::seeded(k))
 }
 
 fn run_small(count: u32) -> Tally {
-    let mut t = tally::zero();
-    for k in 0..count {
-        t = tried_small(t, k);
-    }
-    t
+    (0..count).fold(Tally::zero(), |t, k| tried_small(t, k))
 }
 
 fn tried_large(tally: Tally, k: u32) -> Tally {
     let p = families::nth_instance(k);
-    let table = problem::costs(p);
+    let table = p.costs();
     let o = dual::plan(&table, p.n, p.root);
-    tried_all(tally, &table, p, o, random::seeded(k))
+    tried_all(tally, &table, p, o, Random::seeded(k))
 }
 
 fn run_large(count: u32) -> Tally {
-    let mut t = tally::zero();
-    for k in 0..count {
-        t = tried_large(t, k);
-    }
-    t
+    (0..count).fold(Tally::zero(), |t, k| tried_large(t, k))
 }
 
 // What there was, the answers, the changes in their order.
 fn report(tally: Tally) {
-    tally::report(
-        tally,
+    tally.report(
         b"instances\nplans made elsewhere\nown plans\nboards with a link banned\nboards with a price lowered\ntotals held to the listing\nanswer 0:\nanswer 14:\nanswer 21:\nanswer 22:\nanswer 23:\nanswer 24:\nanswer 25:\nother answers\nlists a byte short\npairs a word short\ncounts of 2147483648:\ncounts of 4000000000:\na feeder at the root\nno feeder\nits own feeder\nno position\na ring\ntotal one more\ntotal one less\nanother total\n62 cuts:\nthe empty set\nthe root in a set\nno position in a set\namount one more\nthe largest amount\n61 of the largest amount:\namounts that wrap\namount one less\na cut left out\na cut of amount 0:\nno more than needed\na cut moved\none link for another\n",
     );
 }

@@ -1,12 +1,22 @@
 // The documents' own cases, and texts that are easily read wrong: each with the answer and the line that document 02
 // gives it, and the whole buffer.
 use crate::buffers::{BYTES, WORDS};
+use crate::readings::Reading;
+use crate::writings::Writing;
 use crate::{buffers, counts, readings, writings};
 use reference::tally::Tally;
+use reference_prices::numerals;
 use reference_prices::refusals::NO_ARC;
-use reference_prices::{numerals, places};
 
-// A list that is refused, by the reference and by the product.
+// A text, by the reference and by the product.
+fn read(tally: Tally, text: &[u8], n: u32, root: u32, room: usize, expected: Reading) -> Tally {
+    let r = readings::by_reference(text, n, root, room);
+    let g = readings::by_product(text, n, root, room);
+    let t = readings::tried(tally, counts::DOCUMENTS, r, expected, n);
+    readings::tried(t, counts::DOCUMENTS, g, expected, n)
+}
+
+// A list that is refused.
 pub fn refused(
     tally: Tally,
     text: &[u8],
@@ -16,12 +26,14 @@ pub fn refused(
     answer: u32,
     line: usize,
 ) -> Tally {
-    let expected = readings::untouched(answer, line);
-    let which = counts::DOCUMENTS;
-    let r = readings::by_reference(text, n, root, room);
-    let t = readings::tried(tally, which, r, expected, n);
-    let g = readings::by_product(text, n, root, room);
-    readings::tried(t, which, g, expected, n)
+    read(
+        tally,
+        text,
+        n,
+        root,
+        room,
+        readings::untouched(answer, line),
+    )
 }
 
 // A text of four vertices with root 0 that is refused, after the answer in two digits and the line in one.
@@ -33,15 +45,7 @@ fn faulty(tally: Tally, case: &[u8]) -> Tally {
 
 // Such texts, with a semicolon behind each.
 fn all_faulty(tally: Tally, texts: &[u8]) -> Tally {
-    let mut t = tally;
-    let mut from = 0;
-    for at in 0..texts.len() {
-        if texts[at] == b';' {
-            t = faulty(t, buffers::part(texts, from, at));
-            from = places::next(at);
-        }
-    }
-    t
+    buffers::fold_parts(texts, tally, |t, case| faulty(t, case))
 }
 
 // One text in calls that each are refused, by rows of count, root, room, answer and line.
@@ -55,25 +59,12 @@ fn refused_call(tally: Tally, text: &[u8], row: &[u8]) -> Tally {
 }
 
 pub fn refused_calls(tally: Tally, text: &[u8], rows: &[u8]) -> Tally {
-    let mut t = tally;
-    let mut from = 0;
-    for at in 0..rows.len() {
-        if rows[at] == b';' {
-            t = refused_call(t, text, buffers::part(rows, from, at));
-            from = places::next(at);
-        }
-    }
-    t
+    buffers::fold_parts(rows, tally, |t, row| refused_call(t, text, row))
 }
 
 // A list that is accepted, with the prices that it says.
 fn accepted(tally: Tally, text: &[u8], n: u32, root: u32, room: usize, prices: &[u32]) -> Tally {
-    let expected = readings::accepted(prices);
-    let which = counts::DOCUMENTS;
-    let r = readings::by_reference(text, n, root, room);
-    let t = readings::tried(tally, which, r, expected, n);
-    let g = readings::by_product(text, n, root, room);
-    readings::tried(t, which, g, expected, n)
+    read(tally, text, n, root, room, readings::accepted(prices))
 }
 
 // "A line is feeder, space, fed, space, pence, line feed; decimal with no needless leading zero": what stands between
@@ -133,39 +124,35 @@ fn lawful(tally: Tally) -> Tally {
     accepted(t, b"31 30 99999\n9 10 9\n10 9 10\n", 32, 31, WORDS, &many)
 }
 
-// Prices written, by the reference and by the product.
-fn written(tally: Tally, prices: &[u32], n: u32, root: u32, text: &[u8], room: usize) -> Tally {
-    let expected = writings::accepted(text);
-    let which = counts::DOCUMENTS;
+// Prices, by the reference and by the product.
+fn write(tally: Tally, prices: &[u32], n: u32, root: u32, room: usize, expected: Writing) -> Tally {
     let r = writings::by_reference(prices, n, root, room);
-    let t = writings::tried(tally, which, r, expected);
     let g = writings::by_product(prices, n, root, room);
-    writings::tried(t, which, g, expected)
+    let t = writings::tried(tally, counts::DOCUMENTS, r, expected);
+    writings::tried(t, counts::DOCUMENTS, g, expected)
+}
+
+fn written(tally: Tally, prices: &[u32], n: u32, root: u32, text: &[u8], room: usize) -> Tally {
+    write(tally, prices, n, root, room, writings::accepted(text))
 }
 
 fn not_written(tally: Tally, prices: &[u32], row: &[u8]) -> Tally {
     let n = buffers::number(row, 0);
     let root = buffers::number(row, 1);
     let room = buffers::number(row, 2) as usize;
-    let expected = writings::untouched(buffers::number(row, 3));
-    let which = counts::DOCUMENTS;
-    let r = writings::by_reference(prices, n, root, room);
-    let t = writings::tried(tally, which, r, expected);
-    let g = writings::by_product(prices, n, root, room);
-    writings::tried(t, which, g, expected)
+    write(
+        tally,
+        prices,
+        n,
+        root,
+        room,
+        writings::untouched(buffers::number(row, 3)),
+    )
 }
 
 // Prices in calls that each are refused, by rows of count, root, room and answer.
 fn not_written_calls(tally: Tally, prices: &[u32], rows: &[u8]) -> Tally {
-    let mut t = tally;
-    let mut from = 0;
-    for at in 0..rows.len() {
-        if rows[at] == b';' {
-            t = not_written(t, prices, buffers::part(rows, from, at));
-            from = places::next(at);
-        }
-    }
-    t
+    buffers::fold_parts(rows, tally, |t, row| not_written(t, prices, row))
 }
 
 // Sheet Q, with anything in the cells that can never be a link; no link at all.

@@ -2,10 +2,10 @@
 use crate::buffers::WORDS;
 use crate::making::Text;
 use crate::readings::Reading;
-use crate::{buffers, counts, damage, making, readings};
+use crate::{counts, damage, making, readings};
+use reference::access;
 use reference::random::Random;
 use reference::tally::Tally;
-use reference::{access, random, tally};
 use reference_prices::places;
 
 // The words that the prices need, one more, all, or one less.
@@ -15,19 +15,19 @@ fn nth_room(k: u32, n: u32) -> usize {
         0 => cells,
         1 => places::next(cells),
         2 => WORDS,
-        _ => std::num::wrapping_sub_usize(cells, 1),
+        _ => cells.wrapping_sub(1),
     }
 }
 
 // A text read as the reference reads it: in every room, with one vertex more, one less, and another root.
 fn tried_text(tally: Tally, text: &[u8], n: u32, root: u32, g: Random) -> Tally {
-    let kind = random::below(g, 8);
-    let room = nth_room(random::below(random::next(g), 4), n);
+    let kind = g.below(8);
+    let room = nth_room(g.next().below(4), n);
     match kind {
         0 => readings::compared(tally, text, n, root, room),
-        1 => readings::compared(tally, text, access::plus(n, 1), root, WORDS),
-        2 => readings::compared(tally, text, std::num::wrapping_sub_u32(n, 1), root, WORDS),
-        3 => readings::compared(tally, text, n, random::below(g, access::plus(n, 1)), WORDS),
+        1 => readings::compared(tally, text, n.wrapping_add(1), root, WORDS),
+        2 => readings::compared(tally, text, n.wrapping_sub(1), root, WORDS),
+        3 => readings::compared(tally, text, n, g.below(n.wrapping_add(1)), WORDS),
         _ => readings::compared(tally, text, n, root, WORDS),
     }
 }
@@ -38,23 +38,22 @@ fn nth_damage(text: Text, g: Random, n: u32, way: u32) -> Text {
     if way < damage::KINDS {
         return d;
     }
-    let h = random::next(random::next(random::next(g)));
-    damage::damaged(d, h, n, random::below(h, damage::KINDS))
+    let h = g.next().next().next();
+    damage::damaged(d, h, n, h.below(damage::KINDS))
 }
 
 fn tried_damage(tally: Tally, text: Text, n: u32, root: u32, g: Random, way: u32) -> Tally {
     let d = nth_damage(text, g, n, way);
-    let all = d.bytes;
-    let t = tally::with(tally, counts::DAMAGED, 1);
-    let h = random::next(random::next(g));
-    tried_text(t, buffers::front(&all, d.length), n, root, h)
+    let t = tally.with(counts::DAMAGED, 1);
+    let h = g.next().next();
+    tried_text(t, d.as_slice(), n, root, h)
 }
 
 fn tried_damages(tally: Tally, text: Text, n: u32, root: u32, seed: Random) -> Tally {
     let mut t = tally;
     let mut g = seed;
     for way in 0..damage::WAYS {
-        g = random::next(g);
+        g = g.next();
         t = tried_damage(t, text, n, root, g, way);
     }
     t
@@ -72,7 +71,7 @@ fn tried_made(
     let expected = Reading {
         answer: 0,
         line: 0,
-        words: words,
+        words,
     };
     let g = readings::by_product(text, n, root, room);
     let t = readings::tried(tally, counts::MADE, g, expected, n);
@@ -82,9 +81,9 @@ fn tried_made(
 
 // A list in written order or in any other.
 pub fn tried_list(tally: Tally, k: u32, n: u32) -> Tally {
-    let g = random::seeded(k);
-    let root = random::below(g, n);
-    let h = random::next(random::next(g));
+    let g = Random::seeded(k);
+    let root = g.below(n);
+    let h = g.next().next();
     let prices = making::some_prices(h, n, root);
     let order = if k % 4 == 0 {
         making::in_order()
@@ -93,27 +92,18 @@ pub fn tried_list(tally: Tally, k: u32, n: u32) -> Tally {
     };
     let text = making::list(prices, n, root, order);
     let words = making::words_read(prices, n, root);
-    let all = text.bytes;
-    let bytes = buffers::front(&all, text.length);
+    let bytes = text.as_slice();
     let t = tried_made(tally, bytes, n, root, words, nth_room(k % 3, n));
-    let t = tried_text(t, bytes, n, root, random::next(h));
+    let t = tried_text(t, bytes, n, root, h.next());
     tried_damages(t, text, n, root, h)
 }
 
 // Lists of 1 to 8 vertices.
 pub fn small(tally: Tally, count: u32) -> Tally {
-    let mut t = tally;
-    for k in 0..count {
-        t = tried_list(t, k, k % 8 + 1);
-    }
-    t
+    (0..count).fold(tally, |t, k| tried_list(t, k, k % 8 + 1))
 }
 
 // Lists of 32 vertices.
 pub fn large(tally: Tally, count: u32) -> Tally {
-    let mut t = tally;
-    for k in 0..count {
-        t = tried_list(t, k, 32);
-    }
-    t
+    (0..count).fold(tally, |t, k| tried_list(t, k, 32))
 }

@@ -1,7 +1,8 @@
 // Long texts: 100,000 lines, and numbers of a million digits.
 use crate::buffers::WORDS;
 use crate::{buffers, cases, making};
-use reference::random;
+use reference::access;
+use reference::random::Random;
 use reference::tally::Tally;
 use reference_prices::places;
 use reference_prices::refusals::NO_ARC;
@@ -18,8 +19,8 @@ const LINES_ROOM: usize = 600000;
 // A line of six bytes, again and again, so that one of them begins at a place.
 fn repeat(out: &mut [u8], from: usize, line: &[u8]) {
     let shift = LINE - from % LINE;
-    for k in 0..out.len() {
-        places::put_byte(out, k, places::byte(line, places::plus(k, shift) % LINE));
+    for (place, k) in out.iter_mut().zip(shift..) {
+        *place = places::entry(line, k % LINE);
     }
 }
 
@@ -41,11 +42,10 @@ fn lines(tally: Tally) -> Tally {
 // And after all 961 lines that a list of 32 vertices can have.
 fn after_all(tally: Tally) -> Tally {
     let full = [NO_ARC - 1; WORDS];
-    let list = making::list(full, 32, 0, making::shuffled(random::seeded(7), 32));
-    let all = list.bytes;
+    let list = making::list(full, 32, 0, making::shuffled(Random::seeded(7), 32));
     let mut text = zeros();
     repeat(&mut text, list.length, b"0 1 5\n");
-    buffers::put_bytes(&mut text, 0, buffers::front(&all, list.length));
+    access::put(&mut text, 0, list.as_slice());
     cases::refused(tally, &text, 32, 0, WORDS, 20, 962)
 }
 
@@ -56,10 +56,10 @@ fn digits() -> [u8; DIGITS_ROOM] {
 // A million digits, with what stands before and behind them.
 fn number(tally: Tally, before: &[u8], after: &[u8], answer: u32, line: usize) -> Tally {
     let mut text = digits();
-    let end = places::plus(before.len(), DIGITS);
-    buffers::put_bytes(&mut text, 0, before);
-    buffers::put_bytes(&mut text, end, after);
-    let s = buffers::front(&text, places::plus(end, after.len()));
+    let end = before.len().wrapping_add(DIGITS);
+    access::put(&mut text, 0, before);
+    access::put(&mut text, end, after);
+    let s = access::front(&text, end.wrapping_add(after.len()));
     cases::refused(tally, s, 32, 31, WORDS, answer, line)
 }
 

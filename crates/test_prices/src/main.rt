@@ -13,21 +13,19 @@ mod prices; // prices.rt: random prices written, and round trips
 mod readings; // readings.rt: what a reading gave
 mod writings; // writings.rt: what a writing gave
 
-use reference::tally;
 use reference::tally::Tally;
 
 fn report(tally: Tally) {
-    tally::report(
-        tally,
+    tally.report(
         b"held to the documents\nheld to the prices of a list\nlists damaged\nread, answer 0:\nread, answer 2:\nread, answer 4:\nread, answer 14:\nread, answer 16:\nread, answer 17:\nread, answer 18:\nread, answer 19:\nread, answer 20:\nwritten, answer 0:\nwritten, answer 2:\nwritten, answer 4:\nwritten, answer 14:\nwritten, answer 19:\nwritten and read again\nread and written again\nanother answer of a reading\nanother line\nthe first price\nthe last price\nthe word after the prices\nthe last word\na refusal's first word\nanother answer of a writing\nanother length\nthe first byte of a text\nits last byte\nthe byte after it\nthe last byte of the buffer\n",
     );
 }
 
 fn main() {
-    let t = cases::all(tally::zero());
+    let t = cases::all(Tally::zero());
     let t = lists::small(t, 320);
     report(prices::small(t, 320));
-    let t = long::all(tally::zero());
+    let t = long::all(Tally::zero());
     let t = lists::large(t, 12);
     report(prices::large(t, 16));
 }

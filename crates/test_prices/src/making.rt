@@ -1,8 +1,8 @@
 // Random prices, and the lists of them: in written order and in any other.
 use crate::buffers;
 use crate::buffers::WORDS;
+use reference::access;
 use reference::random::Random;
-use reference::{access, random};
 use reference_prices::refusals::NO_ARC;
 use reference_prices::{places, write};
 
@@ -17,37 +17,37 @@ pub struct Text {
     pub length: usize,
 }
 
+impl Text {
+    pub fn as_slice(&self) -> &[u8] {
+        access::front(&self.bytes, self.length)
+    }
+}
+
 // Prices of every number of digits, the least and the greatest among them.
 fn some_weight(g: Random) -> u32 {
-    let h = random::next(g);
-    let kind = random::below(g, 9);
+    let h = g.next();
+    let kind = g.below(9);
     match kind {
         0 => 0,
         1 => NO_ARC - 1,
-        2 => random::below(h, 10),
-        3 => random::below(h, 12),
-        4 => random::below(h, 102),
-        5 => random::below(h, 1002),
-        6 => random::below(h, 100002),
-        _ => random::below(h, NO_ARC),
+        2 => h.below(10),
+        3 => h.below(12),
+        4 => h.below(102),
+        5 => h.below(1002),
+        6 => h.below(100002),
+        _ => h.below(NO_ARC),
     }
 }
 
 // The tail and the head of a cell.
 pub fn tail_of(n: u32, cell: usize) -> u32 {
     let k = (cell % WORDS) as u32;
-    if n == 0 {
-        return 0;
-    }
-    k / n
+    k.checked_div(n).unwrap_or(0)
 }
 
 pub fn head_of(n: u32, cell: usize) -> u32 {
     let k = (cell % WORDS) as u32;
-    if n == 0 {
-        return 0;
-    }
-    k % n
+    k.checked_rem(n).unwrap_or(0)
 }
 
 // Whether a cell is one of the prices and can be a link.
@@ -58,21 +58,21 @@ pub fn is_arc(n: u32, root: u32, cell: usize) -> bool {
 // What stands in a cell: as often no link as there are of eight, or else a price; anything where no link can be.
 fn some_word(g: Random, n: u32, root: u32, cell: usize, none: u32) -> u32 {
     if !is_arc(n, root, cell) {
-        return random::word(g);
+        return g.word();
     }
-    if random::below(g, 8) < none {
+    if g.below(8) < none {
         return NO_ARC;
     }
-    some_weight(random::next(g))
+    some_weight(g.next())
 }
 
 pub fn some_prices(seed: Random, n: u32, root: u32) -> [u32; WORDS] {
     let mut w = [0; WORDS];
     let mut g = seed;
-    let none = random::below(seed, 9);
-    for cell in 0..WORDS {
-        g = random::next(random::next(random::next(g)));
-        w[cell] = some_word(g, n, root, cell, none);
+    let none = seed.below(9);
+    for (word, cell) in w.iter_mut().zip(0usize..) {
+        g = g.next().next().next();
+        *word = some_word(g, n, root, cell, none);
     }
     w
 }
@@ -90,8 +90,8 @@ fn word_read(n: u32, root: u32, cell: usize, price: u32, before: u32) -> u32 {
 
 pub fn words_read(prices: [u32; WORDS], n: u32, root: u32) -> [u32; WORDS] {
     let mut w = buffers::words();
-    for cell in 0..WORDS {
-        w[cell] = word_read(n, root, cell, prices[cell], w[cell]);
+    for (word, cell) in w.iter_mut().zip(0usize..) {
+        *word = word_read(n, root, cell, places::entry(&prices, cell), *word);
     }
     w
 }
@@ -99,31 +99,28 @@ pub fn words_read(prices: [u32; WORDS], n: u32, root: u32) -> [u32; WORDS] {
 // The cells in order.
 pub fn in_order() -> [u32; CELLS] {
     let mut order = [0; CELLS];
-    for k in 0..CELLS {
-        order[k] = k as u32;
+    for (place, k) in order.iter_mut().zip(0u32..) {
+        *place = k;
     }
     order
-}
-
-fn swap(out: &mut [u32], a: usize, b: usize) {
-    let x = places::word(out, a);
-    let y = places::word(out, b);
-    places::put_word(out, a, y);
-    places::put_word(out, b, x);
 }
 
 fn shuffle(out: &mut [u32], seed: Random, count: u32) {
     let mut g = seed;
     for k in 0..count {
-        g = random::next(g);
-        swap(out, k as usize, random::below(g, count) as usize);
+        g = g.next();
+        let a = k as usize;
+        let b = g.below(count) as usize;
+        if a < out.len() && b < out.len() {
+            out.swap(a, b);
+        }
     }
 }
 
 // The cells of n vertices in any order, and then the others.
 pub fn shuffled(seed: Random, n: u32) -> [u32; CELLS] {
     let mut order = in_order();
-    shuffle(&mut order, seed, access::times(n % 64, n % 64));
+    shuffle(&mut order, seed, (n % 64).wrapping_mul(n % 64));
     order
 }
 
@@ -137,9 +134,9 @@ fn put_cell(out: &mut [u8], at: usize, n: u32, root: u32, cell: usize, price: u3
 
 fn put_cells(out: &mut [u8], prices: &[u32], n: u32, root: u32, order: &[u32]) -> usize {
     let mut at = 0;
-    for k in 0..places::cells(n) {
-        let cell = places::word(order, k) as usize;
-        at = put_cell(out, at, n, root, cell, places::word(prices, cell));
+    for &k in access::front(order, places::cells(n)) {
+        let cell = k as usize;
+        at = put_cell(out, at, n, root, cell, places::entry(prices, cell));
     }
     at
 }
@@ -148,8 +145,5 @@ fn put_cells(out: &mut [u8], prices: &[u32], n: u32, root: u32, order: &[u32]) -
 pub fn list(prices: [u32; WORDS], n: u32, root: u32, order: [u32; CELLS]) -> Text {
     let mut bytes = [0; ROOM];
     let length = put_cells(&mut bytes, &prices, n, root, &order);
-    Text {
-        bytes: bytes,
-        length: length,
-    }
+    Text { bytes, length }
 }

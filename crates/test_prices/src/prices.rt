@@ -1,28 +1,28 @@
 // Random prices written, into room of every kind of length; and the round trips.
 use crate::buffers::{BYTES, WORDS};
 use crate::readings::Reading;
-use crate::{buffers, counts, making, readings, writings};
+use crate::{counts, making, readings, writings};
+use reference::access;
 use reference::random::Random;
 use reference::tally::Tally;
-use reference::{access, random};
 use reference_prices::places;
 use reference_prices::refusals::NO_ARC;
 
 // "neither a price nor no link": the least such number, the greatest, and any other.
 fn some_bad_word(g: Random) -> u32 {
-    let kind = random::below(g, 3);
+    let kind = g.below(3);
     match kind {
         0 => NO_ARC + 1,
         1 => 4294967295,
-        _ => access::plus(random::below(random::next(g), 4000000000), NO_ARC + 1),
+        _ => g.next().below(4000000000).wrapping_add(NO_ARC + 1),
     }
 }
 
 // One cell out of range, which is passed over where no link can be.
 fn with_bad_word(prices: [u32; WORDS], g: Random, n: u32) -> [u32; WORDS] {
     let mut w = prices;
-    let at = random::below(g, access::times(n % 64, n % 64)) as usize;
-    places::put_word(&mut w, at, some_bad_word(random::next(g)));
+    let at = g.below((n % 64).wrapping_mul(n % 64)) as usize;
+    places::put(&mut w, at, some_bad_word(g.next()));
     w
 }
 
@@ -30,7 +30,7 @@ fn with_bad_word(prices: [u32; WORDS], g: Random, n: u32) -> [u32; WORDS] {
 fn nth_room(k: u32, length: usize) -> usize {
     match k {
         0 => 0,
-        1 => std::num::wrapping_sub_usize(length, 1),
+        1 => length.wrapping_sub(1),
         2 => length,
         3 => places::next(length),
         _ => BYTES,
@@ -40,46 +40,44 @@ fn nth_room(k: u32, length: usize) -> usize {
 // Every room, as the reference has it.
 fn tried_rooms(tally: Tally, words: &[u32], n: u32, root: u32) -> Tally {
     let full = writings::by_reference(words, n, root, BYTES);
-    let mut t = tally;
-    for k in 0u32..5 {
-        t = writings::compared(t, words, n, root, nth_room(k, full.length));
-    }
-    t
+    (0u32..5).fold(
+        tally,
+        |t, k| writings::compared(t, words, n, root, nth_room(k, full.length)),
+    )
 }
 
 // Every fourth time with a bad cell.
 fn nth_prices(k: u32, g: Random, n: u32, root: u32) -> [u32; WORDS] {
     let prices = making::some_prices(g, n, root);
     if k % 4 == 3 {
-        return with_bad_word(prices, random::next(g), n);
+        return with_bad_word(prices, g.next(), n);
     }
     prices
 }
 
 // Too few words, a bad root and a bad count, each with what would be refused after it; and one vertex more.
 fn tried_refusals(tally: Tally, prices: &[u32], n: u32, root: u32) -> Tally {
-    let few = buffers::front_words(prices, std::num::wrapping_sub_usize(places::cells(n), 1));
+    let few = access::front(prices, places::cells(n).wrapping_sub(1));
     let t = writings::compared(tally, few, n, root, 0);
-    let t = writings::compared(t, few, n, access::plus(root, n), BYTES);
-    let t = writings::compared(t, few, access::plus(n, 32), root, BYTES);
-    writings::compared(t, prices, access::plus(n, 1), root, BYTES)
+    let t = writings::compared(t, few, n, root.wrapping_add(n), BYTES);
+    let t = writings::compared(t, few, n.wrapping_add(32), root, BYTES);
+    writings::compared(t, prices, n.wrapping_add(1), root, BYTES)
 }
 
 fn tried_prices(tally: Tally, k: u32, n: u32) -> Tally {
-    let g = random::seeded(k);
-    let root = random::below(g, n);
-    let prices = nth_prices(k, random::next(g), n, root);
-    let all = buffers::front_words(&prices, WORDS);
+    let g = Random::seeded(k);
+    let root = g.below(n);
+    let prices = nth_prices(k, g.next(), n, root);
+    let all = access::front(&prices, WORDS);
     let words = if k % 2 == 0 { WORDS } else { places::cells(n) };
-    let t = tried_rooms(tally, buffers::front_words(all, words), n, root);
+    let t = tried_rooms(tally, access::front(all, words), n, root);
     tried_refusals(t, all, n, root)
 }
 
 // "A list written and read again yields the same prices where a link can be".
 fn written_read(tally: Tally, prices: [u32; WORDS], n: u32, root: u32) -> Tally {
     let w = writings::by_product(&prices, n, root, BYTES);
-    let all = w.bytes;
-    let text = buffers::front(&all, w.length);
+    let text = access::front(&w.bytes, w.length);
     let expected = Reading {
         answer: w.answer,
         line: 0,
@@ -92,18 +90,16 @@ fn written_read(tally: Tally, prices: [u32; WORDS], n: u32, root: u32) -> Tally 
 // "a list in written order is reproduced byte for byte".
 fn read_written(tally: Tally, prices: [u32; WORDS], n: u32, root: u32) -> Tally {
     let list = making::list(prices, n, root, making::in_order());
-    let all = list.bytes;
-    let text = buffers::front(&all, list.length);
+    let text = list.as_slice();
     let r = readings::by_product(text, n, root, WORDS);
-    let words = r.words;
-    let g = writings::by_product(&words, n, root, list.length);
+    let g = writings::by_product(&r.words, n, root, list.length);
     writings::tried(tally, counts::READ_WRITTEN, g, writings::accepted(text))
 }
 
 fn tried_trips(tally: Tally, k: u32, n: u32) -> Tally {
-    let g = random::seeded(access::plus(k, 1000000));
-    let root = random::below(g, n);
-    let prices = making::some_prices(random::next(g), n, root);
+    let g = Random::seeded(k.wrapping_add(1000000));
+    let root = g.below(n);
+    let prices = making::some_prices(g.next(), n, root);
     let t = written_read(tally, prices, n, root);
     read_written(t, prices, n, root)
 }

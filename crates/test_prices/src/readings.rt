@@ -3,12 +3,13 @@
 use crate::buffers::WORDS;
 use crate::{buffers, counts};
 use instance::Vertex;
+use reference::access;
 use reference::tally::Tally;
-use reference::{access, tally};
 use reference_prices::{places, read};
 
-// The answer, the faulty line or 0, and the buffer.
-#[derive(Clone, Copy)]
+// The answer, the faulty line or 0, and the buffer: all the numbers that the product gives, so that a line beside no
+// refusal is seen too.
+#[derive(Clone, Copy, PartialEq, Eq)]
 pub struct Reading {
     pub answer: u32,
     pub line: usize,
@@ -36,8 +37,8 @@ pub const KINDS: u32 = 7;
 
 pub fn untouched(answer: u32, line: usize) -> Reading {
     Reading {
-        answer: answer,
-        line: line,
+        answer,
+        line,
         words: buffers::words(),
     }
 }
@@ -45,54 +46,51 @@ pub fn untouched(answer: u32, line: usize) -> Reading {
 // An accepted list, with these words in front.
 pub fn accepted(prices: &[u32]) -> Reading {
     let mut words = buffers::words();
-    buffers::put_words(&mut words, prices);
+    access::put(&mut words, 0, prices);
     Reading {
         answer: 0,
         line: 0,
-        words: words,
+        words,
     }
 }
 
 pub fn by_product(text: &[u8], n: u32, root: u32, room: usize) -> Reading {
     let mut words = buffers::words();
-    let r = price_list::read_prices(
-        text,
-        n,
-        Vertex(root),
-        buffers::front_words_mut(&mut words, room),
-    );
-    Reading {
-        answer: r.answer,
-        line: r.line,
-        words: words,
+    let r = price_list::read_prices(text, n, Vertex(root), access::front_mut(&mut words, room));
+    match r {
+        Ok(()) => Reading {
+            answer: 0,
+            line: 0,
+            words: words,
+        },
+        Err(refused) => Reading {
+            answer: u32::from(refused.refusal),
+            line: refused.line.unwrap_or(0),
+            words: words,
+        },
     }
 }
 
 pub fn by_reference(text: &[u8], n: u32, root: u32, room: usize) -> Reading {
     let mut words = buffers::words();
-    let r = read::read(text, n, root, buffers::front_words_mut(&mut words, room));
-    Reading {
-        answer: r.answer,
-        line: r.line,
-        words: words,
+    match read::read(text, n, root, access::front_mut(&mut words, room)) {
+        Ok(()) => Reading {
+            answer: 0,
+            line: 0,
+            words,
+        },
+        Err(r) => Reading {
+            answer: r.answer,
+            line: r.line,
+            words,
+        },
     }
-}
-
-fn is_same(a: Reading, b: Reading) -> bool {
-    if a.answer != b.answer || a.line != b.line {
-        return false;
-    }
-    let x = a.words;
-    let y = b.words;
-    buffers::equal_words(&x, &y)
 }
 
 // Whether a reading can have a fault of that kind.
 fn applies(g: Reading, kind: u32) -> bool {
     match kind {
-        FIRST => g.answer == 0,
-        LAST => g.answer == 0,
-        AFTER => g.answer == 0,
+        FIRST | LAST | AFTER => g.answer == 0,
         TOUCHED => g.answer != 0,
         _ => true,
     }
@@ -101,28 +99,26 @@ fn applies(g: Reading, kind: u32) -> bool {
 fn with_fault(g: Reading, n: u32, kind: u32) -> Reading {
     let mut f = g;
     let after = places::cells(n % 64) % WORDS;
-    let last = std::num::wrapping_sub_usize(after, 1) % WORDS;
+    let last = after.wrapping_sub(1) % WORDS;
     match kind {
-        OTHER_ANSWER => f.answer = access::plus(g.answer, 1),
+        OTHER_ANSWER => f.answer = g.answer.wrapping_add(1),
         OTHER_LINE => f.line = places::next(g.line),
-        LAST => f.words[last] = f.words[last] ^ 1,
-        AFTER => f.words[after] = f.words[after] ^ 1048576,
-        END => f.words[WORDS - 1] = f.words[WORDS - 1] ^ 1,
-        _ => f.words[0] = f.words[0] ^ 524288,
+        LAST => f.words[last] ^= 1,
+        AFTER => f.words[after] ^= 1048576,
+        END => f.words[WORDS - 1] ^= 1,
+        _ => f.words[0] ^= 524288,
     }
     f
 }
 
 // A reading held to what it should be, and then with each kind of fault.
 pub fn tried(tally: Tally, which: u32, g: Reading, expected: Reading, n: u32) -> Tally {
-    let mut t = tally::checked(tally, which, is_same(g, expected));
-    for kind in 0..KINDS {
-        if applies(g, kind) {
-            t = tally::with(t, access::plus(counts::PLANTED_READ, kind), 1);
-            t = tally::planted(t, !is_same(with_fault(g, n, kind), expected));
-        }
-    }
-    t
+    tally.checked(which, g == expected).with_faults(
+        counts::PLANTED_READ,
+        KINDS,
+        |kind| applies(g, kind),
+        |kind| with_fault(g, n, kind) == expected,
+    )
 }
 
 // A text read by the product, as the reference reads it.

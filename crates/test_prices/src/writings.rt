@@ -3,12 +3,14 @@
 use crate::buffers::BYTES;
 use crate::{buffers, counts};
 use instance::Vertex;
+use reference::access;
+use reference::refusals::number_of;
 use reference::tally::Tally;
-use reference::{access, tally};
 use reference_prices::{places, write};
 
-// The answer, the length of the text or 0, and the buffer.
-#[derive(Clone, Copy)]
+// The answer, the length of the text or 0, and the buffer: all the numbers that the product gives, so that a length
+// beside a refusal is seen too.
+#[derive(Clone, Copy, PartialEq, Eq)]
 pub struct Writing {
     pub answer: u32,
     pub length: usize,
@@ -33,7 +35,7 @@ const KINDS: u32 = 6;
 
 pub fn untouched(answer: u32) -> Writing {
     Writing {
-        answer: answer,
+        answer,
         length: 0,
         bytes: buffers::bytes(),
     }
@@ -42,53 +44,45 @@ pub fn untouched(answer: u32) -> Writing {
 // An accepted writing, with this text in front.
 pub fn accepted(text: &[u8]) -> Writing {
     let mut bytes = buffers::bytes();
-    buffers::put_bytes(&mut bytes, 0, text);
+    access::put(&mut bytes, 0, text);
     Writing {
         answer: 0,
         length: text.len(),
-        bytes: bytes,
+        bytes,
     }
 }
 
 pub fn by_product(prices: &[u32], n: u32, root: u32, room: usize) -> Writing {
     let mut bytes = buffers::bytes();
-    let w = price_list::write_prices(
-        prices,
-        n,
-        Vertex(root),
-        buffers::front_mut(&mut bytes, room),
-    );
-    Writing {
-        answer: w.answer,
-        length: w.length,
-        bytes: bytes,
+    let w = price_list::write_prices(prices, n, Vertex(root), access::front_mut(&mut bytes, room));
+    match w {
+        Ok(length) => Writing {
+            answer: 0,
+            length: length,
+            bytes: bytes,
+        },
+        Err(refusal) => Writing {
+            answer: u32::from(refusal),
+            length: 0,
+            bytes: bytes,
+        },
     }
 }
 
 pub fn by_reference(prices: &[u32], n: u32, root: u32, room: usize) -> Writing {
     let mut bytes = buffers::bytes();
-    let w = write::write(prices, n, root, buffers::front_mut(&mut bytes, room));
+    let w = write::write(prices, n, root, access::front_mut(&mut bytes, room));
     Writing {
-        answer: w.answer,
-        length: w.length,
-        bytes: bytes,
+        answer: number_of(w),
+        length: w.unwrap_or(0),
+        bytes,
     }
-}
-
-fn is_same(a: Writing, b: Writing) -> bool {
-    if a.answer != b.answer || a.length != b.length {
-        return false;
-    }
-    let x = a.bytes;
-    let y = b.bytes;
-    buffers::equal_bytes(&x, &y)
 }
 
 // Whether a writing can have a fault of that kind.
 fn applies(g: Writing, kind: u32) -> bool {
     match kind {
-        FIRST => g.length != 0,
-        LAST => g.length != 0,
+        FIRST | LAST => g.length != 0,
         _ => true,
     }
 }
@@ -96,28 +90,26 @@ fn applies(g: Writing, kind: u32) -> bool {
 fn with_fault(g: Writing, kind: u32) -> Writing {
     let mut f = g;
     let after = g.length % BYTES;
-    let last = std::num::wrapping_sub_usize(g.length, 1) % BYTES;
+    let last = g.length.wrapping_sub(1) % BYTES;
     match kind {
-        OTHER_ANSWER => f.answer = access::plus(g.answer, 1),
+        OTHER_ANSWER => f.answer = g.answer.wrapping_add(1),
         OTHER_LENGTH => f.length = places::next(g.length),
-        FIRST => f.bytes[0] = f.bytes[0] ^ 1,
-        LAST => f.bytes[last] = f.bytes[last] ^ 1,
-        AFTER => f.bytes[after] = f.bytes[after] ^ 128,
-        _ => f.bytes[BYTES - 1] = f.bytes[BYTES - 1] ^ 1,
+        FIRST => f.bytes[0] ^= 1,
+        LAST => f.bytes[last] ^= 1,
+        AFTER => f.bytes[after] ^= 128,
+        _ => f.bytes[BYTES - 1] ^= 1,
     }
     f
 }
 
 // A writing held to what it should be, and then with each kind of fault.
 pub fn tried(tally: Tally, which: u32, g: Writing, expected: Writing) -> Tally {
-    let mut t = tally::checked(tally, which, is_same(g, expected));
-    for kind in 0..KINDS {
-        if applies(g, kind) {
-            t = tally::with(t, access::plus(counts::PLANTED_WRITTEN, kind), 1);
-            t = tally::planted(t, !is_same(with_fault(g, kind), expected));
-        }
-    }
-    t
+    tally.checked(which, g == expected).with_faults(
+        counts::PLANTED_WRITTEN,
+        KINDS,
+        |kind| applies(g, kind),
+        |kind| with_fault(g, kind) == expected,
+    )
 }
 
 // Prices written by the product, as the reference writes them.

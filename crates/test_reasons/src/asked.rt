@@ -3,14 +3,14 @@
 use crate::calls::{Given, Results};
 use crate::{calls, faults};
 use harness::calls::Shown;
-use harness::counts::one_if;
 use harness::session::Session;
 use reference::log::Log;
 use reference::problem::{ABSENT, CELLS, PINNED, Problem};
 use reference::random::Random;
 use reference::refusals::NO_VERTEX;
 use reference::tally::Tally;
-use reference::{access, outcome, problem, random, tally};
+use reference::{access, outcome};
+use reference_reasons::due::Reason;
 use reference_reasons::{due, restricted, setter};
 
 // The counts of the calls and of the states that were held to them.
@@ -57,36 +57,43 @@ fn count_of(answer: u32) -> u32 {
 
 // The state of an arc that a look shows.
 pub fn state_at(look: Shown, n: u32, tail: u32, head: u32) -> u32 {
-    let states = look.states;
-    access::byte(&states, access::plus(access::times(n, tail), head))
+    access::byte(&look.states, n.wrapping_mul(tail).wrapping_add(head))
 }
 
 // What was met, by who set the mark.
-fn counted_reason(tally: Tally, p: Problem, log: Log, tail: u32, head: u32, g: Given) -> Tally {
-    let who = setter::kind_at(log, g.place);
-    let is_pinned = problem::mark_of(p, tail, head) == PINNED;
-    if g.kind == due::BANNED {
-        return tally::with(tally, access::plus(BANNED_BY, who), 1);
+fn counted_reason(tally: Tally, p: Problem, log: &Log, tail: u32, head: u32, r: Reason) -> Tally {
+    let is_pinned = p.mark_of(tail, head) == PINNED;
+    match r {
+        Reason::Banned(place) => tally.with(
+            BANNED_BY.wrapping_add(setter::setter_at(log, place).number()),
+            1,
+        ),
+        Reason::Rival(_, place) => tally
+            .with(
+                RIVAL_BY.wrapping_add(setter::setter_at(log, place).number()),
+                1,
+            )
+            .with(TWO_PINS, u32::from(is_pinned))
+            .with(SEVERAL, u32::from(1 < due::rivals(&p, tail, head))),
+        Reason::Priced(outcome, _) => tally
+            .with(WITH_OUTCOMES.wrapping_add(outcome), 1)
+            .with(PINNED_OUT, u32::from(is_pinned)),
     }
-    if g.kind == due::RIVAL {
-        let t = tally::with(tally, access::plus(RIVAL_BY, who), 1);
-        let u = tally::with(t, TWO_PINS, one_if(is_pinned));
-        return tally::with(u, SEVERAL, one_if(1 < due::rivals(p, tail, head)));
-    }
-    let t = tally::with(tally, access::plus(WITH_OUTCOMES, g.outcome), 1);
-    tally::with(t, PINNED_OUT, one_if(is_pinned))
 }
 
 // The outcome without the arc, and the state where there is a tree with it.
 fn counted_state(tally: Tally, r: Results, state: u32, is_raised: bool) -> Tally {
-    let why = r.why;
-    let without = r.without;
-    let t = tally::with(tally, access::plus(WITHOUT_OUTCOMES, without.outcome), 1);
-    let u = tally::with(t, RAISED, one_if(is_raised));
-    if why.kind == due::PRICED && why.outcome != outcome::NONE {
-        return tally::with(u, access::plus(PRICED_STATES, state), 1);
+    let mut t = tally.with(RAISED, u32::from(is_raised));
+    if let Ok(Reason::Priced(outcome, _)) = r.without.reason {
+        t = t.with(WITHOUT_OUTCOMES.wrapping_add(outcome), 1);
     }
-    u
+    match r.why.reason {
+        Ok(Reason::Priced(outcome, _)) if outcome != outcome::NONE => t.with(
+            PRICED_STATES.wrapping_add(state),
+            1,
+        ),
+        _ => t,
+    }
 }
 
 // "Against the bound of 'Link states' (A2's) this says closed or not": what a total may be at most, by the look.
@@ -100,17 +107,13 @@ fn limit_of(s: Shown, budget: u32) -> u32 {
 // Whether the state of the look is the one that the two calls say, and the bound too; with another state that has to be
 // reported.
 fn tried_state(tally: Tally, r: Results, state: u32, limit: u32, budget: u32) -> Tally {
-    let why = r.why;
-    let without = r.without;
-    let said = due::state(why.kind, why.total, without.total, limit);
-    let least = due::least_total(why.kind, why.total, without.total);
-    let t = tally::checked(
-        tally,
-        STATES,
-        state == said && limit == outcome::limit(least, budget),
-    );
-    let u = tally::planted(t, state % 3 + 1 != said);
-    counted_state(u, r, state, budget < limit)
+    let with = r.why.total();
+    let without = r.without.total().unwrap_or(0);
+    let said = due::state(with, without, limit);
+    let least = due::least_total(with, without);
+    let right = state == said && limit == outcome::limit(least, budget);
+    let t = tally.checked(STATES, right).planted(state % 3 + 1 != said);
+    counted_state(t, r, state, budget < limit)
 }
 
 // `why`, held to what the reference says of the pair.
@@ -157,14 +160,17 @@ pub fn tried(
     r: Random,
 ) -> Tally {
     let log = s.log;
-    let both = calls::ask(s.board, tail, head, random::below(r, 2) == 0);
-    let why = both.why;
-    let t = tried_why(tally, table, p, log, tail, head, why, r);
+    let both = calls::ask(s.board, tail, head, r.below(2) == 0);
+    let t = tried_why(tally, table, p, log, tail, head, both.why, r);
     let u = tried_without(t, table, p, tail, head, both.without, r);
-    if why.kind == due::REFUSED {
-        return tally::with(u, count_of(why.answer), 1);
+    match both.why.reason {
+        Err(answer) => u.with(count_of(answer), 1),
+        Ok(reason) => tried_state(
+            counted_reason(u, p, &log, tail, head, reason),
+            both,
+            state_at(look, p.n, tail, head),
+            limit_of(look, p.budget),
+            p.budget,
+        ),
     }
-    let v = counted_reason(u, p, log, tail, head, why);
-    let state = state_at(look, p.n, tail, head);
-    tried_state(v, both, state, limit_of(look, p.budget), p.budget)
 }

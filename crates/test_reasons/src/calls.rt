@@ -3,24 +3,29 @@ use board::Board;
 use harness::buffers;
 use instance::{Outcome, Vertex};
 use planner::{Reason, View};
-use reference::outcome;
 use reference::problem::ABSENT;
 use reference::shown::CUT_WORDS;
+use reference::{access, outcome};
 use reference_reasons::due;
 
-// What a call gave, with the reference's kinds; 0 for what a kind does not have, and ABSENT for the total where there
-// is no tree. Then the number of pairs, and the buffers.
+// What a call gave, with the reference's reasons, or the number of the refusal; then the number of pairs, and the
+// buffers.
 #[derive(Clone, Copy)]
 pub struct Given {
-    pub kind: u32,
-    pub answer: u32,
-    pub rival: u32,
-    pub place: u32,
-    pub outcome: u32,
-    pub total: u32,
+    pub reason: Result<due::Reason, u32>,
     pub pairs: u32,
     pub parents: [u8; buffers::PARENTS],
     pub cuts: [u32; buffers::CUTS],
+}
+
+impl Given {
+    // The total of a plan.
+    pub fn total(&self) -> Option<u32> {
+        match self.reason {
+            Ok(due::Reason::Priced(_, total)) => Some(total),
+            _ => None,
+        }
+    }
 }
 
 // Both calls on the same board and pair.
@@ -30,49 +35,37 @@ pub struct Results {
     pub without: Given,
 }
 
-fn new_given(kind: u32, answer: u32, rival: u32, place: u32) -> Given {
+fn new_given(reason: Result<due::Reason, u32>, pairs: u32) -> Given {
     Given {
-        kind: kind,
-        answer: answer,
-        rival: rival,
-        place: place,
-        outcome: 0,
-        total: 0,
-        pairs: 0,
+        reason,
+        pairs,
         parents: [buffers::BYTE; buffers::PARENTS],
         cuts: [buffers::WORD; buffers::CUTS],
     }
 }
 
-fn planned(kind: u32, total: u32, pairs: u32) -> Given {
-    let mut g = new_given(due::PRICED, 0, 0, 0);
-    g.outcome = kind;
-    g.total = total;
-    g.pairs = pairs;
-    g
-}
-
 fn of_outcome(o: Outcome, pairs: u32) -> Given {
-    match o {
-        Outcome::Plan(total) => planned(outcome::PLAN, total, pairs),
-        Outcome::Over(total) => planned(outcome::OVER, total, pairs),
-        Outcome::NoTree => planned(outcome::NONE, ABSENT, pairs),
-    }
+    let (kind, total) = match o {
+        Outcome::Plan(total) => (outcome::PLAN, total),
+        Outcome::Over(total) => (outcome::OVER, total),
+        Outcome::NoTree => (outcome::NONE, ABSENT),
+    };
+    new_given(Ok(due::Reason::Priced(kind, total)), pairs)
 }
 
 fn of_reason(r: Reason) -> Given {
     match r {
-        Reason::Banned(place) => new_given(due::BANNED, 0, 0, place),
-        Reason::Rival(rival, place) => new_given(due::RIVAL, 0, rival.0, place),
+        Reason::Banned(place) => new_given(Ok(due::Reason::Banned(place)), 0),
+        Reason::Rival(rival, place) => new_given(Ok(due::Reason::Rival(rival.0, place)), 0),
         Reason::Priced(o, pairs) => of_outcome(o, pairs),
-        Reason::Refused(answer) => new_given(due::REFUSED, answer, 0, 0),
+        Reason::Refused(answer) => new_given(Err(answer), 0),
     }
 }
 
 fn of_view(v: View) -> Given {
     match v {
         View::Shown(o, pairs) => of_outcome(o, pairs),
-        View::Refused(answer) => new_given(due::REFUSED, answer, 0, 0),
+        View::Refused(answer) => new_given(Err(answer), 0),
     }
 }
 
@@ -81,11 +74,11 @@ fn why(b: Board, tail: u32, head: u32, parents_room: u32, cuts_room: u32) -> Giv
     let mut parents = [buffers::BYTE; buffers::PARENTS];
     let mut cuts = [buffers::WORD; buffers::CUTS];
     let r = planner::why(
-        b,
+        &b,
         Vertex(tail),
         Vertex(head),
-        buffers::front_mut(&mut parents, parents_room),
-        buffers::front_words_mut(&mut cuts, cuts_room),
+        access::front_mut(&mut parents, parents_room as usize),
+        access::front_mut(&mut cuts, cuts_room as usize),
     );
     let mut g = of_reason(r);
     g.parents = parents;
@@ -98,11 +91,11 @@ fn without(b: Board, tail: u32, head: u32, parents_room: u32, cuts_room: u32) ->
     let mut parents = [buffers::BYTE; buffers::PARENTS];
     let mut cuts = [buffers::WORD; buffers::CUTS];
     let v = planner::plan_without(
-        b,
+        &b,
         Vertex(tail),
         Vertex(head),
-        buffers::front_mut(&mut parents, parents_room),
-        buffers::front_words_mut(&mut cuts, cuts_room),
+        access::front_mut(&mut parents, parents_room as usize),
+        access::front_mut(&mut cuts, cuts_room as usize),
     );
     let mut g = of_view(v);
     g.parents = parents;

@@ -7,11 +7,10 @@ use reference::problem::CELLS;
 use reference::random::Random;
 use reference::shown::{CUT_WORDS, PAIRS};
 use reference::tally::Tally;
-use reference::{access, random, shown, tally};
-use reference_reasons::due;
-use reference_reasons::due::Due;
+use reference::{access, shown};
+use reference_reasons::due::{Due, Reason};
 
-// Where the counts of the kinds begin.
+// The kinds of a fault are numbers, no enum: they are gone through and counted in this order. Where their counts begin.
 pub const FIRST_COUNT: u32 = 35;
 
 // Of every result: another reason, and a byte or a word that was not to be touched.
@@ -51,100 +50,124 @@ const LAST_TREE: u32 = 14;
 const KINDS: u32 = 15;
 
 fn has_other_tree(d: Due, n: u32) -> bool {
-    let first = d.first;
-    let last = d.last;
-    d.is_listed && !access::equal_bytes(&first, &last, n)
+    d.trees.is_some_and(|trees| !access::equal_fronts(&trees.first, &trees.last, n))
 }
 
 // Whether a result of this kind can have the fault.
 fn applies(kind: u32, n: u32, d: Due, g: Given) -> bool {
-    match kind {
-        REASON | BYTE | WORD => true,
-        ANSWER => g.kind == due::REFUSED,
-        PLACE_MORE | PLACE_LESS => g.kind == due::BANNED || g.kind == due::RIVAL,
-        RIVAL => g.kind == due::RIVAL,
-        TOTAL => g.kind == due::PRICED && g.outcome != NONE,
-        BEHIND => g.kind == due::PRICED && g.pairs < PAIRS,
-        LAST_TREE => g.kind == due::PRICED && has_other_tree(d, n),
-        _ => g.kind == due::PRICED,
+    match (kind, g.reason) {
+        (REASON | BYTE | WORD, _) => true,
+        (ANSWER, Err(_)) => true,
+        (PLACE_MORE | PLACE_LESS, Ok(Reason::Banned(_) | Reason::Rival(_, _))) => true,
+        (RIVAL, Ok(Reason::Rival(_, _))) => true,
+        (TOTAL, Ok(Reason::Priced(outcome, _))) => outcome != NONE,
+        (BEHIND, Ok(Reason::Priced(_, _))) => g.pairs < PAIRS,
+        (LAST_TREE, Ok(Reason::Priced(_, _))) => has_other_tree(d, n),
+        (ANSWER | PLACE_MORE | PLACE_LESS | RIVAL, _) => false,
+        (_, Ok(Reason::Priced(_, _))) => true,
+        _ => false,
     }
 }
 
 fn with_byte(given: Given, at: u32, value: u32) -> Given {
     let mut g = given;
-    g.parents[(at % buffers::PARENTS as u32) as usize] = access::narrow(value);
+    g.parents[at as usize % buffers::PARENTS] = access::narrow(value);
     g
 }
 
 fn with_word(given: Given, at: u32, value: u32) -> Given {
     let mut g = given;
-    g.cuts[(at % buffers::CUTS as u32) as usize] = value;
+    g.cuts[at as usize % buffers::CUTS] = value;
     g
 }
 
 // The buffers from the first place on that was not to be touched.
 fn with_touch(g: Given, n: u32, kind: u32, r: Random) -> Given {
-    let filled = g.kind == due::PRICED;
+    let filled = g.total().is_some();
     if kind == BYTE {
         let from = if filled { n } else { 0 };
-        let rest = std::num::wrapping_sub_u32(buffers::PARENTS as u32, from);
-        return with_byte(g, access::plus(from, random::below(r, rest)), 0);
+        let rest = (buffers::PARENTS as u32).wrapping_sub(from);
+        return with_byte(g, from.wrapping_add(r.below(rest)), 0);
     }
     let from = if filled { CUT_WORDS } else { 0 };
-    let rest = std::num::wrapping_sub_u32(buffers::CUTS as u32, from);
-    with_word(g, access::plus(from, random::below(r, rest)), 0)
+    let rest = (buffers::CUTS as u32).wrapping_sub(from);
+    with_word(g, from.wrapping_add(r.below(rest)), 0)
 }
 
 // One word of a pair, or of the first place where there is none.
 fn with_cut_fault(g: Given, root: u32, kind: u32, r: Random) -> Given {
-    let cuts = g.cuts;
-    let set_at = access::times(2, random::below(r, g.pairs));
-    let amount_at = access::plus(set_at, 1);
-    let behind = access::times(2, g.pairs);
+    let set_at = r.below(g.pairs).wrapping_mul(2);
+    let amount_at = set_at.wrapping_add(1);
+    let behind = g.pairs.wrapping_mul(2);
     match kind {
         AMOUNT => with_word(
             g,
             amount_at,
-            access::plus(access::word(&cuts, amount_at), 1),
+            access::word(&g.cuts, amount_at).wrapping_add(1),
         ),
-        SET => with_word(g, set_at, access::word(&cuts, set_at) | shown::only(root)),
+        SET => with_word(g, set_at, access::word(&g.cuts, set_at) | shown::only(root)),
         _ => with_word(g, behind, 1),
     }
 }
 
 fn with_last_tree(given: Given, d: Due, n: u32) -> Given {
-    let last = d.last;
-    let mut parents = given.parents;
-    access::put_bytes(&mut parents, 0, &last, n);
     let mut g = given;
-    g.parents = parents;
-    g
-}
-
-fn with_other_number(given: Given, kind: u32) -> Given {
-    let mut g = given;
-    match kind {
-        REASON => g.kind = (given.kind % 4 + 1) % 4,
-        ANSWER => g.answer = access::plus(given.answer, 1),
-        PLACE_MORE => g.place = access::plus(given.place, 1),
-        PLACE_LESS => g.place = std::num::wrapping_sub_u32(given.place, 1),
-        RIVAL => g.rival = access::plus(given.rival, 1),
-        OUTCOME => g.outcome = (given.outcome % 3 + 1) % 3,
-        TOTAL => g.total = access::plus(given.total, 1),
-        _ => g.pairs = access::plus(given.pairs, 1),
+    if let Some(trees) = d.trees {
+        access::put(&mut g.parents, 0, access::front(&trees.last, n as usize));
     }
     g
 }
 
-fn with_fault(g: Given, d: Due, n: u32, root: u32, kind: u32, r: Random) -> Given {
-    let vertex = random::below(r, n);
-    match kind {
-        BYTE | WORD => with_touch(g, n, kind, r),
-        PARENT => with_byte(g, vertex, vertex),
-        AMOUNT | SET | BEHIND => with_cut_fault(g, root, kind, r),
-        LAST_TREE => with_last_tree(g, d, n),
-        _ => with_other_number(g, kind),
+fn other_reason(reason: Result<Reason, u32>) -> Result<Reason, u32> {
+    match reason {
+        Ok(Reason::Banned(place)) => Ok(Reason::Rival(0, place)),
+        Ok(Reason::Rival(_, _)) => Ok(Reason::Priced(0, 0)),
+        Ok(Reason::Priced(_, _)) => Err(0),
+        Err(_) => Ok(Reason::Banned(0)),
     }
+}
+
+// The place of who set a mark moved.
+fn with_place(reason: Result<Reason, u32>, moved: u32) -> Result<Reason, u32> {
+    match reason {
+        Ok(Reason::Banned(place)) => Ok(Reason::Banned(place.wrapping_add(moved))),
+        Ok(Reason::Rival(rival, place)) => Ok(Reason::Rival(rival, place.wrapping_add(moved))),
+        _ => reason,
+    }
+}
+
+// The result with another reason, or another number of its reason.
+fn with_other_number(reason: Result<Reason, u32>, kind: u32) -> Result<Reason, u32> {
+    match (kind, reason) {
+        (REASON, _) => other_reason(reason),
+        (ANSWER, Err(answer)) => Err(answer.wrapping_add(1)),
+        (PLACE_MORE, _) => with_place(reason, 1),
+        (PLACE_LESS, _) => with_place(reason, 4294967295),
+        (RIVAL, Ok(Reason::Rival(rival, place))) => Ok(Reason::Rival(rival.wrapping_add(1), place)),
+        (OUTCOME, Ok(Reason::Priced(outcome, total))) => Ok(Reason::Priced(
+            (outcome % 3 + 1) % 3,
+            total,
+        )),
+        (TOTAL, Ok(Reason::Priced(outcome, total))) => Ok(Reason::Priced(
+            outcome,
+            total.wrapping_add(1),
+        )),
+        _ => reason,
+    }
+}
+
+fn with_fault(given: Given, d: Due, n: u32, root: u32, kind: u32, r: Random) -> Given {
+    let vertex = r.below(n);
+    let mut g = given;
+    match kind {
+        BYTE | WORD => return with_touch(g, n, kind, r),
+        PARENT => return with_byte(g, vertex, vertex),
+        AMOUNT | SET | BEHIND => return with_cut_fault(g, root, kind, r),
+        LAST_TREE => return with_last_tree(g, d, n),
+        PAIRS_MORE => g.pairs = given.pairs.wrapping_add(1),
+        _ => g.reason = with_other_number(given.reason, kind),
+    }
+    g
 }
 
 // A result held to what it has to be, and then with each fault.
@@ -158,13 +181,12 @@ pub fn tried(
     g: Given,
     r: Random, // where the faults are planted
 ) -> Tally {
-    let mut t = tally::checked(tally, which, compared::is_right(table, n, root, d, g));
-    for kind in 0..KINDS {
-        if applies(kind, n, d, g) {
-            let wrong = with_fault(g, d, n, root, kind, r);
-            t = tally::with(t, access::plus(FIRST_COUNT, kind), 1);
-            t = tally::planted(t, !compared::is_right(table, n, root, d, wrong));
-        }
-    }
-    t
+    tally
+        .checked(which, compared::is_right(table, n, root, d, g))
+        .with_faults(
+            FIRST_COUNT,
+            KINDS,
+            |kind| applies(kind, n, d, g),
+            |kind| compared::is_right(table, n, root, d, with_fault(g, d, n, root, kind, r)),
+        )
 }

@@ -7,14 +7,14 @@ use board::Board;
 use harness::calls::Shown;
 use harness::session;
 use harness::session::Session;
-use reference::call::Call;
+use reference::call::{Call, Kind};
 use reference::outcome::NONE;
 use reference::problem::{CELLS, MAX_BUDGET, PINNED, Problem};
 use reference::random::Random;
 use reference::sample::Mixture;
 use reference::tally::Tally;
-use reference::{access, call, dual, families, problem, random, sample, tally, worked};
-use reference_reasons::due;
+use reference::{access, dual, families, sample};
+use reference_reasons::due::Reason;
 
 // The counts of looks with the arc pinned, and banned.
 const PINNED_LOOKS: u32 = 50;
@@ -22,54 +22,43 @@ const PINNED_LOOKS: u32 = 50;
 const BANNED_LOOKS: u32 = 51;
 
 fn same_tree(s: Shown, g: Given, n: u32) -> bool {
-    let shown = s.parents;
-    let given = g.parents;
-    access::equal_bytes(&shown, &given, n)
+    access::equal_fronts(&s.parents, &g.parents, n)
 }
 
 // Whether a look at the board after a press shows the plan that a call gave: the outcome, the total and the tree.
-fn same_as_look(b: Board, kind: u32, tail: u32, head: u32, g: Given) -> bool {
-    let made = harness::calls::made(
-        b,
-        Call {
-            kind: kind,
-            first: tail,
-            second: head,
-        },
-    );
+fn same_as_look(b: Board, kind: Kind, tail: u32, head: u32, g: Given) -> bool {
+    let made = harness::calls::made(b, Call::new(kind, tail, head));
     let s = harness::calls::look(made.board);
-    if made.answer != 0 || s.kind != g.outcome {
+    let Ok(Reason::Priced(outcome, total)) = g.reason else {
         return false;
-    }
-    if s.kind != NONE && s.total != g.total {
-        return false;
-    }
-    same_tree(s, g, b.n)
+    };
+    made.answer == 0
+        && s.kind == outcome
+        && (s.kind == NONE || s.total == total)
+        && same_tree(s, g, b.n)
 }
 
 // A pinned arc is the only one into its head; a banned one is taken out, unless its own pin kept others out.
 fn tried_looks(tally: Tally, b: Board, p: Problem, tail: u32, head: u32) -> Tally {
     let both = calls::ask(b, tail, head, false);
-    let why = both.why;
     let mut t = tally;
-    if why.kind == due::PRICED {
-        let right = same_as_look(b, call::PIN, tail, head, why);
-        t = tally::checked(t, PINNED_LOOKS, right);
+    if both.why.total().is_some() {
+        let right = same_as_look(b, Kind::Pin, tail, head, both.why);
+        t = t.checked(PINNED_LOOKS, right);
     }
-    if problem::mark_of(p, tail, head) == PINNED {
+    if p.mark_of(tail, head) == PINNED {
         return t;
     }
-    let right = same_as_look(b, call::BAN, tail, head, both.without);
-    tally::checked(t, BANNED_LOOKS, right)
+    let right = same_as_look(b, Kind::Ban, tail, head, both.without);
+    t.checked(BANNED_LOOKS, right)
 }
 
 // Half of the arcs are of the tree that the look shows. The root has none there.
 fn some_tail(look: Shown, n: u32, head: u32, g: Random) -> u32 {
-    let parents = look.parents;
-    if random::below(g, 2) == 0 {
-        return access::byte(&parents, head);
+    if g.below(2) == 0 {
+        return access::byte(&look.parents, head);
     }
-    random::below(random::next(g), n)
+    g.next().below(n)
 }
 
 fn tried_arc(
@@ -80,9 +69,9 @@ fn tried_arc(
     look: Shown,
     g: Random,
 ) -> Tally {
-    let head = random::below(g, p.n);
-    let tail = some_tail(look, p.n, head, random::next(g));
-    if !problem::is_arc(p, tail, head) {
+    let head = g.below(p.n);
+    let tail = some_tail(look, p.n, head, g.next());
+    if !p.is_arc(tail, head) {
         return tally;
     }
     let t = asked::tried(tally, s, table, p, look, tail, head, g);
@@ -91,14 +80,12 @@ fn tried_arc(
 
 fn tried_arcs(tally: Tally, s: Session, seed: u32, count: u32) -> Tally {
     let p = session::problem_now(s);
-    let table = problem::costs(p);
+    let table = p.costs();
     let look = harness::calls::look(s.board);
-    let mut t = tally;
-    for k in 0..count {
-        let g = random::seeded(access::plus(seed, k));
-        t = tried_arc(t, s, &table, p, look, g);
-    }
-    t
+    (0..count).fold(tally, |t, k| {
+        let g = Random::seeded(seed.wrapping_add(k));
+        tried_arc(t, s, &table, p, look, g)
+    })
 }
 
 // Every third instance is of a family of 32 vertices, the others have 6 to 31.
@@ -113,29 +100,25 @@ fn nth_instance(k: u32) -> Problem {
         return families::nth_instance(k / 3);
     }
     let n = k % 26 + 6;
-    sample::instance(random::seeded(k), n, k % n, mix)
+    sample::instance(Random::seeded(k), n, k % n, mix)
 }
 
 // The instance with a budget a little above its cheapest total.
 fn with_budget(p: Problem, g: Random) -> Problem {
-    let table = problem::costs(p);
+    let table = p.costs();
     let plan = dual::plan(&table, p.n, p.root);
     let total = plan.total % (MAX_BUDGET + 1);
-    let budget = access::plus(total, random::below(g, total / 8 + 2));
-    worked::with_budget(p, if MAX_BUDGET < budget { 60 } else { budget })
+    let budget = total.wrapping_add(g.below(total / 8 + 2));
+    p.with_budget(if MAX_BUDGET < budget { 60 } else { budget })
 }
 
 fn tried(tally: Tally, k: u32) -> Tally {
-    let g = random::seeded(k);
+    let g = Random::seeded(k);
     let p = with_budget(nth_instance(k), g);
     let progress = sessions::nth(tally, p, k, k % 8);
-    tried_arcs(progress.tally, progress.session, access::times(64, k), 4)
+    tried_arcs(progress.tally, progress.session, k.wrapping_mul(64), 4)
 }
 
 pub fn run(count: u32) -> Tally {
-    let mut t = tally::zero();
-    for k in 0..count {
-        t = tried(t, k);
-    }
-    t
+    (0..count).fold(Tally::zero(), |t, k| tried(t, k))
 }

@@ -3,7 +3,8 @@
 use instance::Vertex;
 use price_row::row_used;
 use reference::access;
-use reference_rows::{NO_LINK, RowPart};
+use reference::refusals::number_of;
+use reference_rows::{EMPTY, NO_LINK, RowPart};
 
 // More places than any call needs.
 pub const ROOM: usize = 1100;
@@ -22,7 +23,7 @@ pub struct Call {
 }
 
 // The answer, the row's length and its numbers.
-#[derive(Clone, Copy)]
+#[derive(Clone, Copy, PartialEq, Eq)]
 pub struct Shown {
     pub answer: u32,
     pub length: usize,
@@ -32,41 +33,37 @@ pub struct Shown {
 // No link anywhere in the school's list, and in the shipped one 2,000 and its place; the whole of both is handed over.
 pub fn plain(n: u32, tail: u32) -> Call {
     let mut c = Call {
-        n: n,
-        tail: tail,
+        n,
+        tail,
         school: [NO_LINK; ROOM],
         shipped: [0; ROOM],
         school_length: ROOM as u32,
         shipped_length: ROOM as u32,
     };
-    for k in 0..ROOM {
-        c.shipped[k] = 2000 + k as u32;
+    for (place, number) in c.shipped.iter_mut().zip(2000u32..) {
+        *place = number;
     }
     c
 }
 
 // Whether a number of the row is a price.
 pub fn has_price(s: Shown) -> bool {
-    for k in 0..ROW_ROOM {
-        if k < s.length && s.numbers[k] < NO_LINK {
-            return true;
-        }
-    }
-    false
+    access::front(&s.numbers, s.length)
+        .iter()
+        .any(|&x| x < NO_LINK)
 }
 
 // The row with another number at a place.
 pub fn with_number_changed(s: Shown, place: u32) -> Shown {
     let mut f = s;
-    let at = (place % ROW_ROOM as u32) as usize;
-    f.numbers[at] = s.numbers[at] ^ 1;
+    f.numbers[place as usize % ROW_ROOM] ^= 1;
     f
 }
 
 // The call with another number in a place of a list.
 pub fn with_number(c: Call, of_school: bool, place: u32, number: u32) -> Call {
     let mut d = c;
-    let at = (place % ROOM as u32) as usize;
+    let at = place as usize % ROOM;
     if of_school {
         d.school[at] = number;
     } else {
@@ -77,27 +74,25 @@ pub fn with_number(c: Call, of_school: bool, place: u32, number: u32) -> Call {
 
 // So many numbers of a list from a place on.
 fn taken(answer: u32, list: &[u32], from: u32, length: usize) -> Shown {
-    let mut s = Shown {
-        answer: answer,
-        length: length,
-        numbers: [0; ROW_ROOM],
-    };
-    for k in 0..ROW_ROOM {
-        if k < length {
-            s.numbers[k] = access::word(list, access::plus(from, k as u32));
-        }
+    let mut numbers = [0; ROW_ROOM];
+    let rest = list.get(from as usize..).unwrap_or_default();
+    access::put(&mut numbers, 0, access::front(rest, length));
+    Shown {
+        answer,
+        length,
+        numbers,
     }
-    s
 }
 
-// A part of one of the lists.
-pub fn part(c: Call, u: RowPart) -> Shown {
-    let school = c.school;
-    let shipped = c.shipped;
-    if u.is_school {
-        return taken(u.answer, &school, u.from, u.length as usize);
-    }
-    taken(u.answer, &shipped, u.from, u.length as usize)
+fn list_of(c: &Call, is_school: bool) -> &[u32] {
+    if is_school { &c.school } else { &c.shipped }
+}
+
+// A part of one of the lists, or a refusal.
+pub fn part(c: Call, used: Result<RowPart, u32>) -> Shown {
+    let u = used.unwrap_or(EMPTY);
+    let list = list_of(&c, u.is_school);
+    taken(number_of(used), list, u.from, u.length as usize)
 }
 
 // One lifetime for both lists, as the call has it.
@@ -108,35 +103,19 @@ fn made<'a>(school: &'a [u32], shipped: &'a [u32], n: u32, tail: u32) -> Shown {
 }
 
 pub fn by_product(c: Call) -> Shown {
-    let school = c.school;
-    let shipped = c.shipped;
     made(
-        access::front_words(&school, c.school_length),
-        access::front_words(&shipped, c.shipped_length),
+        access::front(&c.school, c.school_length as usize),
+        access::front(&c.shipped, c.shipped_length as usize),
         c.n,
         c.tail,
     )
 }
 
-pub fn by_reference(c: Call) -> RowPart {
-    let school = c.school;
-    let shipped = c.shipped;
+pub fn by_reference(c: Call) -> Result<RowPart, u32> {
     reference_rows::used(
-        access::front_words(&school, c.school_length),
-        access::front_words(&shipped, c.shipped_length),
+        access::front(&c.school, c.school_length as usize),
+        access::front(&c.shipped, c.shipped_length as usize),
         c.n,
         c.tail,
     )
-}
-
-pub fn is_right(s: Shown, e: Shown) -> bool {
-    if s.answer != e.answer || s.length != e.length {
-        return false;
-    }
-    for k in 0..ROW_ROOM {
-        if s.numbers[k] != e.numbers[k] {
-            return false;
-        }
-    }
-    true
 }

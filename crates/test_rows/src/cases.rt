@@ -1,38 +1,33 @@
 // Rows whose numbers are written out, from document 02's words, on standard input: the reference is held to them, and
 // the product to the reference. A line has the count, the feeder, the lengths of the two lists, and two places of each
 // list that hold something else than calls.rt says; it expects the answer, the length of the row and its first numbers.
-use crate::calls::{Call, ROW_ROOM, Shown};
+use crate::calls::{Call, Shown};
 use crate::{calls, faults};
+use reference::script;
 use reference::script::Line;
 use reference::tally::Tally;
-use reference::{access, script, tally};
 
 // Where the lines are counted, and the calls that they are.
 const WRITTEN_OUT: u32 = 3;
 
 fn call_of(line: Line) -> Call {
-    let mut c = calls::plain(script::number(line, 1), script::number(line, 2));
-    c.school_length = script::number(line, 3);
-    c.shipped_length = script::number(line, 4);
-    c = calls::with_number(c, true, script::number(line, 5), script::number(line, 6));
-    c = calls::with_number(c, true, script::number(line, 7), script::number(line, 8));
-    c = calls::with_number(c, false, script::number(line, 9), script::number(line, 10));
-    calls::with_number(c, false, script::number(line, 11), script::number(line, 12))
+    let mut c = calls::plain(line.number(1), line.number(2));
+    c.school_length = line.number(3);
+    c.shipped_length = line.number(4);
+    c = calls::with_number(c, true, line.number(5), line.number(6));
+    c = calls::with_number(c, true, line.number(7), line.number(8));
+    c = calls::with_number(c, false, line.number(9), line.number(10));
+    calls::with_number(c, false, line.number(11), line.number(12))
 }
 
 // The answer, the length and as many numbers as the line has.
 fn is_expected(line: Line, s: Shown) -> bool {
-    if s.answer != script::expected(line, 1) || s.length != script::expected(line, 2) as usize {
-        return false;
-    }
-    let count = std::num::wrapping_sub_u32(line.count, line.inputs);
-    for k in 2..count {
-        let at = std::num::wrapping_sub_u32(k, 2) as usize;
-        if ROW_ROOM <= at || s.numbers[at] != script::expected(line, access::plus(k, 1)) {
-            return false;
-        }
-    }
-    true
+    let count = line.count.wrapping_sub(line.inputs);
+    s.answer == line.expected(1)
+        && s.length == line.expected(2) as usize
+        && (3..count.wrapping_add(1))
+            .zip(0usize..)
+            .all(|(k, at)| s.numbers.get(at) == Some(&line.expected(k)))
 }
 
 fn tried(tally: Tally, line: Line) -> Tally {
@@ -42,20 +37,12 @@ fn tried(tally: Tally, line: Line) -> Tally {
     let c = call_of(line);
     let e = calls::part(c, calls::by_reference(c));
     faults::tried(
-        tally::checked(tally, WRITTEN_OUT, is_expected(line, e)),
+        tally.checked(WRITTEN_OUT, is_expected(line, e)),
         WRITTEN_OUT,
         c,
     )
 }
 
 pub fn all(text: &[u8]) -> Tally {
-    let mut t = tally::zero();
-    let mut line = script::empty();
-    for at in 0..text.len() {
-        line = script::with_byte(line, text[at]);
-        if line.is_whole {
-            t = tried(t, line);
-        }
-    }
-    t
+    script::fold_lines(text, Tally::zero(), |t, line| tried(t, line))
 }

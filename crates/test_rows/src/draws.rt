@@ -4,15 +4,14 @@ use crate::calls::{Call, ROOM};
 use crate::{calls, faults};
 use reference::random::Random;
 use reference::tally::Tally;
-use reference::{access, random};
 use reference_rows::NO_LINK;
 
 // What stands in a place: mostly no link, a price of its own, and one in 64 a number that is none. Many: half prices.
 fn drawn(g: Random, own: u32, is_many: bool) -> u32 {
-    let pick = random::below(g, 64);
+    let pick = g.below(64);
     let prices = if is_many { 32 } else { 2 };
     if pick == 63 {
-        return access::plus(NO_LINK + 1, random::below(random::next(g), 4293918720));
+        return (NO_LINK + 1).wrapping_add(g.next().below(4293918720));
     }
     if pick < prices {
         return own;
@@ -23,12 +22,12 @@ fn drawn(g: Random, own: u32, is_many: bool) -> u32 {
 // The prices of the school are below 2,000, and the shipped ones are not.
 fn filled(c: Call, seed: u32) -> Call {
     let mut d = c;
-    let mut g = random::seeded(seed);
+    let mut g = Random::seeded(seed);
     for k in 0..ROOM {
         d.school[k] = drawn(g, k as u32, seed % 4 == 0);
-        g = random::next(random::next(g));
+        g = g.next().next();
         d.shipped[k] = drawn(g, 2000 + k as u32, seed % 3 == 0);
-        g = random::next(random::next(g));
+        g = g.next().next();
     }
     d
 }
@@ -37,24 +36,24 @@ fn filled(c: Call, seed: u32) -> Call {
 fn damaged(c: Call, g: Random) -> Call {
     let mut d = c;
     let counts = [0, 33, 64, 4294967295];
-    let way = random::below(g, 32);
-    let short = std::num::wrapping_sub_u32(access::times(c.n, c.n), 1);
+    let way = g.below(32);
+    let short = c.n.wrapping_mul(c.n).wrapping_sub(1);
     match way {
         0 => d.n = counts[(c.tail % 4) as usize],
-        1 => d.tail = access::plus(c.n, c.tail % 2),
+        1 => d.tail = c.n.wrapping_add(c.tail % 2),
         2 => d.school_length = short,
         3 => d.shipped_length = short,
-        4..=17 => d.school_length = access::plus(short, 1),
-        _ => d.shipped_length = access::plus(short, 1),
+        4..=17 => d.school_length = short.wrapping_add(1),
+        _ => d.shipped_length = short.wrapping_add(1),
     }
     d
 }
 
 pub fn call(seed: u32) -> Call {
     let n = seed % 32 + 1;
-    let g = random::seeded(access::plus(seed, 1000000));
-    let c = filled(calls::plain(n, random::below(g, n)), seed);
-    damaged(c, random::next(g))
+    let g = Random::seeded(seed.wrapping_add(1000000));
+    let c = filled(calls::plain(n, g.below(n)), seed);
+    damaged(c, g.next())
 }
 
 // Counted by the answer, and a row by the list that it stands in.
@@ -62,14 +61,13 @@ pub fn all(tally: Tally, count: u32) -> Tally {
     let mut t = tally;
     for seed in 0..count {
         let c = call(seed);
-        let u = calls::by_reference(c);
-        let answer = u.answer;
-        let which = match answer {
-            0 => if u.is_school { 4 } else { 5 },
-            9 => 6,
-            14 => 7,
-            29 => 8,
-            _ => 9,
+        let which = match calls::by_reference(c) {
+            Ok(u) if u.is_school => 4,
+            Ok(_) => 5,
+            Err(9) => 6,
+            Err(14) => 7,
+            Err(29) => 8,
+            Err(_) => 9,
         };
         t = faults::tried(t, which, c);
     }

@@ -1,11 +1,11 @@
 // Results with a fault planted, each of which the comparison has to report.
 use crate::calls;
 use crate::calls::{Call, Shown};
+use reference::random::Random;
 use reference::tally::Tally;
-use reference::{access, random, tally};
-use reference_rows::RowPart;
+use reference_rows::{EMPTY, RowPart};
 
-// Where the counts of the kinds begin.
+// The kinds of a fault are numbers, no enum: they are gone through and counted in this order. Where their counts begin.
 const FIRST_COUNT: u32 = 10;
 
 const ANSWER: u32 = 0;
@@ -28,8 +28,8 @@ fn other_part(u: RowPart, kind: u32) -> RowPart {
     let mut v = u;
     match kind {
         OTHER_LIST => v.is_school = !u.is_school,
-        NEXT_ROW => v.from = access::plus(u.from, u.length),
-        _ => v.from = access::plus(u.from, 1),
+        NEXT_ROW => v.from = u.from.wrapping_add(u.length),
+        _ => v.from = u.from.wrapping_add(1),
     }
     v
 }
@@ -39,11 +39,8 @@ fn with_fault(c: Call, u: RowPart, s: Shown, kind: u32) -> Shown {
     match kind {
         ANSWER => f.answer = s.answer ^ 1,
         LENGTH => f.length = s.length ^ 1,
-        NUMBER => f = calls::with_number_changed(
-            s,
-            random::below(random::seeded(u.from), u.length),
-        ),
-        _ => f = calls::part(c, other_part(u, kind)),
+        NUMBER => f = calls::with_number_changed(s, Random::seeded(u.from).below(u.length)),
+        _ => f = calls::part(c, Ok(other_part(u, kind))),
     }
     f
 }
@@ -51,8 +48,7 @@ fn with_fault(c: Call, u: RowPart, s: Shown, kind: u32) -> Shown {
 // A row has a number to change; and where it has a price, no other part is the same.
 fn applies(kind: u32, u: RowPart, e: Shown) -> bool {
     match kind {
-        ANSWER => true,
-        LENGTH => true,
+        ANSWER | LENGTH => true,
         NUMBER => 0 < u.length,
         _ => calls::has_price(e),
     }
@@ -60,15 +56,14 @@ fn applies(kind: u32, u: RowPart, e: Shown) -> bool {
 
 // The result of a call held to what it should be, and then with each kind of fault.
 pub fn tried(tally: Tally, which: u32, c: Call) -> Tally {
-    let u = calls::by_reference(c);
-    let e = calls::part(c, u);
+    let used = calls::by_reference(c);
+    let e = calls::part(c, used);
     let s = calls::by_product(c);
-    let mut t = tally::checked(tally, which, calls::is_right(s, e));
-    for kind in 0..KINDS {
-        if applies(kind, u, e) {
-            t = tally::with(t, access::plus(FIRST_COUNT, kind), 1);
-            t = tally::planted(t, !calls::is_right(with_fault(c, u, s, kind), e));
-        }
-    }
-    t
+    let u = used.unwrap_or(EMPTY);
+    tally.checked(which, s == e).with_faults(
+        FIRST_COUNT,
+        KINDS,
+        |kind| applies(kind, u, e),
+        |kind| with_fault(c, u, s, kind) == e,
+    )
 }

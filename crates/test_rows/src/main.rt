@@ -8,13 +8,11 @@ mod draws; // draws.rt: random calls
 mod faults; // faults.rt: results with a fault planted
 
 use reference::script::SCRIPT_ROOM;
-use reference::tally;
 
 fn main() {
     let mut text = [0; SCRIPT_ROOM];
     io::read_full(0, &mut text);
-    tally::report(
-        draws::all(cases::all(&text), 6400),
+    draws::all(cases::all(&text), 6400).report(
         b"written out\nthe school's row\nthe shipped row\nanswer 9\nanswer 14\nanswer 29\nanswer 30\nanother answer\nanother length\nanother number\nthe other list\nthe next row\nthe next place\n",
     );
 }

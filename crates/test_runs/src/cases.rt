@@ -7,7 +7,7 @@ use crate::calls::{Call, Shown};
 use crate::{calls, faults, judging};
 use reference::script::Line;
 use reference::tally::Tally;
-use reference::{access, script, tally};
+use reference::{access, script};
 use reference_runs::costs::NOT_IN_TREE;
 use reference_runs::listing::MAX_LISTED;
 use reference_runs::places;
@@ -16,41 +16,41 @@ use reference_runs::places;
 const WRITTEN_OUT: u32 = 3;
 
 fn of_cells(line: Line) -> Call {
-    let mut c = calls::even(script::number(line, 1), 5, 0, 0);
-    c.weights_length = script::number(line, 2);
-    c.marks_length = script::number(line, 3);
-    c.states_length = script::number(line, 4);
-    c.replacements_length = script::number(line, 5);
-    let mark = access::narrow(script::number(line, 8));
-    let other = access::narrow(script::number(line, 11));
-    let d = calls::with_cell(c, script::number(line, 6), script::number(line, 7), mark);
-    calls::with_cell(d, script::number(line, 9), script::number(line, 10), other)
+    let mut c = calls::even(line.number(1), 5, 0, 0);
+    c.weights_length = line.number(2);
+    c.marks_length = line.number(3);
+    c.states_length = line.number(4);
+    c.replacements_length = line.number(5);
+    let mark = access::narrow(line.number(8));
+    let other = access::narrow(line.number(11));
+    let d = calls::with_cell(c, line.number(6), line.number(7), mark);
+    calls::with_cell(d, line.number(9), line.number(10), other)
 }
 
 fn of_graph(line: Line) -> Call {
-    let mut c = calls::even(script::number(line, 1), 5, 0, 1100);
-    c.budget = script::number(line, 2);
-    let mut from = 3;
+    let mut c = calls::even(line.number(1), 5, 0, 1100);
+    c.budget = line.number(2);
+    let mut from: u32 = 3;
     for cell in 0..places::cells(c.n) {
         if places::is_upper(c.n, cell) {
-            let mark = access::narrow(script::number(line, access::plus(from, 1)));
-            c = calls::with_pair(c, cell, script::number(line, from), mark);
-            from = access::plus(from, 2);
+            let mark = access::narrow(line.number(from.wrapping_add(1)));
+            c = calls::with_pair(c, cell, line.number(from), mark);
+            from = from.wrapping_add(2);
         }
     }
     c
 }
 
 fn result(line: Line, n: u32) -> Shown {
-    let mut s = calls::untouched(0, script::expected(line, 1), script::expected(line, 2));
-    let mut from = 3;
+    let mut s = calls::untouched(0, line.expected(1), line.expected(2));
+    let mut from: u32 = 3;
     for cell in 0..places::cells(n) {
         if places::is_upper(n, cell) {
-            let state = access::narrow(script::expected(line, from));
-            let cost = script::expected(line, access::plus(from, 1));
+            let state = access::narrow(line.expected(from));
+            let cost = line.expected(from.wrapping_add(1));
             s = calls::with_result(s, cell, state, cost);
             s = calls::with_result(s, places::mirror(n, cell), state, cost);
-            from = access::plus(from, 2);
+            from = from.wrapping_add(2);
         }
         if places::row(n, cell) == places::column(n, cell) {
             s = calls::with_result(s, cell, 0, NOT_IN_TREE);
@@ -73,20 +73,12 @@ fn tried(tally: Tally, line: Line) -> Tally {
     let right = if is_graph {
         judging::is_right(result(line, c.n), e, c)
     } else {
-        script::expected(line, 1) == e.answer
+        line.expected(1) == e.answer
     };
-    let t = tally::checked(tally, WRITTEN_OUT, right);
+    let t = tally.checked(WRITTEN_OUT, right);
     faults::tried(t, WRITTEN_OUT, calls::by_product(c), e, c)
 }
 
 pub fn all(text: &[u8]) -> Tally {
-    let mut t = tally::zero();
-    let mut line = script::empty();
-    for at in 0..text.len() {
-        line = script::with_byte(line, text[at]);
-        if line.is_whole {
-            t = tried(t, line);
-        }
-    }
-    t
+    script::fold_lines(text, Tally::zero(), |t, line| tried(t, line))
 }

@@ -2,7 +2,6 @@
 use crate::buffers::ROOM;
 use crate::calls;
 use crate::calls::Call;
-use reference::random;
 use reference::random::Random;
 use reference_runs::places;
 
@@ -11,14 +10,14 @@ pub const WAYS: u32 = 11;
 // A place less than is needed, or a count outside 1 to 32, or of one vertex more than the lists were made for.
 fn with_number(c: Call, way: u32, g: Random) -> Call {
     let mut d = c;
-    let short = std::num::wrapping_sub_u32(places::cells(c.n % 64), 1);
-    let counts = [0, 33, 4294967295, places::plus(c.n, 1)];
+    let short = places::cells(c.n % 64).wrapping_sub(1);
+    let counts = [0, 33, 4294967295, c.n.wrapping_add(1)];
     match way {
         6 => d.weights_length = short,
         7 => d.marks_length = short,
         8 => d.states_length = short,
         9 => d.replacements_length = short,
-        _ => d.n = counts[(random::word(g) % 4) as usize],
+        _ => d.n = counts[(g.word() % 4) as usize],
     }
     d
 }
@@ -29,11 +28,11 @@ pub fn damaged(c: Call, g: Random, way: u32) -> Call {
     if 5 < way {
         return with_number(c, way, g);
     }
-    let cell = random::below(g, places::cells(c.n % 64));
-    let at = (cell % ROOM as u32) as usize;
+    let cell = g.below(places::cells(c.n % 64));
+    let at = cell as usize % ROOM;
     let weights = [1048575, 1048576, 4294967295, 0, 7];
     let marks = [0, 1, 2, 3, 255];
-    let pick = random::word(random::next(g));
+    let pick = g.next().word();
     let weight = if way % 3 == 0 {
         c.weights[at]
     } else {

@@ -3,7 +3,7 @@
 // comparison says of results with a fault planted.
 #![tactic(auto)]
 
-mod buffers; // buffers.rt: parts of lists and buffers
+mod buffers; // buffers.rt: the room of lists and buffers
 mod calls; // calls.rt: a call, what it gave and what it should give
 mod cases; // cases.rt: graphs and refusals whose results are written out, on standard input
 mod judging; // judging.rt: whether a result is right
@@ -13,13 +13,11 @@ mod graphs; // graphs.rt: random graphs, as they are and damaged
 mod making; // making.rt: how random graphs are made
 
 use reference::script::SCRIPT_ROOM;
-use reference::tally;
 use reference::tally::Tally;
 
 // The names of the counts, in the order of graphs.rt and of the kinds in faults.rt.
 fn report(tally: Tally) {
-    tally::report(
-        tally,
+    tally.report(
         b"written out\nlisted and planned\nplan\nover\nno tree\nanswer 14\nanswer 29\nanswer 30\nanswer 31\nanother answer\nanother outcome\nanother total\na state\nthe state after the last one\nthe last byte of its buffer\nthe first replacement cost\nthe word after the last one\nthe last word of its buffer\na replacement cost one way\na replacement cost both ways\nan edge left out\nan edge left out one way\nan edge more\nanother tree\na banned run in the tree\na pinned run outside it\n",
     );
 }
@@ -28,5 +26,5 @@ fn main() {
     let mut text = [0; SCRIPT_ROOM];
     io::read_full(0, &mut text);
     report(graphs::small(cases::all(&text), 2000));
-    report(graphs::large(tally::zero(), 120));
+    report(graphs::large(Tally::zero(), 120));
 }

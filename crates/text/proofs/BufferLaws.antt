@@ -6,6 +6,7 @@ use native.Mathlib.Omega.{arith}
 use native.Mathlib.Numerals.{add-one}
 use native.Mathlib.Nat.{add-zero, zero-add}
 use lib.ListN.{length, get_or, set, take, drop, length-append, length-take, length-drop, take-append-drop}
+use borrow.Rule.Slice.PartMut.{put_mid}
 use lib.Seq.{set_split, take_at, drop_at, drop-drop, length-take-le, take-suc}
 use Rattle.base.specs.Lists.{in_front}
 use Rattle.base.proofs.FrontLaws.{front_length}
@@ -54,6 +55,11 @@ room_first {old} {s} {at} t h = let e = length-append s t in record { long_enoug
 
 pub room_whole : (text old : List ℕ) → length text ≤ length old → Room text old 0
 room_whole text old h = record { long_enough = omega arith }
+
+-- A PART OF THE BUFFER OVERWRITTEN
+pub puts_part : (text old : List ℕ) (at k : ℕ) → k ≡ length text → Puts text old (put_mid at k old text) at (at + length text)
+unfolding placed
+puts_part text old at k e = rw e (record { buffer = refl; place = refl })
 
 -- NOTHING, ONE BYTE, A TEXT MORE, ONE BYTE MORE
 pub puts_none : (old : List ℕ) (at : ℕ) → Puts [] old old at at

@@ -5,12 +5,7 @@ pub fn put_bytes(bytes: &[u8], out: &mut [u8], at: usize) -> usize
     requires { Room bytes.now out.old at }
     ensures { Puts bytes.now out.old out.new at result }
 {
-    let mut i = 0;
-    let mut next = at;
-    while i < bytes.len() {
-        out[next] = bytes[i];
-        next += 1;
-        i += 1;
-    }
-    next
+    let end = at + bytes.len();
+    out[at..end].copy_from_slice(bytes);
+    end
 }

@@ -3,19 +3,16 @@
 use mathlib.Core.Path.{◌≡◌, refl, sym, ap, ◌∙◌}
 use mathlib.Core.Bool.{Bool, true, false, ◌&&◌, ◌||◌, not, cond, and-true}
 use mathlib.Core.List.{List}
-use mathlib.Core.Logic.{◌↔◌, ◌≢◌, ⊎_elim}
-use Prim.Native.Nat.{ℕ, ◌+◌, ◌/◌, ◌%◌, ◌<◌}
+use mathlib.Core.Logic.{◌↔◌, ⊎_elim}
+use Prim.Native.Nat.{ℕ, ◌/◌, ◌%◌, ◌<◌}
 use native.Mathlib.Omega.{arith}
-use native.Mathlib.Decide.{ℕ_discrete}
-use lib.Dec.{ltb, eqb}
-use lib.ListN.{length, get_or, set, take, length-set}
-use lib.Seq.{get_or-set_same, get_or-set_other}
-use borrow.Author.Tests.{lt-ltb, le-ltb, eq-eqb, ne_eqb}
+use lib.Dec.{eqb}
+use lib.ListN.{get_or, set, take}
+use borrow.Author.Tests.{lt-ltb}
 use Rattle.base.proofs.BoolLaws.{test, is_false, and_left, and_right, and_false_right}
 use Rattle.base.proofs.ListLaws.{default}
-use Rattle.base.proofs.FillingLaws.{ltb_more}
 use Rattle.base.proofs.CondLaws.{cond_most}
-use Rattle.instance.specs.Limits.{max_vertices, no_arc, cells}
+use Rattle.instance.specs.Limits.{no_arc}
 use Rattle.instance.specs.Instance.{Instance, cell, can_be_arc, is_arc, weight}
 use Rattle.instance.specs.Arborescence.{remaining, is_arborescence, total, uses}
 use Rattle.instance.specs.Cuts.{cuts_in}
@@ -27,55 +24,13 @@ use Rattle.theory.proofs.SameArcs.{SameArcs, same_back, same_arborescence, same_
 use Rattle.theory.proofs.Restriction.{restricted_remaining, restricted_same_weight, restricted_total}
 use Rattle.theory.proofs.Forced.{forced_arborescence}
 use Rattle.edmonds.specs.declared.Planned.{Planned}
-use Rattle.edmonds.specs.Planned.{PlannedMatrix}
-use Rattle.usable.specs.Forced.{taken_out, ForcedMatrix, ForcedPlan}
+use Rattle.edmonds.specs.Planned.{PlannedMatrix, NonePlanned}
+use Rattle.usable.specs.Forced.{taken_out, ForcedMatrix, ForcedPlan, NoneForced}
 
 stays_in : (a b : Bool) → not a || b ≡ true → a && not b ≡ false
 stays_in true true e = refl
 stays_in true false e = sym e
 stays_in false b e = refl
-
--- TAKING OUT THE HEAD'S OTHER ARCS
-module _ (t₀ h₀ : ℕ) (m : List ℕ) where
-  pub forced_none : length m ≡ cells → ForcedMatrix m m 0 t₀ h₀
-  forced_none e = record { size = e; at = λ i l. rw (le-ltb (i / 32) 0 (omega arith)) }
-
-  -- one tail more changes its own cell alone, and the forced one's not even
-  more_other : (g t h : ℕ) → t ≢ g → taken_out (g + 1) t₀ h₀ t h ≡ taken_out g t₀ h₀ t h
-  more_other g t h e = rw (ltb_more g t e)
-
-  more_forced : (g t h : ℕ) → g ≡ t₀ → taken_out (g + 1) t₀ h₀ t h ≡ taken_out g t₀ h₀ t h
-  more_forced g t h e = at (ℕ_discrete t g)
-    where
-      at : Dec (t ≡ g) → taken_out (g + 1) t₀ h₀ t h ≡ taken_out g t₀ h₀ t h
-      at (no z) = more_other g t h z
-      at (yes z) =
-          let out = and_false_right (eqb h h₀) false refl in
-          rw (eq-eqb t t₀ (z ∙ e), out, and_false_right (ltb t (g + 1)) false refl, and_false_right (ltb t g) false refl)
-
-  pub forced_pass : (g : ℕ) (w : List ℕ) → g ≡ t₀ → ForcedMatrix m w g t₀ h₀ → ForcedMatrix m w (g + 1) t₀ h₀
-  forced_pass g w e k = record { size = k.size; at = λ i l. rw (more_forced g (i / 32) (i % 32) e) (k.at i l) }
-
-  pub forced_more : (g : ℕ) (w : List ℕ) → g ≢ t₀ → g < max_vertices → h₀ < max_vertices → ForcedMatrix m w g t₀ h₀ → ForcedMatrix m (set w (cell g h₀) no_arc) (g + 1) t₀ h₀
-  forced_more g w e l b k = record { size = simp length-set k.size; at = λ i c. cases i c (ℕ_discrete i (cell g h₀)) }
-    where
-      own : (i : ℕ) → i ≡ cell g h₀ → taken_out (g + 1) t₀ h₀ (i / 32) (i % 32) ≡ true
-      own i z =
-          let t : i / 32 ≡ g = omega arith in
-          let h : i % 32 ≡ h₀ = omega arith in
-          rw (t, h, lt-ltb g (g + 1) (omega arith), eq-eqb h₀ h₀ refl, ne_eqb g t₀ e)
-
-      other : (i : ℕ) → i ≢ cell g h₀ → Dec (i / 32 ≡ g) → taken_out (g + 1) t₀ h₀ (i / 32) (i % 32) ≡ taken_out g t₀ h₀ (i / 32) (i % 32)
-      other i z (no y) = more_other g (i / 32) (i % 32) y
-      other i z (yes y) =
-          let apart : i % 32 ≢ h₀ = λ x. z (omega arith) in
-          rw (ne_eqb (i % 32) h₀ apart, and_false_right (ltb (i / 32) (g + 1)) false refl, and_false_right (ltb (i / 32) g) false refl)
-
-      cases : (i : ℕ) → i < cells → Dec (i ≡ cell g h₀) → get_or (set w (cell g h₀) no_arc) i 0 ≡ cond (taken_out (g + 1) t₀ h₀ (i / 32) (i % 32)) no_arc (get_or m i 0)
-      cases i c (yes z) =
-          let size = k.size in
-          rw (own i z) (rw z (get_or-set_same w (cell g h₀) no_arc 0 (omega arith)))
-      cases i c (no z) = rw (get_or-set_other w (cell g h₀) i no_arc 0 z, other i z (ℕ_discrete (i / 32) g)) (k.at i c)
 
 -- WHAT REMAINS
 module _ (n root : ℕ) (m w : List ℕ) (t₀ h₀ : ℕ) (ok : MatrixOk n root m) (f : ForcedMatrix m w n t₀ h₀) where
@@ -176,17 +131,19 @@ module _ (n root : ℕ) (m w : List ℕ) (t₀ h₀ : ℕ) (ok : MatrixOk n root
     planned_forced w' cuts cuts' p k =
         let ps = take n p.parents in
         record {
-          tree = λ e. record { matrix_ok = ok; places = k.parents_size; arborescence = ((forced_uses ps).0 (k.minimum e).arborescence).0 };
-          used = λ e. ((forced_uses ps).0 (k.minimum e).arborescence).1;
-          is_total = λ e. k.is_total e ∙ forced_total ps (k.minimum e).arborescence;
+          tree = record { matrix_ok = ok; places = k.parents_size; arborescence = ((forced_uses ps).0 k.minimum.arborescence).0 };
+          used = ((forced_uses ps).0 k.minimum.arborescence).1;
+          is_total = k.is_total ∙ forced_total ps k.minimum.arborescence;
           least =
-              λ e qs b u.
+              λ qs b u.
               let c = (forced_uses qs).1 (b, u) in
-              let proved = (k.minimum e).proved in
+              let proved = k.minimum.proved in
               let least = weak_duality left qs c (cuts_in p.count cuts') proved.feasible in
               let adds = proved.adds in
-              let is = k.is_total e in
+              let is = k.is_total in
               let same = forced_total qs c in
               omega arith;
-          unused = λ e qs b. is_false (uses qs t₀ h₀) (λ u. no_entry left qs ((forced_uses qs).1 (b, u)) (record { set = p.set; value = 0 }) (k.no_entry e));
         }
+
+    pub none_forced : (set : ℕ) → NonePlanned w n root set → NoneForced m n root t₀ h₀
+    none_forced set k qs b = is_false (uses qs t₀ h₀) (λ u. no_entry left qs ((forced_uses qs).1 (b, u)) (record { set = set; value = 0 }) k)

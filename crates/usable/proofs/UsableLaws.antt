@@ -25,7 +25,7 @@ use Rattle.theory.proofs.Usable.{usable_some, usable_none, lost_unusable, reduce
 use Rattle.theory.proofs.MatrixInstances.{matrix_instance_same, matrix_instance_remaining, matrix_instance_arborescence, matrix_instance_total}
 use Rattle.detours.specs.Detours.{Detour}
 use Rattle.edmonds.specs.declared.Planned.{Planned}
-use Rattle.usable.specs.Forced.{ForcedPlan}
+use Rattle.usable.specs.Forced.{ForcedPlan, NoneForced}
 use Rattle.usable.specs.Fitting.{Reduced}
 use Rattle.usable.specs.Judge.{UpperBound}
 
@@ -104,17 +104,17 @@ module _ (n root b : ℕ) (m : List ℕ) where
         reduced_unusable s t h k.cuts (same_feasible on s (same_back s on (matrix_instance_same n root b m)) k.cuts k.feasible) (matrix_instance_remaining n root b m t h ∙ r) (omega arith)
 
     -- by planning
-    pub unusable_unplanned : (p : Planned) → ForcedPlan m n root t h p → p.found ≡ false → usable s t h ≡ false
-    unusable_unplanned p k e = (usable_none s t h).1 (λ qs f. k.unused e qs ((matrix_instance_arborescence n root b m qs).0 (fits_arborescence s qs f)))
+    pub unusable_unplanned : NoneForced m n root t h → usable s t h ≡ false
+    unusable_unplanned none = (usable_none s t h).1 (λ qs f. none qs ((matrix_instance_arborescence n root b m qs).0 (fits_arborescence s qs f)))
 
-    pub unusable_dear : (p : Planned) → ForcedPlan m n root t h p → p.found ≡ true → b < p.total → usable s t h ≡ false
-    unusable_dear p k z past =
+    pub unusable_dear : (p : Planned) → ForcedPlan m n root t h p → b < p.total → usable s t h ≡ false
+    unusable_dear p k past =
         (usable_none s t h).1
         (λ qs f.
         is_false (uses qs t h)
         (λ u.
         let a = (matrix_instance_arborescence n root b m qs).0 (fits_arborescence s qs f) in
-        let l = k.least z qs a u in
+        let l = k.least qs a u in
         let e = matrix_instance_total n root b m qs a in
         let g = fits_total s qs f in
         omega arith))

@@ -15,10 +15,13 @@ pub record ForcedMatrix (m w : List ℕ) (bound tail₀ head₀ : ℕ) : Type 0 
   pub size : length w ≡ cells
   pub at : (i : ℕ) → i < cells → get_or w i 0 ≡ cond (taken_out bound tail₀ head₀ (i / 32) (i % 32)) no_arc (get_or m i 0)
 
--- the least total with the arc, or that no arborescence uses it
+-- a cheapest arborescence that uses the arc
 pub record ForcedPlan (m : List ℕ) (n root t h : ℕ) (r : Planned) : Type 0 where
-  pub tree : r.found ≡ true → MatrixTree n root m r.parents
-  pub used : r.found ≡ true → uses (take n r.parents) t h ≡ true
-  pub is_total : r.found ≡ true → r.total ≡ total (unmarked n root m) (take n r.parents)
-  pub least : r.found ≡ true → (qs : List ℕ) → is_arborescence (unmarked n root m) qs ≡ true → uses qs t h ≡ true → r.total ≤ total (unmarked n root m) qs
-  pub unused : r.found ≡ false → (qs : List ℕ) → is_arborescence (unmarked n root m) qs ≡ true → uses qs t h ≡ false
+  pub tree : MatrixTree n root m r.parents
+  pub used : uses (take n r.parents) t h ≡ true
+  pub is_total : r.total ≡ total (unmarked n root m) (take n r.parents)
+  pub least : (qs : List ℕ) → is_arborescence (unmarked n root m) qs ≡ true → uses qs t h ≡ true → r.total ≤ total (unmarked n root m) qs
+
+-- no arborescence uses the arc
+abbrev pub NoneForced : (m : List ℕ) (n root t h : ℕ) → Type 0
+NoneForced m n root t h = (qs : List ℕ) → is_arborescence (unmarked n root m) qs ≡ true → uses qs t h ≡ false

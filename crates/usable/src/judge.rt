@@ -6,33 +6,23 @@ ghost use Rattle.instance.specs.Matrix.{matrix_instance, unmarked, MatrixOk};
 ghost use Rattle.usable.specs.Fitting.{FittingPlan};
 ghost use Rattle.usable.specs.Judge.{JudgeableArc, Sound, Judged, JudgedHead};
 
+use super::Fitting;
 use super::forced::plan_with;
 use super::table::add_tree;
 use detours::detour_costs;
-use instance::limits::{CELLS, NO_ARC, VERTICES};
+use instance::limits::{CELLS, NO_ARC};
 
 // Plans with the arc, and adds the tree that is found if it fits.
-fn judge_by_planning(
-    m: &[u32; CELLS], // the weights
-    n: u32, // the number of vertices
-    root: u32, // one of them
-    limit: u32, // what a total may be at most
-    tail: u32, // the arc
-    head: u32, // into this vertex
-    used: &mut [u8; CELLS], // the arcs that are known to be usable
-)
-    requires { MatrixOk n root m.now × (remaining (unmarked n root m.now) tail head ≡ true) × Sound (matrix_instance n root limit m.now) used.now }
-    ensures { Judged (matrix_instance n root limit m.now) tail head used.entry.now used.exit.now }
+fn judge_by_planning(plan: Fitting, tail: u32, head: u32, used: &mut [u8; CELLS])
+    requires { MatrixOk plan.n plan.root plan.m.now × (remaining (unmarked plan.n plan.root plan.m.now) tail head ≡ true) × Sound (matrix_instance plan.n plan.root plan.limit plan.m.now) used.old }
+    ensures { Judged (matrix_instance plan.entry.n plan.entry.root plan.entry.limit plan.entry.m.now) tail head used.old used.new }
 {
-    let planned = plan_with(m, n, root, tail, head);
-    if !planned.found {
+    let Some(planned) = plan_with(plan.m, plan.n, plan.root, tail, head) else {
         return;
+    };
+    if planned.total <= plan.limit {
+        add_tree(&planned.parents, plan.n, plan.root, used);
     }
-    if limit < planned.total {
-        return;
-    }
-    let parents = planned.parents;
-    add_tree(&parents, n, root, used);
 }
 
 // Whether a tree with the arc, its detour and the rest is within the limit, if there is a detour.
@@ -48,20 +38,15 @@ fn exchange_fits(rest: u32, weight: u32, detour: u32, limit: u32) -> bool
 
 // One arc.
 fn judge_arc(
-    m: &[u32; CELLS], // the weights
-    reduced: &[u32; CELLS], // the reduced costs
-    n: u32, // the number of vertices
-    root: u32, // one of them
-    total: u32, // the cheapest total
-    limit: u32, // what a total may be at most
+    plan: Fitting, // what the arcs are judged by
     rest: u32, // the cheapest total without the tree's arc into the head
     detour: u32, // what the tree costs more with the arc, besides its weight
     tail: u32, // the arc
     head: u32, // into this vertex
     used: &mut [u8; CELLS], // the arcs that are known to be usable
 )
-    requires { JudgeableArc m.now reduced.now n root total rest detour tail head × Sound (matrix_instance n root limit m.now) used.now }
-    ensures { Judged (matrix_instance n root limit m.now) tail head used.entry.now used.exit.now }
+    requires { JudgeableArc plan.m.now plan.reduced.now plan.n plan.root plan.total rest detour tail head × Sound (matrix_instance plan.n plan.root plan.limit plan.m.now) used.now }
+    ensures { Judged (matrix_instance plan.entry.n plan.entry.root plan.entry.limit plan.entry.m.now) tail head used.entry.now used.exit.now }
 {
     let i = (32 * tail + head) as usize;
     if used[i] == 1 {
@@ -70,11 +55,12 @@ fn judge_arc(
     if tail == head {
         return;
     }
-    let weight = m[i];
+    let weight = plan.m[i];
     if weight == NO_ARC {
         return;
     }
-    let least = total + reduced[i];
+    let limit = plan.limit;
+    let least = plan.total + plan.reduced[i];
     if limit < least {
         return;
     }
@@ -82,45 +68,21 @@ fn judge_arc(
         used[i] = 1;
         return;
     }
-    judge_by_planning(m, n, root, limit, tail, head, used);
+    judge_by_planning(plan, tail, head, used);
 }
 
-// The arcs into one head. The parameters are those of usable_arcs, with the head and the table.
-pub fn judge_head(
-    m: &[u32; CELLS],
-    reduced: &[u32; CELLS],
-    parents: &[u8; VERTICES],
-    n: u32,
-    root: u32,
-    total: u32,
-    limit: u32,
-    head: u32,
-    used: &mut [u8; CELLS],
-)
-    requires { FittingPlan m.now reduced.now parents.now n root total limit × (head < n) × Sound (matrix_instance n root limit m.now) used.old }
-    ensures { JudgedHead (matrix_instance n root limit m.now) n head used.old used.new }
+// The arcs into one head.
+pub fn judge_head(plan: Fitting, head: u32, used: &mut [u8; CELLS])
+    requires { FittingPlan plan.m.now plan.reduced.now plan.parents.now plan.n plan.root plan.total plan.limit × (head < plan.n) × Sound (matrix_instance plan.n plan.root plan.limit plan.m.now) used.old }
+    ensures { JudgedHead (matrix_instance plan.entry.n plan.entry.root plan.entry.limit plan.entry.m.now) plan.entry.n head used.old used.new }
 {
-    if head == root {
+    if head == plan.root {
         return;
     }
-    let detour = detour_costs(m, parents, n, root, head);
-    let tail = parents[head as usize] as u32;
-    let rest = total - m[(32 * tail + head) as usize];
-    let mut t: u32 = 0;
-    while t < n {
-        judge_arc(
-            m,
-            reduced,
-            n,
-            root,
-            total,
-            limit,
-            rest,
-            detour[t as usize],
-            t,
-            head,
-            used,
-        );
-        t += 1;
+    let detour = detour_costs(plan.m, plan.parents, plan.n, plan.root, head);
+    let tail = plan.parents[head as usize] as u32;
+    let rest = plan.total - plan.m[(32 * tail + head) as usize];
+    for t in 0..plan.n {
+        judge_arc(plan, rest, detour[t as usize], t, head, used);
     }
 }

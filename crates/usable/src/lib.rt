@@ -15,25 +15,27 @@ use instance::limits::{CELLS, VERTICES};
 use judge::judge_head;
 use table::add_tree;
 
+// What the arcs are judged by.
+#[derive(Clone, Copy)]
+pub struct Fitting<'a> {
+    pub m: &'a [u32; CELLS], // the weights of the remaining arcs
+    pub reduced: &'a [u32; CELLS], // their reduced costs, which planning leaves
+    pub parents: &'a [u8; VERTICES], // a cheapest arborescence
+    pub n: u32, // the number of vertices
+    pub root: u32, // one of them
+    pub total: u32, // the cheapest total
+    pub limit: u32, // what a total may be at most: no less than the cheapest
+}
+
 // 1 at the cell of each usable arc.
-pub fn usable_arcs(
-    m: &[u32; CELLS], // the weights of the remaining arcs
-    reduced: &[u32; CELLS], // their reduced costs, which planning leaves
-    parents: &[u8; VERTICES], // a cheapest arborescence
-    n: u32, // the number of vertices
-    root: u32, // one of them
-    total: u32, // the cheapest total
-    limit: u32, // what a total may be at most: no less than the cheapest
-) -> [u8; CELLS]
-    requires { FittingPlan m.now reduced.now parents.now n root total limit }
-    ensures { UsableTable (matrix_instance n root limit m.now) result }
+pub fn usable_arcs(plan: Fitting) -> [u8; CELLS]
+    requires { FittingPlan plan.m.now plan.reduced.now plan.parents.now plan.n plan.root plan.total plan.limit }
+    ensures { UsableTable (matrix_instance plan.entry.n plan.entry.root plan.entry.limit plan.entry.m.now) result }
 {
     let mut used = [0u8; CELLS];
-    add_tree(parents, n, root, &mut used);
-    let mut head: u32 = 0;
-    while head < n {
-        judge_head(m, reduced, parents, n, root, total, limit, head, &mut used);
-        head += 1;
+    add_tree(plan.parents, plan.n, plan.root, &mut used);
+    for head in 0..plan.n {
+        judge_head(plan, head, &mut used);
     }
     used
 }

@@ -8,15 +8,13 @@ use instance::limits::{CELLS, VERTICES};
 
 // Adds each arc of the tree.
 pub fn add_tree(parents: &[u8; VERTICES], n: u32, root: u32, used: &mut [u8; CELLS])
-    requires { (n ≤ max_vertices) × (length parents.now ≡ max_vertices) × Rooted n root (take n parents.now) × (length used.old ≡ cells) }
+    requires { (n ≤ max_vertices) × Rooted n root (take n parents.now) }
     ensures { TreeAdded (take n parents.now) n root used.old used.new }
 {
-    let mut v: u32 = 0;
-    while v < n {
+    for v in 0..n {
         if v != root {
             let tail = parents[v as usize] as u32;
             used[(32 * tail + v) as usize] = 1;
         }
-        v += 1;
     }
 }

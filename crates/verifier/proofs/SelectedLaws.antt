@@ -1,63 +1,57 @@
 -- The cuts that have one vertex are selected: what they charge an arc into it, and what the cuts still to come charge
 -- it, add to what all charge it. A cut without the vertex charges such an arc nothing. Assumes nothing.
-use mathlib.Core.Path.{◌≡◌, refl, sym, ap, ◌∙◌}
+use mathlib.Core.Path.{◌≡◌, refl, ap, ◌∙◌}
 use mathlib.Core.Bool.{true, false, not, cond}
-use mathlib.Core.List.{List}
-use mathlib.Core.Logic.{◌⊎◌, ⊎_elim}
-use Prim.Native.Nat.{ℕ, ◌+◌, ◌*◌, ◌-◌, ◌≤◌, ◌<◌}
+use mathlib.Core.List.{List, [], ◌∷◌, ◌++◌}
+use Prim.Native.Nat.{ℕ, ◌+◌, ◌≤◌, ◌<◌}
 use native.Mathlib.Omega.{arith}
 use lib.Dec.{leb}
-use lib.ListN.{length, get_or, set, length-set}
-use lib.Seq.{get_or-set_other}
+use lib.ListN.{length, get_or, set, take, drop, length-set}
+use Rattle.std.proofs.lemmas.List.{take_more_set}
 use Rattle.base.proofs.BoolLaws.{and_false_right}
 use Rattle.base.proofs.BoundedLaws.{all_same}
-use Rattle.instance.specs.Limits.{max_cuts, cut_words}
+use Rattle.instance.specs.Limits.{max_cuts}
 use Rattle.instance.specs.Instance.{Instance, weight}
 use Rattle.instance.specs.Arborescence.{remaining, if_remaining}
-use Rattle.instance.specs.Cuts.{Cut, cuts_from, cuts_in, inside, enters, charged}
-use Rattle.instance.proofs.CutLaws.{one_cut, cuts_begun, charged_append}
+use Rattle.instance.specs.Cuts.{Cut, inside, enters, charged}
+use Rattle.instance.proofs.CutLaws.{charged_append}
 use Rattle.certificate.specs.Certificate.{covered}
+use Rattle.verifier.specs.Pairs.{cut_of, cuts_of}
 use Rattle.verifier.specs.Selected.{Selects, covered_into}
-use Rattle.verifier.proofs.RestLaws.{cut_at, cuts_next, cuts_first, cuts_last}
+use Rattle.verifier.proofs.RestLaws.{cuts_next, cuts_last}
 use Rattle.verifier.proofs.CutsLaws.{share}
 
+of_append : (ps qs : List (List ℕ)) → cuts_of (ps ++ qs) ≡ cuts_of ps ++ cuts_of qs
+unfolding cuts_of
+of_append [] qs = refl
+of_append (p ∷ ps) qs = ap (λ (cs : List Cut). cut_of p ∷ cs) (of_append ps qs)
+
 -- the cuts from place k on are still to come
-pub record Selecting (ws : List ℕ) (h count : ℕ) (out : List ℕ) (selected k : ℕ) : Type 0 where
-  pub fewer : selected ≤ k
-  pub within : k ≤ count
-  pub long : length out ≡ cut_words
-  pub same : (t : ℕ) → charged (cuts_in selected out) t h + charged (cuts_from (count - k) k ws) t h ≡ charged (cuts_in count ws) t h
+pub record Selecting (ps : List (List ℕ)) (h : ℕ) (out : List (List ℕ)) (count k : ℕ) : Type 0 where
+  pub fewer : count ≤ k
+  pub long : length out ≡ max_cuts
+  pub same : (t : ℕ) → charged (cuts_of (take count out)) t h + charged (cuts_of (drop k ps)) t h ≡ charged (cuts_of ps) t h
 
-module _ (ws : List ℕ) (h count : ℕ) where
-  pub selecting_none : (out : List ℕ) → length out ≡ cut_words → Selecting ws h count out 0 0
-  unfolding cuts_in cuts_from charged
-  selecting_none out long =
-      record {
-        fewer = omega arith;
-        within = omega arith;
-        long = long;
-        same = λ t. let e = ap (λ (cs : List Cut). charged cs t h) (cuts_first ws count) in omega (arith, e);
-      }
+module _ (ps : List (List ℕ)) (h : ℕ) where
+  pub selecting_none : (out : List (List ℕ)) → length out ≡ max_cuts → Selecting ps h out 0 0
+  unfolding cuts_of charged
+  selecting_none out long = record { fewer = omega arith; long = long; same = λ t. omega arith }
 
-  module _ (out : List ℕ) (selected k : ℕ) (l : k < count) (small : count ≤ max_cuts) (p : Selecting ws h count out selected k) where
+  module _ (out : List (List ℕ)) (count k : ℕ) (l : k < length ps) (small : length ps ≤ max_cuts) (p : Selecting ps h out count k) where
     abbrev c : Cut
-    c = cut_at ws k
-
-    abbrev later : List Cut
-    later = cuts_from (count - (k + 1)) (k + 1) ws
+    c = cut_of (get_or ps k [])
 
     -- what the next cut and those after it charge
-    next : (t : ℕ) → charged (cuts_from (count - k) k ws) t h ≡ share t h c + charged later t h
+    next : (t : ℕ) → charged (cuts_of (drop k ps)) t h ≡ share t h c + charged (cuts_of (drop (k + 1) ps)) t h
     unfolding charged
-    next t = ap (λ (cs : List Cut). charged cs t h) (cuts_next ws count k l)
+    next t = ap (λ (cs : List Cut). charged cs t h) (cuts_next ps k l)
 
     -- without the vertex it charges nothing
-    pub selecting_skip : inside c.set h ≡ false → Selecting ws h count out selected (k + 1)
+    pub selecting_skip : inside c.set h ≡ false → Selecting ps h out count (k + 1)
     unfolding enters
     selecting_skip e =
         record {
           fewer = let f = p.fewer in omega arith;
-          within = omega arith;
           long = p.long;
           same =
               λ t.
@@ -68,44 +62,35 @@ module _ (ws : List ℕ) (h count : ℕ) where
         }
 
     -- with it, it is stored behind those selected
-    abbrev stored : List ℕ
-    stored = set (set out (2 * selected) c.set) (2 * selected + 1) c.value
+    abbrev stored : List (List ℕ)
+    stored = set out count (c.set ∷ c.value ∷ [])
 
-    frame : (i : ℕ) → (i < 2 * selected) ⊎ (2 * (selected + 1) ≤ i) → get_or stored i 0 ≡ get_or out i 0
-    frame i w =
-        ⊎_elim
-        (λ (a : i < 2 * selected).
-        get_or-set_other (set out (2 * selected) c.set) (2 * selected + 1) i c.value 0 (omega arith) ∙ get_or-set_other out (2 * selected) i c.set 0 (omega arith))
-        (λ (a : 2 * (selected + 1) ≤ i).
-        get_or-set_other (set out (2 * selected) c.set) (2 * selected + 1) i c.value 0 (omega arith) ∙ get_or-set_other out (2 * selected) i c.set 0 (omega arith)) w
-
-    more : (t : ℕ) → charged (cuts_in (selected + 1) stored) t h ≡ charged (cuts_in selected out) t h + share t h c
-    unfolding cuts_in charged
+    more : (t : ℕ) → charged (cuts_of (take (count + 1) stored)) t h ≡ charged (cuts_of (take count out)) t h + share t h c
+    unfolding cuts_of charged
     more t =
         let f = p.fewer in
         let s = p.long in
-        let joined = cuts_begun selected (selected + 1) out stored (omega arith) frame in
-        let one = one_cut out selected c.set c.value (omega arith) in
-        ap (λ (cs : List Cut). charged cs t h) (sym joined) ∙ charged_append (cuts_from selected 0 out) (cuts_from ((selected + 1) - selected) selected stored) t h
-        ∙ rw one (omega arith)
+        ap (λ (qs : List (List ℕ)). charged (cuts_of qs) t h) (take_more_set out count (c.set ∷ c.value ∷ []) (omega arith))
+        ∙ ap (λ (cs : List Cut). charged cs t h) (of_append (take count out) ((c.set ∷ c.value ∷ []) ∷ []))
+        ∙ charged_append (cuts_of (take count out)) (cuts_of ((c.set ∷ c.value ∷ []) ∷ [])) t h ∙ omega arith
 
-    pub selecting_more : Selecting ws h count stored (selected + 1) (k + 1)
+    pub selecting_more : Selecting ps h stored (count + 1) (k + 1)
     selecting_more =
         record {
           fewer = let f = p.fewer in omega arith;
-          within = omega arith;
           long = simp length-set p.long;
           same = λ t. let n = next t in let s = p.same t in let m = more t in omega (arith, n, s, m);
         }
 
-  pub selecting_all : (out : List ℕ) (selected k : ℕ) → count ≤ k → Selecting ws h count out selected k → Selects ws h count out selected
+  pub selecting_all : (out : List (List ℕ)) (count k : ℕ) → length ps ≤ k → k ≤ length ps → Selecting ps h out count k → Selects ps h out count
   unfolding charged
-  selecting_all out selected k g p =
+  selecting_all out count k g m p =
       record {
-        fewer = let f = p.fewer in let m = p.within in omega arith;
+        fewer = let f = p.fewer in omega arith;
+        long = p.long;
         same =
             λ t.
-            let e = ap (λ (cs : List Cut). charged cs t h) (cuts_last ws count k p.within g) in
+            let e = ap (λ (cs : List Cut). charged cs t h) (cuts_last ps k g) in
             let s = p.same t in
             omega (arith, e, s);
       }

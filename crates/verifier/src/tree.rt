@@ -1,57 +1,51 @@
 // Whether a list of parents is an arborescence of the remaining arcs, and what it costs.
 ghost use Rattle.std.specs.Prelude.{◌≡◌, true, cond, ◌≤◌, ◌<◌, eqb, length, take};
-ghost use Rattle.instance.specs.Limits.{max_vertices, cells};
 ghost use Rattle.instance.specs.Instance.{weight};
 ghost use Rattle.instance.specs.Arborescence.{parent, reaches, parent_ok, is_arborescence as arborescence, total as total_of};
-ghost use Rattle.instance.specs.Matrix.{unmarked};
+ghost use Rattle.verifier.specs.Judged.{judged};
 
+use crate::arcs::Arcs;
 use checks::arc::is_arc;
-use instance::limits::{CELLS, NO_PARENT};
+use instance::limits::NO_PARENT;
 
 // Whether the parents lead from a vertex to the root. A parent that is no vertex leads nowhere.
-fn reaches_root(parents: &[u8], n: u32, root: u32, vertex: u32) -> bool
-    requires { (n ≤ max_vertices) × (root < n) × (n ≤ length parents.now) }
-    ensures { result ≡ reaches n root (take n parents.now) vertex }
+fn reaches_root(arcs: &Arcs<'_>, parents: &[u8], vertex: u32) -> bool
+    requires { arcs.now.n ≤ length parents.now }
+    ensures { result ≡ reaches arcs.now.n arcs.now.root (take arcs.now.n parents.now) vertex }
 {
     let mut v = vertex;
-    let mut left = n;
-    while 0 < left {
-        if v == root {
+    for _ in 0..arcs.n {
+        if v == arcs.root {
             return true;
         }
-        if n <= v {
+        if arcs.n <= v {
             return false;
         }
         v = parents[v as usize] as u32;
-        left -= 1;
     }
-    v == root
+    v == arcs.root
 }
 
 // Whether the parent of a vertex is one that an arborescence can have there.
-fn is_parent_ok(m: &[u32; CELLS], parents: &[u8], n: u32, root: u32, vertex: u32) -> bool
-    requires { (length m.now ≡ cells) × (n ≤ max_vertices) × (root < n) × (n ≤ length parents.now) × (vertex < n) }
-    ensures { result ≡ parent_ok (unmarked n root m.now) (take n parents.now) vertex }
+fn is_parent_ok(arcs: &Arcs<'_>, parents: &[u8], vertex: u32) -> bool
+    requires { (arcs.now.n ≤ length parents.now) × (vertex < arcs.now.n) }
+    ensures { result ≡ parent_ok (judged arcs.now) (take arcs.now.n parents.now) vertex }
 {
     let parent = parents[vertex as usize];
-    if vertex == root {
+    if vertex == arcs.root {
         return parent == NO_PARENT;
     }
-    if !is_arc(m, n, root, parent as u32, vertex) {
-        return false;
-    }
-    reaches_root(parents, n, root, vertex)
+    is_arc(arcs.weights, arcs.n, arcs.root, parent as u32, vertex)
+        && reaches_root(arcs, parents, vertex)
 }
 
 // Whether every vertex has a parent that an arborescence can have there.
-pub fn is_arborescence(m: &[u32; CELLS], parents: &[u8], n: u32, root: u32) -> bool
-    requires { (length m.now ≡ cells) × (n ≤ max_vertices) × (root < n) × (n ≤ length parents.now) }
-    ensures { result ≡ arborescence (unmarked n root m.now) (take n parents.now) }
+pub fn is_arborescence(arcs: &Arcs<'_>, parents: &[u8]) -> bool
+    requires { arcs.now.n ≤ length parents.now }
+    ensures { result ≡ arborescence (judged arcs.now) (take arcs.now.n parents.now) }
 {
-    let mut v = n;
-    while 0 < v {
-        v -= 1;
-        if !is_parent_ok(m, parents, n, root, v) {
+    for v in (0..arcs.n).rev() {
+        if !is_parent_ok(arcs, parents, v) {
             return false;
         }
     }
@@ -59,27 +53,25 @@ pub fn is_arborescence(m: &[u32; CELLS], parents: &[u8], n: u32, root: u32) -> b
 }
 
 // What the arc into a vertex costs; the root has none.
-fn weight_into(m: &[u32; CELLS], parents: &[u8], n: u32, root: u32, vertex: u32) -> u32
-    requires { (length m.now ≡ cells) × (n ≤ max_vertices) × (n ≤ length parents.now) × (vertex < n) × (arborescence (unmarked n root m.now) (take n parents.now) ≡ true) }
-    ensures { result ≡ cond (eqb vertex root) 0 (weight (unmarked n root m.now) (parent (take n parents.now) vertex) vertex) }
+fn weight_into(arcs: &Arcs<'_>, parents: &[u8], vertex: u32) -> u32
+    requires { (arcs.now.n ≤ length parents.now) × (vertex < arcs.now.n) × (arborescence (judged arcs.now) (take arcs.now.n parents.now) ≡ true) }
+    ensures { result ≡ cond (eqb vertex arcs.now.root) 0 (weight (judged arcs.now) (parent (take arcs.now.n parents.now) vertex) vertex) }
 {
-    if vertex == root {
+    if vertex == arcs.root {
         return 0;
     }
     let tail = parents[vertex as usize] as u32;
-    m[(32 * tail + vertex) as usize]
+    arcs.weights[(32 * tail + vertex) as usize]
 }
 
 // Whether an arborescence has that total. What is left of it is counted down, so that no sum is formed.
-pub fn has_total(m: &[u32; CELLS], parents: &[u8], n: u32, root: u32, total: u32) -> bool
-    requires { (length m.now ≡ cells) × (n ≤ max_vertices) × (n ≤ length parents.now) × (arborescence (unmarked n root m.now) (take n parents.now) ≡ true) }
-    ensures { result ≡ eqb (total_of (unmarked n root m.now) (take n parents.now)) total }
+pub fn has_total(arcs: &Arcs<'_>, parents: &[u8], total: u32) -> bool
+    requires { (arcs.now.n ≤ length parents.now) × (arborescence (judged arcs.now) (take arcs.now.n parents.now) ≡ true) }
+    ensures { result ≡ eqb (total_of (judged arcs.now) (take arcs.now.n parents.now)) total }
 {
     let mut rest = total;
-    let mut v = n;
-    while 0 < v {
-        v -= 1;
-        let weight = weight_into(m, parents, n, root, v);
+    for v in (0..arcs.n).rev() {
+        let weight = weight_into(arcs, parents, v);
         if rest < weight {
             return false;
         }

@@ -27,11 +27,9 @@ fn put_members(set: u32, n: u32, out: &mut [u8], at: usize) -> usize
     requires room { Room (join_below n (member_text set)) out.old at }
     ensures { Puts (join_below n (member_text set)) out.old out.new at result }
 {
-    let mut v = 0;
     let mut next = at;
-    while v < n {
+    for v in 0..n {
         next = put_member(set, v, out, next);
-        v += 1;
     }
     next
 }

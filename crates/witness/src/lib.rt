@@ -2,16 +2,17 @@
 // head; the plan without it. No card and no board can be seen from here.
 #![tactic(auto)]
 
-ghost use Rattle.std.specs.Prelude.{◌≡◌, true, ◌≤◌, ◌<◌, length};
-ghost use Rattle.instance.specs.Limits.{max_vertices, cells};
+ghost use Rattle.std.specs.Prelude.{◌≡◌, true, ◌≤◌, ◌<◌, IfSome, IfNone};
+ghost use Rattle.instance.specs.Limits.{max_vertices};
 ghost use Rattle.instance.specs.Instance.{instance_with, without_budget};
 ghost use Rattle.instance.specs.Valid.{valid_instance};
+ghost use Rattle.instance.specs.StateNumbers.{state_number};
 ghost use Rattle.survey.specs.FirstPlan.{PlansFirst};
 ghost use Rattle.witness.specs.Witness.{is_rival, rival as first-rival, forced_instance, deleted_instance, state_by as state-of, beaten, unbeaten};
 
-use instance::Outcome;
 use instance::limits::{CELLS, NO_ARC};
-use instance::states::{EXCLUDED, MANDATORY, OPTIONAL};
+use instance::states::State;
+use instance::{Outcome, Vertex};
 use remaining::pins::is_pinned;
 use remaining::remaining_matrix;
 use survey::first_plan::{FirstPlan, plan_arcs};
@@ -27,7 +28,7 @@ fn is_rival_tail<'a>(
     head: u32,
     other: u32,
 ) -> bool
-    requires { (n ≤ max_vertices) × (length weights.now ≡ cells) × (length marks.now ≡ cells) }
+    requires { n ≤ max_vertices }
     ensures { result ≡ is_rival (without_budget n root weights.now marks.now) tail head other }
 {
     if other == tail {
@@ -36,7 +37,7 @@ fn is_rival_tail<'a>(
     is_pinned(weights, marks, n, root, other, head)
 }
 
-// The smallest other tail of a pinned arc into the head; n where there is none.
+// The smallest other tail of a pinned arc into the head, if there is one.
 pub fn rival<'a>(
     weights: &'a [u32; CELLS],
     marks: &'a [u8; CELLS],
@@ -44,18 +45,17 @@ pub fn rival<'a>(
     root: u32,
     tail: u32,
     head: u32,
-) -> u32
-    requires { (n ≤ max_vertices) × (length weights.now ≡ cells) × (length marks.now ≡ cells) }
-    ensures { result ≡ first-rival (without_budget n root weights.now marks.now) tail head }
+) -> Option<Vertex>
+    requires { n ≤ max_vertices }
+    ensures some { IfSome result (λ g. (g.0 ≡ first-rival (without_budget n root weights.now marks.now) tail head) × (g.0 < n)) }
+    ensures none { IfNone result (first-rival (without_budget n root weights.now marks.now) tail head ≡ n) }
 {
-    let mut other: u32 = 0;
-    while other < n {
+    for other in 0..n {
         if is_rival_tail(weights, marks, n, root, tail, head, other) {
-            return other;
+            return Some(Vertex(other));
         }
-        other += 1;
     }
-    n
+    None
 }
 
 // The plan with the arc as the only one into its head.
@@ -68,7 +68,7 @@ pub fn plan_forced<'a>(
     tail: u32,
     head: u32,
 ) -> FirstPlan
-    requires { (valid_instance (instance_with n root budget weights.now marks.now) ≡ true) × (length weights.now ≡ cells) × (length marks.now ≡ cells) × (head < max_vertices) }
+    requires { (valid_instance (instance_with n root budget weights.now marks.now) ≡ true) × (head < max_vertices) }
     ensures { PlansFirst (forced_instance (instance_with n root budget weights.now marks.now) tail head) result }
 {
     let mut m = remaining_matrix(weights, marks, n, root);
@@ -86,7 +86,7 @@ pub fn plan_deleted<'a>(
     tail: u32,
     head: u32,
 ) -> FirstPlan
-    requires { (valid_instance (instance_with n root budget weights.now marks.now) ≡ true) × (length weights.now ≡ cells) × (length marks.now ≡ cells) × (tail < max_vertices) × (head < max_vertices) }
+    requires { (valid_instance (instance_with n root budget weights.now marks.now) ≡ true) × (tail < max_vertices) × (head < max_vertices) }
     ensures { PlansFirst (deleted_instance (instance_with n root budget weights.now marks.now) tail head) result }
 {
     let mut m = remaining_matrix(weights, marks, n, root);
@@ -102,8 +102,7 @@ fn is_beaten(budget: u32, total: u32, other: Outcome) -> bool
         return false;
     }
     match other {
-        Outcome::Plan(least) => least < total,
-        Outcome::Over(least) => least < total,
+        Outcome::Plan(least) | Outcome::Over(least) => least < total,
         Outcome::NoTree => false,
     }
 }
@@ -113,21 +112,20 @@ fn is_unbeaten(budget: u32, own: Outcome, other: Outcome) -> bool
     ensures { result ≡ unbeaten budget own other }
 {
     match own {
-        Outcome::Plan(total) => !is_beaten(budget, total, other),
-        Outcome::Over(total) => !is_beaten(budget, total, other),
+        Outcome::Plan(total) | Outcome::Over(total) => !is_beaten(budget, total, other),
         Outcome::NoTree => false,
     }
 }
 
 // The state of an arc by both outcomes: with it alone into its head, and without it.
-pub fn state_by(budget: u32, forced: Outcome, deleted: Outcome) -> u8
-    ensures { result ≡ state-of budget forced deleted }
+pub fn state_by(budget: u32, forced: Outcome, deleted: Outcome) -> State
+    ensures { state_number result ≡ state-of budget forced deleted }
 {
     if !is_unbeaten(budget, forced, deleted) {
-        return EXCLUDED;
+        return State::Excluded;
     }
     if is_unbeaten(budget, deleted, forced) {
-        return OPTIONAL;
+        return State::Optional;
     }
-    MANDATORY
+    State::Mandatory
 }

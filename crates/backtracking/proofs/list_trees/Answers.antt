@@ -21,14 +21,14 @@ use Rattle.backtracking.proofs.list_trees.Goals as goal
 pub remaining_matrix-m-requires : goal.remaining_matrix-m-requires
 remaining_matrix-m-requires c =
     let a = c.args in
-    ((valid_matrix (instance_with a.n a.root a.budget a.weights.now a.marks.now) c.requires.0).small, c.requires.1, c.requires.2)
+    (valid_matrix (instance_with a.n a.root a.budget a.weights.now a.marks.now) c.requires.0).small
 
 pub settle-requires : goal.settle-requires
 settle-requires c =
     let a = c.args in
     let s = instance_with a.n a.root a.budget a.weights.now a.marks.now in
     let made = c.remaining_matrix-m.ensures ∙ sym (matrix_budget a.n a.root a.budget a.weights.now a.marks.now) in
-    (subst (λ (x : List ℕ). Settling x (replicate 32 no_parent) s.n s.root 0 0) (sym made) (first_settling s (valid_matrix s c.requires.0)), refl, omega (arith, c.requires.3))
+    (subst (λ (x : List ℕ). Settling x (replicate 32 no_parent) s.n s.root 0 0) (sym made) (first_settling s (valid_matrix s c.requires.0)), refl, omega (arith, c.requires.1))
 
 pub returns : goal.returns
 unfolding events

@@ -1,6 +1,6 @@
 -- One arc is exchanged for a tail that is no descendant of the head, two for the others. Assumes nothing.
 use mathlib.Core.Path.{◌≡◌}
-use Prim.Native.Nat.{◌-◌, ◌≤◌}
+use Prim.Native.Nat.{◌≤◌}
 use lib.ListN.{length, take}
 use Rattle.instance.specs.Limits.{max_vertices}
 use Rattle.instance.specs.Matrix.{unmarked}
@@ -9,6 +9,3 @@ use Rattle.detours.proofs.detour_costs.Given as goal
 
 abbrev pub invariant-loop-t : goal.invariant-loop-t
 invariant-loop-t l = (l.t ≤ l.n) × (length l.table ≡ max_vertices) × Detours (unmarked l.n l.root l.m) (take l.n l.parents) l.head l.t l.table
-
-abbrev pub decreases-loop-t : goal.decreases-loop-t
-decreases-loop-t l = l.n - l.t

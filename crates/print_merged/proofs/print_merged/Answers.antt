@@ -5,7 +5,7 @@ use Rattle.price_merge.proofs.MergeLaws.{merged_within}
 use Rattle.print_merged.proofs.print_merged.Goals as goal
 
 pub slice_bounds-list-end : goal.slice_bounds-list-end
-slice_bounds-list-end c = let m = c.merge_lists-merged in merged_within _ _ _ _ _ _ m.result m.ensures
+slice_bounds-list-end c = merged_within _ _ _ _ _ _ _ c.in-Ok.ensures
 
 pub slice_bounds-write_all-end : goal.slice_bounds-write_all-end
-slice_bounds-write_all-end c = let m = c.merge_lists-merged in sym (length-take-le _ _ (merged_within _ _ _ _ _ _ m.result m.ensures))
+slice_bounds-write_all-end c = sym (length-take-le _ _ (merged_within _ _ _ _ _ _ _ c.in-Ok.ensures))

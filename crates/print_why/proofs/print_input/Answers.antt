@@ -4,4 +4,4 @@ use lib.Seq.{length-take-le}
 use Rattle.print_why.proofs.print_input.Goals as goal
 
 pub slice_bounds-print_why-end : goal.slice_bounds-print_why-end
-slice_bounds-print_why-end c = sym (length-take-le _ _ c.read_input-input.ensures)
+slice_bounds-print_why-end c = sym (length-take-le _ _ c.in-Ok.ensures)

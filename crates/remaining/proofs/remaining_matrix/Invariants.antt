@@ -1,6 +1,6 @@
 -- `remaining::remaining_matrix` meets its contract: the cells that were passed are those of the matrix. Assumes
 -- nothing.
-use Prim.Native.Nat.{◌-◌, ◌≤◌}
+use Prim.Native.Nat.{◌≤◌}
 use Rattle.base.proofs.OverwriteLaws.{Overwritten}
 use Rattle.instance.specs.Limits.{cells}
 use Rattle.instance.specs.Instance.{without_budget}
@@ -9,6 +9,3 @@ use Rattle.remaining.proofs.remaining_matrix.Given as goal
 
 abbrev pub invariant-loop-i : goal.invariant-loop-i
 invariant-loop-i l = (l.i ≤ cells) × Overwritten cells l.initial.w l.w (matrix_cell (without_budget l.n l.root l.weights l.marks)) l.i
-
-abbrev pub decreases-loop-i : goal.decreases-loop-i
-decreases-loop-i l = cells - l.i

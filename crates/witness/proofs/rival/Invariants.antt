@@ -11,6 +11,3 @@ invariant-loop-other l =
     (l.other ≤ l.n)
     × (definitions.rival (without_budget l.n l.root l.weights l.marks) l.tail l.head
     ≡ least_from (l.n - l.other) l.other (is_rival (without_budget l.n l.root l.weights l.marks) l.tail l.head))
-
-abbrev pub decreases-loop-other : goal.decreases-loop-other
-decreases-loop-other l = l.n - l.other

@@ -3,7 +3,7 @@
 -- nothing.
 use mathlib.Core.Path.{◌≡◌, refl, sym, ap, ◌∙◌, subst}
 use mathlib.Core.Bool.{Bool, true, false, ◌&&◌, ◌||◌}
-use mathlib.Core.List.{List, [], ◌∷◌}
+use mathlib.Core.List.{List, [], ◌∷◌, ◌++◌}
 use mathlib.Core.Logic.{⊎_elim}
 use mathlib.Core.WellFounded.Prod
 use Prim.Native.Nat.{ℕ, ◌+◌, ◌-◌, ◌<◌}
@@ -18,10 +18,11 @@ use Rattle.instance.specs.Instance.{cell}
 use Rattle.instance.specs.Arborescence.{reaches}
 use Rattle.instance.specs.Matrix.{matrix_instance}
 use Rattle.enumeration.specs.Events.{listed, events_from, tail_events}
-use Rattle.enumeration.specs.declared.Ended.TheVariants.{Complete}
+use Rattle.enumeration.specs.declared.Ended.{Ended}
+use Rattle.enumeration.specs.declared.Ended.TheVariants.{AtLimit}
 use Rattle.backtracking.specs.Listing.{place, place_of, scan}
 use Rattle.backtracking.proofs.PairLaws.{number_falls}
-use Rattle.backtracking.proofs.StepLaws.{scan_ended, leaf_over, leaf_in, at_root, by_tails, no_tails, one_tail, no_arc_there, limit_met, cycle_met, goes_on, over_met}
+use Rattle.backtracking.proofs.StepLaws.{complete_is, scan_ended, leaf_over, leaf_in, at_root, by_tails, no_tails, one_tail, no_arc_there, limit_met, cycle_met, goes_on, over_met}
 use Rattle.backtracking.proofs.SettlingLaws.{prefix_more, sum_small, weight_most, arc_missing, arc_there, tail_settled, root_settled, whole_sum, last_sum}
 use Rattle.backtracking.proofs.walk.+settle_try_tail.Goals as goal
 
@@ -139,16 +140,16 @@ try_tail-returns-then-weight-eq-NO_ARC t c =
       counted = omega arith;
     }
 
-pub try_tail-returns-then-left-eq0 : goal.try_tail-returns-then-left-eq0
-try_tail-returns-then-left-eq0 t c =
+pub try_tail-returns-then-progress-eq0 : goal.try_tail-returns-then-progress-eq0
+try_tail-returns-then-progress-eq0 t c =
     let a = c.args in
     let g = c.requires.0 in
     let h : a.v < a.n = c.requires.1 in
     let d = c.requires.2 in
     let k : a.t < a.n = c.requires.3 in
     record {
-      scanned = sym (limit_met a.v a.t (matrix_instance a.n a.root a.budget a.m.now) (take a.v a.parents.now) a.progress.left a.progress.trees a.progress.ended a.out.now
-          (arc_there a.m.now a.parents.now a.n a.root a.v a.sum g a.t k h a.budget d c.if-weight-eq-NO_ARC.false) (sym c.goes_on.ensures ∙ c.if-not-goes_on.false) c.if-left-eq0.true);
+      scanned = ap (λ (j : ℕ). place j a.progress.trees AtLimit a.out.now) c.if-progress-eq0.true ∙ sym (limit_met a.v a.t (matrix_instance a.n a.root a.budget a.m.now) (take a.v a.parents.now) a.progress.left a.progress.trees a.progress.ended a.out.now
+          (arc_there a.m.now a.parents.now a.n a.root a.v a.sum g a.t k h a.budget d c.if-weight-eq-NO_ARC.false) (sym c.goes_on.ensures ∙ c.if-not-goes_on.false) c.if-progress-eq0.true);
       counted = omega arith;
     }
 
@@ -174,12 +175,12 @@ try_tail-returns-then-ends_there t c =
     let arc = arc_there a.m.now a.parents.now a.n a.root a.v a.sum g a.t k h a.budget d c.if-weight-eq-NO_ARC.false in
     let on = sym c.goes_on.ensures ∙ c.if-not-goes_on.false in
     record {
-      scanned = sym (⊎_elim
-          (λ (q : cycle ≡ true). cycle_met a.v a.t (matrix_instance a.n a.root a.budget a.m.now) (take a.v a.parents.now) a.progress.left a.progress.trees a.progress.ended a.out.now arc on c.if-left-eq0.false q)
+      scanned = ap (λ (e : Ended). place (a.progress.left - 1) a.progress.trees e a.out.now) (complete_is a.progress.ended on) ∙ sym (⊎_elim
+          (λ (q : cycle ≡ true). cycle_met a.v a.t (matrix_instance a.n a.root a.budget a.m.now) (take a.v a.parents.now) a.progress.left a.progress.trees a.progress.ended a.out.now arc on c.if-progress-eq0.false q)
           (λ (q : cycle ≡ false).
           let r : last && over ≡ true = subst (λ (x : Bool). x || (last && over) ≡ true) q (sym c.ends_there.ensures ∙ c.if-ends_there.true) in
           let e : a.v + 1 ≡ a.n = eqb-true (a.v + 1) a.n (and_left last over r) in
-          over_met a.v a.t (matrix_instance a.n a.root a.budget a.m.now) (take a.v a.parents.now) a.progress.left a.progress.trees a.progress.ended a.out.now arc on c.if-left-eq0.false q e
+          over_met a.v a.t (matrix_instance a.n a.root a.budget a.m.now) (take a.v a.parents.now) a.progress.left a.progress.trees a.progress.ended a.out.now arc on c.if-progress-eq0.false q e
           (omega (arith, last_sum a.m.now a.parents.now a.n a.root a.v a.sum g a.t a.budget k h d e, ltb-true a.budget after (and_right last over r))))
           (test cycle));
       counted = omega arith;
@@ -193,7 +194,7 @@ try_tail-settle-requires t c =
     let d = c.requires.2 in
     let k : a.t < a.n = c.requires.3 in (
       omega (arith, number_falls (a.n - (a.v + 1), a.n + 1) (a.n - a.v, a.n - a.t) (omega (arith, g.matrix_ok.small)) (Prod.Lex-left _ _ (omega arith))),
-      (tail_settled a.m.now a.parents.now a.n a.root a.v a.sum g a.t k h d, refl, omega (arith, c.if-left-eq0.false)),
+      (tail_settled a.m.now a.parents.now a.n a.root a.v a.sum g a.t k h d, sym c.goes_on.ensures ∙ c.if-not-goes_on.false, omega (arith, c.if-progress-eq0.false)),
     )
 
 pub try_tail-returns : goal.try_tail-returns
@@ -206,10 +207,12 @@ try_tail-returns t c =
     let cycle = reaches a.n a.v (take a.v a.parents.now) a.t in
     record {
       scanned = c.settle.ensures.scanned
-          ∙ ap (λ (ps : List ℕ). scan a.n (events_from (a.n - (a.v + 1)) (a.v + 1) (matrix_instance a.n a.root a.budget a.m.now) ps) (place (a.progress.left - 1) a.progress.trees Complete a.out.now))
+          ∙ ap (λ (ps : List ℕ). scan a.n (events_from (a.n - (a.v + 1)) (a.v + 1) (matrix_instance a.n a.root a.budget a.m.now) ps) (place (a.progress.left - 1) a.progress.trees a.progress.ended a.out.now))
           (prefix_more a.parents.now a.v a.t (omega (arith, g.places, g.matrix_ok.small)))
+          ∙ ap (λ (e : Ended). scan a.n (events_from (a.n - (a.v + 1)) (a.v + 1) (matrix_instance a.n a.root a.budget a.m.now) (take a.v a.parents.now ++ a.t ∷ [])) (place (a.progress.left - 1) a.progress.trees e a.out.now))
+          (complete_is a.progress.ended (sym c.goes_on.ensures ∙ c.if-not-goes_on.false))
           ∙ sym (goes_on a.v a.t (matrix_instance a.n a.root a.budget a.m.now) (take a.v a.parents.now) a.progress.left a.progress.trees a.progress.ended a.out.now
-          (arc_there a.m.now a.parents.now a.n a.root a.v a.sum g a.t k h a.budget d c.if-weight-eq-NO_ARC.false) (sym c.goes_on.ensures ∙ c.if-not-goes_on.false) c.if-left-eq0.false
+          (arc_there a.m.now a.parents.now a.n a.root a.v a.sum g a.t k h a.budget d c.if-weight-eq-NO_ARC.false) (sym c.goes_on.ensures ∙ c.if-not-goes_on.false) c.if-progress-eq0.false
           (or_false_left cycle (eqb (a.v + 1) a.n && ltb a.budget (a.sum + get_or a.m.now (cell a.t a.v) 0)) (sym c.ends_there.ensures ∙ c.if-ends_there.false)));
       counted = c.settle.ensures.counted;
     }

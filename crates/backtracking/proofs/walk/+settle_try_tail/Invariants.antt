@@ -21,6 +21,3 @@ decreases-try_tail l = as_number (l.n - l.v, l.n - l.t)
 abbrev pub invariant-settle-loop-t : goal.invariant-settle-loop-t
 invariant-settle-loop-t l = (l.t ≤ l.n) × (length l.out ≡ length l.initial.out) × (l.p.trees + l.p.left ≤ max_tries + 1)
     × (place_of l.p l.out ≡ scan l.n (join_below l.t (tail_events (l.n - (l.v + 1)) l.v (matrix_instance l.n l.root l.budget l.m) (take l.v l.parents))) (place_of l.initial.p l.initial.out))
-
-abbrev pub decreases-settle-loop-t : goal.decreases-settle-loop-t
-decreases-settle-loop-t l = l.n - l.t

@@ -9,7 +9,6 @@ use Rattle.commands.proofs.ValidLaws.{valid_parts}
 use Rattle.board.specs.declared.Board.{Board}
 use Rattle.board.specs.ModelOf.{model_of}
 use Rattle.board.proofs.ModelOfLaws.{length_history}
-use Rattle.board.proofs.SetMarksLaws.{arc_mark_low}
 use Rattle.board.proofs.ChangeOfLaws.{mark_gives, marks_gives, budget_gives, undo_gives}
 use Rattle.board.proofs.changes.change_of.Goals as goal
 
@@ -17,26 +16,18 @@ small : (b : Board) → valid (model_of b) ≡ true → b.n ≤ max_vertices
 small b ok = (valid_parts (model_of b) ok).n_high
 
 pub mark_change-requires : goal.mark_change-requires
-mark_change-requires c = (small _ c.requires.count_value, c.requires.weights_len.0, c.requires.weights_len.1)
-
-pub marks_change-requires : goal.marks_change-requires
-marks_change-requires c =
-    let ok = c.requires.count_value in
-    record {
-      n_le_max_vertices = (small _ ok, c.requires.weights_len.0, c.requires.weights_len.1);
-      by_index = λ h _ a. arc_mark_low _ ok _ h a;
-    }
+mark_change-requires c = small _ c.requires
 
 pub undo_change-requires : goal.undo_change-requires
-undo_change-requires c = rw (length_history c.args.count c.args.records) at (valid_parts _ c.requires.count_value).few
+undo_change-requires c = rw (length_history c.args.b.now.count c.args.b.now.records) at (valid_parts _ c.requires).few
 
 pub returns-in-SetMark : goal.returns-in-SetMark
 unfolding applied
-returns-in-SetMark c = rw (c.in-SetMark.is, c.mark_change.ensures) (mark_gives _ (small _ c.requires.count_value) _ _ _)
+returns-in-SetMark c = rw (c.in-SetMark.is, c.mark_change.ensures) (mark_gives _ (small _ c.requires) _ _ _)
 
 pub returns-in-SetMarks : goal.returns-in-SetMarks
 unfolding applied
-returns-in-SetMarks c = rw (c.in-SetMarks.is, c.marks_change.ensures) (marks_gives _ c.requires.count_value _ _ _)
+returns-in-SetMarks c = rw (c.in-SetMarks.is, c.marks_change.ensures) (marks_gives _ c.requires _ _ _)
 
 pub returns-in-SetBudget : goal.returns-in-SetBudget
 unfolding applied
@@ -44,4 +35,4 @@ returns-in-SetBudget c = rw (c.in-SetBudget.is, c.budget_change.ensures) (budget
 
 pub returns-in-TakeBack : goal.returns-in-TakeBack
 unfolding applied
-returns-in-TakeBack c = rw (c.in-TakeBack.is, c.undo_change.ensures) (undo_gives _ c.requires.count_value)
+returns-in-TakeBack c = rw (c.in-TakeBack.is, c.undo_change.ensures) (undo_gives _ c.requires)

@@ -1,45 +1,45 @@
 -- `mark_change` is the definition: the refusal that was found, or the mark that is there and the new one. Assumes
 -- nothing.
-use mathlib.Core.Path.{◌≡◌, sym, ◌∙◌}
+use mathlib.Core.Path.{◌≡◌, refl, sym}
 use mathlib.Core.List.{List}
 use Prim.Native.Nat.{ℕ}
 use native.Mathlib.Omega.{arith}
+use Rattle.std.proofs.lemmas.Result.{err_from_is_err_and}
 use Rattle.instance.specs.Matrix.{unmarked}
 use Rattle.instance.proofs.ArcLaws.{Ends, arc_ends}
 use Rattle.commands.specs.Commands.{mark_refusal}
 use Rattle.commands.proofs.CommandLaws.{unrefused}
 use Rattle.board.specs.Changes.{mark_change}
-use Rattle.board.proofs.ChangeOfLaws.{changed_refused, changed_recorded}
+use Rattle.board.proofs.ChangeOfLaws.{outcome_refused, changed_recorded}
 use Rattle.board.proofs.changes.mark_change.Goals as goal
 
 -- an arc that no number refuses has its ends below n
-ends :
-    (n root count tail head k : ℕ) (ws : List ℕ) →
-    k ≡ mark_refusal (unmarked n root ws) count tail head → k ≡ 0 → Ends n root tail head
+ends : (n root count tail head : ℕ) (ws : List ℕ) → 0 ≡ mark_refusal (unmarked n root ws) count tail head → Ends n root tail head
 unfolding unmarked
-ends n root count tail head k ws e z =
-    let s = unmarked n root ws in arc_ends s tail head (unrefused s count tail head (sym e ∙ z)).arc
+ends n root count tail head ws e =
+    let s = unmarked n root ws in arc_ends s tail head (unrefused s count tail head (sym e)).arc
 
-pub returns-then-refusal-ne0 : goal.returns-then-refusal-ne0
+pub returns-in_err-check_mark : goal.returns-in_err-check_mark
 unfolding mark_change
-returns-then-refusal-ne0 c = rw (← c.mark_refusal-refusal.ensures) (changed_refused _ _ _ c.if-refusal-ne0.true)
+returns-in_err-check_mark c =
+    let p = err_from_is_err_and c.from_residual.result c.from_residual.ensures.1 in
+    rw (p.1, p.2) (outcome_refused _ _ _ _ c.in_err-check_mark.ensures)
 
 pub overflow_mul-old : goal.overflow_mul-old
-overflow_mul-old c = omega (arith, ends _ _ _ _ _ _ _ c.mark_refusal-refusal.ensures c.if-refusal-ne0.false)
+overflow_mul-old c = omega (arith, ends _ _ _ _ _ _ c.in_ok-check_mark.ensures)
 
 pub overflow_add-old : goal.overflow_add-old
-overflow_add-old c = omega (arith, ends _ _ _ _ _ _ _ c.mark_refusal-refusal.ensures c.if-refusal-ne0.false)
+overflow_add-old c = omega (arith, ends _ _ _ _ _ _ c.in_ok-check_mark.ensures)
 
-pub bounds-marks-tail : goal.bounds-marks-tail
-bounds-marks-tail c = omega (arith, ends _ _ _ _ _ _ _ c.mark_refusal-refusal.ensures c.if-refusal-ne0.false)
+pub bounds-b-tail : goal.bounds-b-tail
+bounds-b-tail c = omega (arith, ends _ _ _ _ _ _ c.in_ok-check_mark.ensures)
 
 pub overflow_cast-t : goal.overflow_cast-t
-overflow_cast-t c = omega (arith, ends _ _ _ _ _ _ _ c.mark_refusal-refusal.ensures c.if-refusal-ne0.false)
+overflow_cast-t c = omega (arith, ends _ _ _ _ _ _ c.in_ok-check_mark.ensures)
 
 pub overflow_cast-h : goal.overflow_cast-h
-overflow_cast-h c = omega (arith, ends _ _ _ _ _ _ _ c.mark_refusal-refusal.ensures c.if-refusal-ne0.false)
+overflow_cast-h c = omega (arith, ends _ _ _ _ _ _ c.in_ok-check_mark.ensures)
 
 pub returns : goal.returns
 unfolding mark_change
-returns c =
-    rw (← c.mark_refusal-refusal.ensures, ← c.mark_number-number.ensures) (changed_recorded _ _ _ c.if-refusal-ne0.false)
+returns c = rw (← c.in_ok-check_mark.ensures, ← c.from.ensures) (changed_recorded _ _ _ refl)

@@ -8,7 +8,4 @@ use Rattle.board.proofs.setters.setter.Given as goal
 
 abbrev pub invariant-loop-k : goal.invariant-loop-k
 invariant-loop-k l =
-    (l.k ≤ max_records) × (definitions.setter (history_of l.count l.records) l.tail l.head ≡ definitions.setter (history_of l.k l.records) l.tail l.head)
-
-abbrev pub decreases-loop-k : goal.decreases-loop-k
-decreases-loop-k l = l.k
+    (l.k ≤ max_records) × (definitions.setter (history_of l.b.count l.b.records) l.tail l.head ≡ definitions.setter (history_of l.k l.b.records) l.tail l.head)

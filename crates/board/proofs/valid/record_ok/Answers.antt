@@ -13,6 +13,3 @@ returns-else-is_arc c = rw c.in-OldMark.is (simp (← c.is_arc.ensures, c.if-is_
 pub returns-in-OldBudget : goal.returns-in-OldBudget
 unfolding record_ok
 returns-in-OldBudget c = rw c.in-OldBudget.is
-
-pub returns-in-OldMarks : goal.returns-in-OldMarks
-returns-in-OldMarks c = rw c.in-OldMarks.is c.are_heads_ok.ensures

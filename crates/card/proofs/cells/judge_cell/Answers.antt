@@ -11,14 +11,14 @@ pub returns-then-weight-le-MAX_WEIGHT : goal.returns-then-weight-le-MAX_WEIGHT
 unfolding cell_refusal
 returns-then-weight-le-MAX_WEIGHT c = simp (le-leb _ _ c.if-weight-le-MAX_WEIGHT.true, ne_eqb _ _ c.if-mark-eq-UNUSED_MARK.false)
 
-pub returns-then-mark-eq-FREE : goal.returns-then-mark-eq-FREE
+pub returns-then-weight-ne-NO_ARC : goal.returns-then-weight-ne-NO_ARC
 unfolding cell_refusal
-returns-then-mark-eq-FREE c = simp (lt-leb _ _ c.if-weight-le-MAX_WEIGHT.false, eq-eqb _ _ c.if-weight-eq-NO_ARC.true, eq-eqb _ _ c.if-mark-eq-FREE.true)
+returns-then-weight-ne-NO_ARC c = simp (lt-leb _ _ c.if-weight-le-MAX_WEIGHT.false, ne_eqb _ _ c.if-weight-ne-NO_ARC.true)
 
-pub returns-then-weight-eq-NO_ARC : goal.returns-then-weight-eq-NO_ARC
+pub returns-then-mark-ne-FREE : goal.returns-then-mark-ne-FREE
 unfolding cell_refusal
-returns-then-weight-eq-NO_ARC c = simp (lt-leb _ _ c.if-weight-le-MAX_WEIGHT.false, eq-eqb _ _ c.if-weight-eq-NO_ARC.true, ne_eqb _ _ c.if-mark-eq-FREE.false)
+returns-then-mark-ne-FREE c = simp (lt-leb _ _ c.if-weight-le-MAX_WEIGHT.false, eq-eqb _ _ c.if-weight-ne-NO_ARC.false, ne_eqb _ _ c.if-mark-ne-FREE.true)
 
 pub returns : goal.returns
 unfolding cell_refusal
-returns c = simp (lt-leb _ _ c.if-weight-le-MAX_WEIGHT.false, ne_eqb _ _ c.if-weight-eq-NO_ARC.false)
+returns c = simp (lt-leb _ _ c.if-weight-le-MAX_WEIGHT.false, eq-eqb _ _ c.if-weight-ne-NO_ARC.false, eq-eqb _ _ c.if-mark-ne-FREE.false)

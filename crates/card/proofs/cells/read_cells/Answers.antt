@@ -11,6 +11,7 @@ use Rattle.base.proofs.ListLaws.{tabulate_none, tabulate_store, tabulate_whole}
 use Rattle.bits.specs.Bits.{bits_in, field}
 use Rattle.bits.proofs.FieldLaws.{field_drop}
 use Rattle.instance.specs.Limits.{no_arc, free, cells}
+use Rattle.instance.specs.RefusalNumbers.{refusal_number}
 use Rattle.card_format.specs.Widths.{weight_width, mark_width}
 use Rattle.card_format.specs.Card.{on_card, cell_refusal, cells_refusal}
 use Rattle.card_format.specs.Offsets.{offset, cell_field, weight_field, mark_field}
@@ -18,6 +19,8 @@ use Rattle.card_format.proofs.OffsetLaws.{offset_start, offset_next, offset_up, 
 use Rattle.card_format.proofs.CellLaws.{fields_by_index, judged_none, judged_faulty, judged_next}
 use Rattle.card.specs.Cells.{CellRead}
 use Rattle.card.specs.declared.cells.Cell.{Cell}
+use Rattle.instance.proofs.RefusalLaws.{not_0}
+use Rattle.std.proofs.lemmas.Result.{err_from_is_err_and}
 use Rattle.card.proofs.cells.read_cells.Goals as goal
 use Rattle.card.proofs.cells.read_cells.Invariants.{weight_of, mark_of}
 
@@ -38,9 +41,6 @@ module _ (bs : List ℕ) (start n r i at : ℕ) (x : Cell) (k : CellRead bs n r 
 
   mark_here : x.mark ≡ mark_field n r (drop start bs) i
   mark_here = k.its_mark ∙ here_field bs start n r i weight_width mark_width free at e
-
-pub overflow_add-end : goal.overflow_add-end
-overflow_add-end c = omega (arith, c.requires)
 
 pub loop-i-init : goal.loop-i-init
 unfolding tabulate
@@ -66,8 +66,8 @@ read_cell-cell-requires c =
       λ t. let w = offset_within a.n a.root l.i cells (omega arith) t in omega (arith, c.requires),
     )
 
-pub returns-then-answer-ne0 : goal.returns-then-answer-ne0
-returns-then-answer-ne0 c =
+pub returns-in_err-judge_cell : goal.returns-in_err-judge_cell
+returns-in_err-judge_cell c =
     let l = c.loop-i in
     let a = c.args in
     let bs = drop a.start (bits_in a.card.now) in
@@ -76,29 +76,16 @@ returns-then-answer-ne0 c =
     let k = c.read_cell-cell.ensures in
     let w = weight-here (bits_in a.card.now) a.start a.n a.root l.i l.end _ k l.invariant.here in
     let m = mark_here (bits_in a.card.now) a.start a.n a.root l.i l.end _ k l.invariant.here in
-    let e : c.judge_cell-answer.result ≡ cell_refusal (f l.i) (g l.i) = c.judge_cell-answer.ensures ∙ rw (w, m) in
-    let z = judged_faulty (cells - l.i) l.i f g (omega arith) (λ q. c.if-answer-ne0.true (e ∙ q)) in
-    record {
+    let r = c.in_err-judge_cell.field-0.0 in
+    let e : refusal_number r ≡ cell_refusal (f l.i) (g l.i) = c.in_err-judge_cell.ensures ∙ rw (w, m) in
+    let z = judged_faulty (cells - l.i) l.i f g (omega arith) (λ q. not_0 r (e ∙ q)) in
+    let p = err_from_is_err_and c.from_residual.result c.from_residual.ensures.1 in
+    rw (p.1, p.2) (record {
       judged = e ∙ sym (rw (fields_by_index 0 weight_width no_arc a.n a.root bs, fields_by_index weight_width mark_width free a.n a.root bs) (l.invariant.judged_so_far ∙ z));
-      all_weights = λ q. absurd (c.if-answer-ne0.true q);
-      all_marks = λ q. absurd (c.if-answer-ne0.true q);
-      last_end = λ q. absurd (c.if-answer-ne0.true q);
-    }
-
-pub offset_bounds-weights-i : goal.offset_bounds-weights-i
-offset_bounds-weights-i c = omega arith
-
-pub bounds-weights-i : goal.bounds-weights-i
-bounds-weights-i c = omega arith
-
-pub bounds-marks-i : goal.bounds-marks-i
-bounds-marks-i c = omega arith
-
-pub overflow_add-i : goal.overflow_add-i
-overflow_add-i c = omega arith
-
-pub loop-i-smaller : goal.loop-i-smaller
-loop-i-smaller c = omega arith
+      all_weights = tt;
+      all_marks = tt;
+      last_end = tt;
+    })
 
 pub loop-i-preserved : goal.loop-i-preserved
 loop-i-preserved c =
@@ -109,7 +96,7 @@ loop-i-preserved c =
     let k = c.read_cell-cell.ensures in
     let w = weight-here (bits_in a.card.now) a.start a.n a.root l.i l.end _ k l.invariant.here in
     let m = mark_here (bits_in a.card.now) a.start a.n a.root l.i l.end _ k l.invariant.here in
-    let e : c.judge_cell-answer.result ≡ cell_refusal (f l.i) (g l.i) = c.judge_cell-answer.ensures ∙ rw (w, m) in
+    let e : 0 ≡ cell_refusal (f l.i) (g l.i) = c.in_ok-judge_cell.ensures ∙ rw (w, m) in
     let s : cells - l.i - 1 ≡ cells - (l.i + 1) = omega arith in
     record {
       i-in = omega arith;
@@ -118,7 +105,7 @@ loop-i-preserved c =
       marks_long = simp length-set l.invariant.marks_long;
       weights-so-far = tabulate_store l.weights l.i f _ (omega arith) l.invariant.weights-so-far w;
       marks-so-far = tabulate_store l.marks l.i g _ (omega arith) l.invariant.marks-so-far m;
-      judged_so_far = l.invariant.judged_so_far ∙ rw s at (judged_next (cells - l.i) l.i f g (omega arith) (sym e ∙ c.if-answer-ne0.false));
+      judged_so_far = l.invariant.judged_so_far ∙ rw s at (judged_next (cells - l.i) l.i f g (omega arith) (sym e));
     }
 
 pub returns : goal.returns
@@ -133,7 +120,7 @@ returns c =
     let none : cells_refusal (tabulate cells f) (tabulate cells g) ≡ 0 = l.invariant.judged_so_far ∙ rw y (judged_none l.i f g) in
     record {
       judged = sym (rw (fields_by_index 0 weight_width no_arc a.n a.root bs, fields_by_index weight_width mark_width free a.n a.root bs) none);
-      all_weights = λ q. tabulate_whole l.weights cells l.i f l.invariant.weights_long z l.invariant.weights-so-far ∙ sym (fields_by_index 0 weight_width no_arc a.n a.root bs);
-      all_marks = λ q. tabulate_whole l.marks cells l.i g l.invariant.marks_long z l.invariant.marks-so-far ∙ sym (fields_by_index weight_width mark_width free a.n a.root bs);
-      last_end = λ q. rw z at l.invariant.here;
+      all_weights = tabulate_whole l.weights cells l.i f l.invariant.weights_long z l.invariant.weights-so-far ∙ sym (fields_by_index 0 weight_width no_arc a.n a.root bs);
+      all_marks = tabulate_whole l.marks cells l.i g l.invariant.marks_long z l.invariant.marks-so-far ∙ sym (fields_by_index weight_width mark_width free a.n a.root bs);
+      last_end = rw z at l.invariant.here;
     }

@@ -31,6 +31,3 @@ pub record Reading (card : List ℕ) (start n root : ℕ) (weights marks : List 
 
 abbrev pub invariant-loop-i : goal.invariant-loop-i
 invariant-loop-i l = Reading l.card l.start l.n l.root l.weights l.marks l.end l.i
-
-abbrev pub decreases-loop-i : goal.decreases-loop-i
-decreases-loop-i l = cells - l.i

@@ -1,9 +1,9 @@
 -- `put_cell` meets its contract: two fields of a cell on the card, or nothing. Assumes nothing.
 use mathlib.Core.Path.{◌≡◌, ◌∙◌, sym}
-use mathlib.Core.Bool.{true, false}
+use mathlib.Core.Bool.{true}
 use native.Mathlib.Omega.{arith}
 use Rattle.bits.proofs.NumberLaws.{length_bits_of}
-use Rattle.bits.proofs.WriterLaws.{put_none, put_then, ready_next, ready_fewer}
+use Rattle.bits.proofs.WriterLaws.{put_then, ready_next, ready_fewer}
 use Rattle.card_format.specs.Widths.{weight_width, mark_width, cell_width}
 use Rattle.card_format.specs.Card.{on_card}
 use Rattle.card.proofs.WriteLaws.{cell_room}
@@ -25,8 +25,3 @@ pub returns-then-on_card : goal.returns-then-on_card
 returns-then-on_card c =
     let t : on_card c.args.n c.args.root c.args.i ≡ true = sym c.on_card.ensures ∙ c.if-on_card.true in
     rw t (put_then _ _ _ _ _ _ _ _ c.put_bits-after_weight.ensures c.put_bits.ensures)
-
-pub returns : goal.returns
-returns c =
-    let t : on_card c.args.n c.args.root c.args.i ≡ false = sym c.on_card.ensures ∙ c.if-on_card.false in
-    rw t (put_none c.args.out.now c.args.w c.requires.1.few)

@@ -1,27 +1,15 @@
 -- `put_cells` meets its contract. The loop's invariant is `Putting`, below. Assumes nothing.
-use mathlib.Core.Path.{◌≡◌, refl, ◌∙◌}
-use mathlib.Core.List.{[], ◌++◌, append_assoc, append-nil}
+use mathlib.Core.Path.{◌≡◌, ◌∙◌}
+use mathlib.Core.List.{◌++◌, append_assoc, append-nil}
 use Prim.Native.Nat.{◌<◌, ◌+◌, ◌-◌}
 use native.Mathlib.Omega.{arith}
 use lib.ListN.{get_or}
-use Rattle.bits.proofs.WriterLaws.{put_none, put_then, ready_part}
+use Rattle.bits.proofs.WriterLaws.{put_then, ready_part}
 use Rattle.instance.specs.Limits.{cells}
 use Rattle.instance.specs.Instance.{without_budget}
 use Rattle.card_format.specs.Card.{one_cell, cell_bits}
 use Rattle.card_format.proofs.WrittenBits.{cell_bits_none, next_cell}
 use Rattle.card.proofs.write.put_cells.Goals as goal
-
-pub loop-i-init : goal.loop-i-init
-loop-i-init c = record { done = []; put = put_none _ _ c.requires.ready.few; left = refl; i-in = omega arith }
-
-pub offset_bounds-weights-i : goal.offset_bounds-weights-i
-offset_bounds-weights-i c = omega arith
-
-pub bounds-weights-i : goal.bounds-weights-i
-bounds-weights-i c = omega arith
-
-pub bounds-marks-i : goal.bounds-marks-i
-bounds-marks-i c = omega arith
 
 pub put_cell-w-requires : goal.put_cell-w-requires
 put_cell-w-requires c =
@@ -32,12 +20,6 @@ put_cell-w-requires c =
     let more = cell_bits (cells - (l.i + 1)) (l.i + 1) (without_budget a.n a.root a.weights.now a.marks.now) in
     let e = next_cell a.n a.root 0 a.weights.now a.marks.now l.i h c.requires.weights_len.0 c.requires.weights_len.1 in
     (h, ready_part _ _ _ _ l.invariant.done one more _ l.invariant.put (rw e at l.invariant.left) c.requires.ready)
-
-pub overflow_add-i : goal.overflow_add-i
-overflow_add-i c = omega arith
-
-pub loop-i-smaller : goal.loop-i-smaller
-loop-i-smaller c = omega arith
 
 pub loop-i-preserved : goal.loop-i-preserved
 loop-i-preserved c =
@@ -52,9 +34,6 @@ loop-i-preserved c =
       left = append_assoc l.invariant.done one _ ∙ rw e at l.invariant.left;
       i-in = omega arith;
     }
-
-pub shape_of-out : goal.shape_of-out
-shape_of-out c = c.loop-i.invariant.put.long
 
 pub returns : goal.returns
 returns c =

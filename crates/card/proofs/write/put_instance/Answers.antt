@@ -8,16 +8,14 @@ put_header-header-requires c =
     let a = c.args in
     header_room a.n a.root a.budget a.weights.now a.marks.now c.requires.n_le_max_vertices.0 c.requires.n_le_max_vertices.1 a.out.now a.start c.requires.ready
 
-pub put_cells-requires : goal.put_cells-requires
-put_cells-requires c =
-    let a = c.args in record {
-      weights_len = (c.requires.n_le_max_vertices.2, c.requires.n_le_max_vertices.3);
-      ready = cells_room a.n a.root a.budget a.weights.now a.marks.now c.requires.n_le_max_vertices.0 c.requires.n_le_max_vertices.1 a.out.now a.start c.requires.ready
-          _ _ c.put_header-header.ensures;
-    }
-
 pub returns : goal.returns
 returns c =
     let a = c.args in
     all_put a.n a.root a.budget a.weights.now a.marks.now c.requires.n_le_max_vertices.0 c.requires.n_le_max_vertices.1 a.out.now a.start c.requires.ready
     _ _ c.put_header-header.ensures _ _ c.put_cells.ensures
+
+pub put_cells-requires-clause-ready : goal.put_cells-requires-clause-ready
+put_cells-requires-clause-ready c =
+    let a = c.args in
+    cells_room a.n a.root a.budget a.weights.now a.marks.now c.requires.n_le_max_vertices.0 c.requires.n_le_max_vertices.1 a.out.now a.start c.requires.ready
+    _ _ c.put_header-header.ensures

@@ -1,27 +1,14 @@
 -- `cells_valid` judges every cell, from the last down. The invariant: the cells below k decide. Assumes nothing.
-use mathlib.Core.Path.{◌≡◌, refl, sym, ◌∙◌}
+use mathlib.Core.Path.{◌≡◌, sym, ◌∙◌}
 use native.Mathlib.Omega.{arith}
 use borrow.Author.Tests.{not-true, not-false}
 use Rattle.base.proofs.BoundedLaws.{all_none, all_fail, all_pass}
-use Rattle.instance.specs.Valid.{cell_valid}
 use Rattle.checks.proofs.valid.cells_valid.Goals as goal
-
-pub loop-k-init : goal.loop-k-init
-loop-k-init c = (omega arith, refl)
-
-pub overflow_sub-k : goal.overflow_sub-k
-overflow_sub-k c = omega arith
-
-pub cell_valid-requires : goal.cell_valid-requires
-cell_valid-requires c = record { i_lt_cells = omega arith; weights_len = c.requires }
 
 pub returns-then-not-cell_valid : goal.returns-then-not-cell_valid
 returns-then-not-cell_valid c =
     let l = c.loop-k in
     sym (l.invariant.1 ∙ all_fail l.k _ c.loop-k-test.true (sym c.cell_valid.ensures ∙ not-true _ c.if-not-cell_valid.true-raw))
-
-pub loop-k-smaller : goal.loop-k-smaller
-loop-k-smaller c = omega arith
 
 pub loop-k-preserved : goal.loop-k-preserved
 loop-k-preserved c =

@@ -10,6 +10,3 @@ abbrev pub invariant-loop-k : goal.invariant-loop-k
 invariant-loop-k l =
     (l.k ≤ 1024)
     × (all_below 1024 (cell_valid (without_budget l.n l.root l.weights l.marks)) ≡ all_below l.k (cell_valid (without_budget l.n l.root l.weights l.marks)))
-
-abbrev pub decreases-loop-k : goal.decreases-loop-k
-decreases-loop-k l = l.k

@@ -2,19 +2,20 @@
 use borrow.Author.Tests.{lt-ltb, le-ltb, le-leb, lt-leb}
 use Rattle.instance.specs.Valid.{header_valid}
 use Rattle.checks.proofs.valid.header_valid.Goals as goal
+use Rattle.checks.proofs.valid.header_valid.Goals.{then-n-lt1-via-then-n-lt1, then-n-lt1-via-else-n-lt1+then-n-gt-MAX_VERTICES}
 
 pub returns-then-n-lt1 : goal.returns-then-n-lt1
 unfolding header_valid
-returns-then-n-lt1 c = simp (lt-leb _ _ c.if-n-lt1.true)
+returns-then-n-lt1 c =
+    elim c.then-n-lt1.branch [
+      | then-n-lt1-via-then-n-lt1 w ↦ simp (lt-leb _ _ w.if-n-lt1.true)
+      | then-n-lt1-via-else-n-lt1+then-n-gt-MAX_VERTICES w ↦ simp (le-leb _ _ w.if-n-lt1.false, lt-leb _ _ w.if-n-gt-MAX_VERTICES.true)
+    ]
 
-pub returns-then-n-gt-MAX_VERTICES : goal.returns-then-n-gt-MAX_VERTICES
+pub returns-then-root-n : goal.returns-then-root-n
 unfolding header_valid
-returns-then-n-gt-MAX_VERTICES c = simp (le-leb _ _ c.if-n-lt1.false, lt-leb _ _ c.if-n-gt-MAX_VERTICES.true)
+returns-then-root-n c = simp (le-leb _ _ c.if-n-lt1.false, le-leb _ _ c.if-n-gt-MAX_VERTICES.false, lt-ltb _ _ c.if-root-n.true)
 
-pub returns-then-n-root : goal.returns-then-n-root
+pub returns-else-root-n : goal.returns-else-root-n
 unfolding header_valid
-returns-then-n-root c = simp (le-leb _ _ c.if-n-lt1.false, le-leb _ _ c.if-n-gt-MAX_VERTICES.false, le-ltb _ _ c.if-n-root.true)
-
-pub returns : goal.returns
-unfolding header_valid
-returns c = simp (le-leb _ _ c.if-n-lt1.false, le-leb _ _ c.if-n-gt-MAX_VERTICES.false, lt-ltb _ _ c.if-n-root.false)
+returns-else-root-n c = simp (le-leb _ _ c.if-n-lt1.false, le-leb _ _ c.if-n-gt-MAX_VERTICES.false, le-ltb _ _ c.if-root-n.false)

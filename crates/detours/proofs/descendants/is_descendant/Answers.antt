@@ -1,38 +1,24 @@
 -- The path goes on as long as neither the head nor the root is met; a parent is less deep. Assumes nothing.
-use mathlib.Core.Path.{◌≡◌, refl}
-use Prim.Native.Nat.{ℕ}
 use native.Mathlib.Omega.{arith}
+use Rattle.std.proofs.Common.{rules}
 use Rattle.paths.proofs.TreeLaws.{parent_read, rooted_tail, step_falls}
 use Rattle.paths.proofs.PathLaws.{root_avoids, descends_here, descends_up, avoids_up}
 use Rattle.detours.proofs.descendants.is_descendant.Goals as goal
 
-pub loop-v-init : goal.loop-v-init
-loop-v-init c = (c.requires.5, (λ b. b), (λ a. a))
-
 pub returns-then-v-head : goal.returns-then-v-head
 returns-then-v-head c =
     let l = c.loop-v in
-    record { under = λ _. l.invariant.1 (descends_here _ _ l.v c.if-v-head.true); apart = λ e. absurd (e refl) }
-
-pub overflow_cast-v : goal.overflow_cast-v
-overflow_cast-v c = omega arith
-
-pub bounds-parents-v : goal.bounds-parents-v
-bounds-parents-v c = omega arith
-
-pub overflow_cast-v-in-loop-v : goal.overflow_cast-v-in-loop-v
-overflow_cast-v-in-loop-v c =
-    omega (arith, rooted_tail c.args.n c.args.root c.loop-v.v c.args.parents.now c.requires.0 c.requires.1 c.requires.2 (omega arith) c.loop-v-test.true)
+    record { under = λ _. l.invariant.1 (descends_here _ _ l.v c.if-v-head.true); apart = λ e. absurd cc }
 
 pub loop-v-smaller : goal.loop-v-smaller
 loop-v-smaller c =
-    step_falls c.args.n c.args.root c.loop-v.v c.args.parents.now c.requires.0 c.requires.1 c.requires.2 (omega arith) c.loop-v-test.true
+    step_falls c.args.n c.args.root c.loop-v.v c.args.parents.now c.requires.0 (search rules) c.requires.1 (omega arith) c.loop-v-test.true
 
 pub loop-v-preserved : goal.loop-v-preserved
 loop-v-preserved c =
     let l = c.loop-v in
-    let p = parent_read c.args.n l.v c.args.parents.now c.requires.0 c.requires.1 l.invariant.0 in
-    let up = rooted_tail c.args.n c.args.root l.v c.args.parents.now c.requires.0 c.requires.1 c.requires.2 l.invariant.0 c.loop-v-test.true in (
+    let p = parent_read c.args.n l.v c.args.parents.now c.requires.0 (search rules) l.invariant.0 in
+    let up = rooted_tail c.args.n c.args.root l.v c.args.parents.now c.requires.0 (search rules) c.requires.1 l.invariant.0 c.loop-v-test.true in (
       up,
       (λ x. l.invariant.1 (descends_up _ _ l.v (rw (← p) x))),
       (λ x. l.invariant.2 (avoids_up _ _ l.v c.if-v-head.false (rw (← p) x))),
@@ -42,7 +28,7 @@ pub returns : goal.returns
 returns c =
     let z = c.loop-v-test.false in
     record {
-      under = λ (e : ◌≡◌ {A = ℕ} 0 1). absurd (omega arith);
+      under = λ e. absurd cc;
       apart =
-          λ _. c.loop-v.invariant.2 (rw z (root_avoids c.args.n c.args.root _ c.requires.2 c.requires.0 c.args.head c.requires.3 c.requires.4));
+          λ _. c.loop-v.invariant.2 (rw z (root_avoids c.args.n c.args.root _ c.requires.1 c.requires.0 c.args.head c.requires.2 c.requires.3));
     }

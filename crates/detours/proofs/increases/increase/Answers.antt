@@ -5,39 +5,11 @@ use native.Mathlib.Omega.{arith}
 use lib.ListN.{get_or}
 use Rattle.instance.specs.Instance.{cell}
 use Rattle.paths.proofs.TreeLaws.{parent_read, tail_below}
-use Rattle.detours.proofs.IncreaseLaws.{increase_none, increase_some}
+use Rattle.detours.proofs.IncreaseLaws.{increase_some}
 use Rattle.detours.proofs.increases.increase.Goals as goal
-
-pub returns-then-vertex-root : goal.returns-then-vertex-root
-returns-then-vertex-root c = increase_none _ _ _ _ _
-
-pub returns-then-inner-vertex-ne1 : goal.returns-then-inner-vertex-ne1
-returns-then-inner-vertex-ne1 c = increase_none _ _ _ _ _
-
-tail : (c : goal.After-tail-1) → get_or c.args.parents.now c.args.vertex 0 < c.args.n
-tail c =
-    tail_below c.args.n c.args.root c.args.m.now c.args.parents.now c.requires.0 c.args.vertex c.requires.1 c.if-vertex-root.false
-
-pub overflow_cast-tail-2 : goal.overflow_cast-tail-2
-overflow_cast-tail-2 c = omega (arith, tail c)
-
-pub overflow_mul-own : goal.overflow_mul-own
-overflow_mul-own c = omega (arith, tail c)
-
-pub overflow_add-own : goal.overflow_add-own
-overflow_add-own c = omega (arith, tail c)
-
-pub overflow_cast-own : goal.overflow_cast-own
-overflow_cast-own c = omega (arith, tail c)
-
-pub offset_bounds-m-tail : goal.offset_bounds-m-tail
-offset_bounds-m-tail c = omega (arith, tail c)
 
 pub bounds-m-tail : goal.bounds-m-tail
 bounds-m-tail c = omega (arith, (let it : get_or c.args.parents.now c.args.vertex 0 < c.args.n = tail_below c.args.n c.args.root c.args.m.now c.args.parents.now c.requires.0 c.args.vertex c.requires.1 c.if-vertex-root.false in it))
-
-pub returns-then-least-eq-NO_ARC : goal.returns-then-least-eq-NO_ARC
-returns-then-least-eq-NO_ARC c = increase_none _ _ _ _ _
 
 pub returns-then-least-own : goal.returns-then-least-own
 returns-then-least-own c =

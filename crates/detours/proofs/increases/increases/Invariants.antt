@@ -1,6 +1,6 @@
 -- The table is right for the vertices that were passed. Assumes nothing.
 use mathlib.Core.Path.{◌≡◌}
-use Prim.Native.Nat.{◌-◌, ◌≤◌}
+use Prim.Native.Nat.{◌≤◌}
 use lib.ListN.{length, take}
 use Rattle.instance.specs.Limits.{max_vertices}
 use Rattle.detours.specs.Increases.{Increases}
@@ -8,6 +8,3 @@ use Rattle.detours.proofs.increases.increases.Given as goal
 
 abbrev pub invariant-loop-k : goal.invariant-loop-k
 invariant-loop-k l = (l.k ≤ l.n) × (length l.table ≡ max_vertices) × Increases l.m (take l.n l.parents) l.inner l.n l.k l.table
-
-abbrev pub decreases-loop-k : goal.decreases-loop-k
-decreases-loop-k l = l.n - l.k

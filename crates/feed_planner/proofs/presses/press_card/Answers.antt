@@ -1,23 +1,22 @@
 -- Each return of `press_card` by its law. Assumes nothing.
+use mathlib.Core.Path.{refl}
+use Rattle.instance.proofs.RefusalLaws.{not_0}
+use Rattle.card.specs.Write.{written_of}
 use Rattle.feed_planner.proofs.PressLaws.{card_not_pressed, press_refused, next_valid, press_stored}
 use Rattle.feed_planner.proofs.presses.press_card.Goals as goal
 
-pub returns-then-refusal-ne0 : goal.returns-then-refusal-ne0
-returns-then-refusal-ne0 c = let o = c.open_card-opened in card_not_pressed _ _ o.result o.ensures _ _ c.if-refusal-ne0.true
+pub returns-in-Err : goal.returns-in-Err
+returns-in-Err c = rw c.from.ensures (card_not_pressed _ _ _ c.in-Err.ensures _ _ (not_0 _))
 
-pub returns-then-answer-ne0 : goal.returns-then-answer-ne0
-returns-then-answer-ne0 c =
-    let o = c.open_card-opened in
-    press_refused _ _ o.result o.ensures c.if-refusal-ne0.false c.execute-made.result c.execute-made.ensures _ _ c.if-answer-ne0.true
+pub returns-in-Err-execute : goal.returns-in-Err-execute
+returns-in-Err-execute c =
+    rw c.from-in-Err-execute.ensures (press_refused _ _ _ c.in-Ok.ensures refl _ c.in-Err-execute.ensures _ _ (not_0 c.in-Err-execute.refusal))
 
-pub write_history-written-requires : goal.write_history-written-requires
-write_history-written-requires c =
-    let o = c.open_card-opened in
-    next_valid _ _ o.result o.ensures c.if-refusal-ne0.false c.execute-made.result c.execute-made.ensures
+pub write_history-requires : goal.write_history-requires
+write_history-requires c = next_valid _ _ _ c.in-Ok.ensures refl _ c.in_default.ensures
 
 pub returns : goal.returns
 returns c =
-    let w = c.write_history-written in
-    let o = c.open_card-opened in
-    let s = press_stored _ _ o.result o.ensures c.if-refusal-ne0.false c.execute-made.result c.execute-made.ensures _ _ _ w.result c.if-answer-ne0.false w.ensures in
-    rw (c.keep_length.ensures.0, c.keep_length.ensures.1) s
+    let w = c.write_history in
+    let s = press_stored _ _ _ c.in-Ok.ensures refl _ c.in_default.ensures _ _ _ (written_of w.result) refl w.ensures in
+    rw (c.keep_written.ensures.0, c.keep_written.ensures.1) s

@@ -1,12 +1,16 @@
 -- What writing gave, as words. Assumes nothing.
 use mathlib.Core.Path.{ap}
-use Rattle.price_list.specs.declared.write.ListWritten.{ListWritten}
+use Rattle.price_list.specs.Writes.{ListWritten}
 use Rattle.feed_planner.proofs.StoreLaws.{tells}
+use Rattle.feed_planner.proofs.RefusedLaws.{tells_refused}
 use Rattle.feed_planner.proofs.prices.feed_write_prices.Goals as goal
 
-pub returns : goal.returns
-returns c =
-    let m = c.write_prices-written in
-    let e = m.ensures.result in
-    let s = tells _ _ _ _ _ _ _ _ (ap (λ (x : ListWritten). x.answer) e) (ap (λ (x : ListWritten). x.length) e) m.ensures.buffer in
-    rw (c.keep_length.ensures.0, c.keep_length.ensures.1) s
+pub returns-in-Ok : goal.returns-in-Ok
+returns-in-Ok c =
+    let m = c.in-Ok.ensures in
+    tells _ _ _ _ _ _ _ _ (ap (λ (x : ListWritten). x.answer) m.result) (ap (λ (x : ListWritten). x.length) m.result) m.buffer
+
+pub returns-in-Err : goal.returns-in-Err
+returns-in-Err c =
+    let m = c.in-Err.ensures in
+    rw c.from.ensures (tells_refused _ _ _ _ _ _ _ (ap (λ (x : ListWritten). x.answer) m.result) m.buffer)

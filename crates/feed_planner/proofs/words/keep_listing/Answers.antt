@@ -2,8 +2,8 @@
 use mathlib.Core.Path.{refl}
 use Rattle.feed_planner.proofs.words.keep_listing.Goals as goal
 
-pub returns-in-Listed : goal.returns-in-Listed
-returns-in-Listed c = rw (c.in-Listed.is, c.ended_number.ensures) (refl, refl)
+pub returns-in-Ok : goal.returns-in-Ok
+returns-in-Ok c = rw (c.in-Ok.is, c.ended_number.ensures) (refl, refl)
 
-pub returns-in-Refused : goal.returns-in-Refused
-returns-in-Refused c = rw c.in-Refused.is (refl, refl)
+pub returns-in-Err : goal.returns-in-Err
+returns-in-Err c = rw (c.in-Err.is, c.from.ensures) (refl, refl)

@@ -1,6 +1,6 @@
 -- The sum is that of the arcs into the vertices below v. Assumes nothing.
 use mathlib.Core.Path.{◌≡◌}
-use Prim.Native.Nat.{◌-◌, ◌<◌}
+use Prim.Native.Nat.{◌<◌}
 use native.Mathlib.Omega.{arith}
 use lib.ListN.{get_or}
 use Rattle.paths.proofs.TreeLaws.{tail_below}
@@ -8,34 +8,8 @@ use Rattle.first_tree.proofs.AttemptLaws.{summed_none, summed_root, summed_more,
 use Rattle.first_tree.proofs.attempt.tree_total.Goals as goal
 use Rattle.first_tree.proofs.attempt.tree_total.Goals.{else-v-root, then-v-root}
 
-tail : (c : goal.After-tail-1) → get_or c.args.parents.now c.loop-v.v 0 < c.args.n
-tail c =
-    let a = c.args in
-    tail_below a.n a.root a.m.now a.parents.now c.requires c.loop-v.v (omega arith) c.if-v-root.true
-
 pub loop-v-init : goal.loop-v-init
 loop-v-init c = (omega arith, summed_none _ _ _ _)
-
-pub overflow_cast-tail : goal.overflow_cast-tail
-overflow_cast-tail c = let k = c.requires.matrix_ok.small in omega arith
-
-pub bounds-parents-v : goal.bounds-parents-v
-bounds-parents-v c = let k = c.requires.matrix_ok.small in omega arith
-
-pub overflow_cast-tail-then-v-root : goal.overflow_cast-tail-then-v-root
-overflow_cast-tail-then-v-root c = let k = c.requires.matrix_ok.small in omega (arith, tail c)
-
-pub overflow_mul-sum : goal.overflow_mul-sum
-overflow_mul-sum c = let k = c.requires.matrix_ok.small in omega (arith, tail c)
-
-pub overflow_add-sum : goal.overflow_add-sum
-overflow_add-sum c = let k = c.requires.matrix_ok.small in omega (arith, tail c)
-
-pub overflow_cast-sum : goal.overflow_cast-sum
-overflow_cast-sum c = let k = c.requires.matrix_ok.small in omega (arith, tail c)
-
-pub offset_bounds-m-tail : goal.offset_bounds-m-tail
-offset_bounds-m-tail c = let k = c.requires.matrix_ok.small in omega (arith, tail c)
 
 pub bounds-m-tail : goal.bounds-m-tail
 bounds-m-tail c = let k = c.requires.matrix_ok.small in omega (arith, (let it : get_or c.args.parents.now c.loop-v.v 0 < c.args.n = let a = c.args in tail_below a.n a.root a.m.now a.parents.now c.requires c.loop-v.v (omega arith) c.if-v-root.true in it))
@@ -45,12 +19,6 @@ overflow_add-sum-then-v-root c =
     let a = c.args in
     let l = c.loop-v in
     record { fits = summed_fits a.n a.root a.m.now a.parents.now c.requires l.v l.sum (omega arith) c.if-v-root.true l.invariant.1 }
-
-pub overflow_add-v : goal.overflow_add-v
-overflow_add-v c = let k = c.requires.matrix_ok.small in omega arith
-
-pub loop-v-smaller : goal.loop-v-smaller
-loop-v-smaller c = omega arith
 
 pub loop-v-preserved : goal.loop-v-preserved
 loop-v-preserved c =

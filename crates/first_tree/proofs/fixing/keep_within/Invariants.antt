@@ -1,6 +1,6 @@
 -- The sets below h are done. Assumes nothing.
 use mathlib.Core.Bool.{cond}
-use Prim.Native.Nat.{ℕ, ◌-◌, ◌≤◌}
+use Prim.Native.Nat.{ℕ, ◌≤◌}
 use mathlib.Core.List.{List}
 use lib.Bits.{bit_and}
 use lib.ListN.{get_or}
@@ -14,6 +14,3 @@ met set old h = cond (inside set h) (bit_and (get_or old h 0) set) (get_or old h
 
 abbrev pub invariant-loop-h : goal.invariant-loop-h
 invariant-loop-h l = (l.h ≤ l.n) × Overwritten max_vertices l.initial.tails l.tails (met l.set l.initial.tails) l.h
-
-abbrev pub decreases-loop-h : goal.decreases-loop-h
-decreases-loop-h l = l.n - l.h

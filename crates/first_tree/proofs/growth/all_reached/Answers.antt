@@ -1,27 +1,15 @@
 -- The vertices from v on are reached. Assumes nothing.
-use mathlib.Core.Path.{◌≡◌, refl, sym, ◌∙◌}
+use mathlib.Core.Path.{◌≡◌, sym, ◌∙◌}
 use native.Mathlib.Omega.{arith}
 use borrow.Author.Tests.{not-true, not-false}
 use Rattle.base.proofs.BoundedLaws.{all_none, all_fail, all_pass}
 use Rattle.instance.specs.Cuts.{inside}
 use Rattle.first_tree.proofs.growth.all_reached.Goals as goal
 
-pub loop-v-init : goal.loop-v-init
-loop-v-init c = (omega arith, refl)
-
-pub overflow_sub-v : goal.overflow_sub-v
-overflow_sub-v c = omega arith
-
-pub is_inside-requires : goal.is_inside-requires
-is_inside-requires c = omega arith
-
 pub returns-then-not-is_inside : goal.returns-then-not-is_inside
 returns-then-not-is_inside c =
     let l = c.loop-v in
     sym (l.invariant.1 ∙ all_fail l.v (inside c.args.reached) c.loop-v-test.true (sym c.is_inside.ensures ∙ not-true c.is_inside.result c.if-not-is_inside.true-raw))
-
-pub loop-v-smaller : goal.loop-v-smaller
-loop-v-smaller c = omega arith
 
 pub loop-v-preserved : goal.loop-v-preserved
 loop-v-preserved c =

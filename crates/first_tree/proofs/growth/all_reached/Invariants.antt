@@ -7,6 +7,3 @@ use Rattle.first_tree.proofs.growth.all_reached.Given as goal
 
 abbrev pub invariant-loop-v : goal.invariant-loop-v
 invariant-loop-v l = (l.v ≤ l.n) × (all_below l.n (inside l.reached) ≡ all_below l.v (inside l.reached))
-
-abbrev pub decreases-loop-v : goal.decreases-loop-v
-decreases-loop-v l = l.v

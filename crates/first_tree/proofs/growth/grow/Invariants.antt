@@ -8,7 +8,7 @@ use Rattle.first_tree.proofs.growth.grow.Given as goal
 
 abbrev pub invariant-loop-last : goal.invariant-loop-last
 invariant-loop-last l =
-    InRange l.n l.from.0 l.count l.left l.reached l.parents × Growing l.n l.root l.from.0 l.count l.tails l.left l.reached l.parents × (l.last ≤ l.reached) × (l.last ≡ l.reached → NothingNew l.from.0 l.count 0 l.n l.tails l.reached l.reached)
+    InRange l.search.n l.search.from.0 l.search.count l.left l.reached l.parents × Growing l.search.n l.search.root l.search.from.0 l.search.count l.tails l.left l.reached l.parents × (l.last ≤ l.reached) × (l.last ≡ l.reached → NothingNew l.search.from.0 l.search.count 0 l.search.n l.tails l.reached l.reached)
 
 abbrev pub decreases-loop-last : goal.decreases-loop-last
 decreases-loop-last l = word_limit - l.last

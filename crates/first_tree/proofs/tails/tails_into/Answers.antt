@@ -1,7 +1,7 @@
 -- `tails_into` has gathered the tails below t. Assumes nothing.
-use mathlib.Core.Path.{◌≡◌, sym, ◌∙◌}
+use mathlib.Core.Path.{sym, ◌∙◌}
 use mathlib.Core.Bool.{Bool}
-use Prim.Native.Nat.{ℕ, ◌-◌}
+use Prim.Native.Nat.{ℕ}
 use native.Mathlib.Omega.{arith}
 use Rattle.base.proofs.DigitLaws.{digits_none}
 use Rattle.instance.proofs.SetBits.{set_fits, set_more, set_skip}
@@ -13,21 +13,9 @@ pub loop-t-init : goal.loop-t-init
 unfolding tight_set
 loop-t-init c = (omega arith, rw (digits_none 2 _))
 
-pub is_tight-requires : goal.is_tight-requires
-is_tight-requires c = (c.requires.0, omega arith, c.requires.1, c.requires.2, c.requires.3)
-
-pub overflow_shl-set : goal.overflow_shl-set
-overflow_shl-set c = omega arith
-
 pub overflow_add-set : goal.overflow_add-set
 unfolding tight_set
 overflow_add-set c = let a = c.args in record { fits = set_fits (λ t. tight a.m.now a.reduced.now a.n a.root t a.head) _ _ (omega arith) c.loop-t.invariant.1 }
-
-pub overflow_add-t : goal.overflow_add-t
-overflow_add-t c = omega arith
-
-pub loop-t-smaller : goal.loop-t-smaller
-loop-t-smaller c = omega arith
 
 pub loop-t-preserved : goal.loop-t-preserved
 unfolding tight_set
@@ -39,6 +27,3 @@ loop-t-preserved c =
       omega arith,
       elim c.if-is_tight.branch [ then-is_tight w ↦ rw w.set-is (set_more q _ _ (omega arith) l.invariant.1 (sym r ∙ w.if-is_tight.true)) | else-is_tight w ↦ rw w.set-is (set_skip q _ _ (omega arith) l.invariant.1 (sym r ∙ w.if-is_tight.false)) ],
     )
-
-pub returns : goal.returns
-returns c = let e : c.loop-t.t ≡ c.args.n = omega arith in rw e at c.loop-t.invariant.1

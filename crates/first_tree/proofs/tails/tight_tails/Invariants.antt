@@ -1,5 +1,5 @@
 -- The sets of the heads below `head` are there. Assumes nothing.
-use Prim.Native.Nat.{◌-◌, ◌≤◌}
+use Prim.Native.Nat.{◌≤◌}
 use lib.ListN.{replicate}
 use Rattle.base.proofs.OverwriteLaws.{Overwritten}
 use Rattle.instance.specs.Limits.{max_vertices}
@@ -9,6 +9,3 @@ use Rattle.first_tree.proofs.tails.tight_tails.Given as goal
 abbrev pub invariant-loop-head : goal.invariant-loop-head
 invariant-loop-head l =
     (l.head ≤ l.n) × Overwritten max_vertices (replicate max_vertices 0) l.tails (tight_set l.m l.reduced l.n l.root l.n) l.head
-
-abbrev pub decreases-loop-head : goal.decreases-loop-head
-decreases-loop-head l = l.n - l.head

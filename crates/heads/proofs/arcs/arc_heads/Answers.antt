@@ -1,6 +1,5 @@
 -- `arc_heads` has gathered the heads below `head` that have an arc. Assumes nothing.
 use mathlib.Core.Path.{◌≡◌, sym, ◌∙◌}
-use Prim.Native.Nat.{◌-◌}
 use native.Mathlib.Omega.{arith}
 use Rattle.instance.specs.Limits.{max_vertices}
 use Rattle.instance.specs.Matrix.{unmarked}
@@ -13,21 +12,9 @@ use Rattle.heads.proofs.arcs.arc_heads.Goals.{else-names_arc, then-names_arc}
 pub loop-head-init : goal.loop-head-init
 loop-head-init c = (omega arith, rw (digits_none 2 _))
 
-pub names_arc-requires : goal.names_arc-requires
-names_arc-requires c = (c.requires.0, c.requires.1, omega arith)
-
-pub overflow_shl-arcs : goal.overflow_shl-arcs
-overflow_shl-arcs c = omega arith
-
 pub overflow_add-arcs : goal.overflow_add-arcs
 overflow_add-arcs c = let a = c.args in
     record { fits = set_fits (names_arc (unmarked a.n a.root a.weights.now) a.tail a.heads) _ _ (omega arith) c.loop-head.invariant.1 }
-
-pub overflow_add-head : goal.overflow_add-head
-overflow_add-head c = omega arith
-
-pub loop-head-smaller : goal.loop-head-smaller
-loop-head-smaller c = omega arith
 
 pub loop-head-preserved : goal.loop-head-preserved
 loop-head-preserved c =

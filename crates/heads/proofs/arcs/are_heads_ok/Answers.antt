@@ -1,5 +1,5 @@
 -- `are_heads_ok` is the definition: the heads below `head` decide what is left. Assumes nothing.
-use mathlib.Core.Path.{◌≡◌, refl, sym, ap, ◌∙◌}
+use mathlib.Core.Path.{◌≡◌, sym, ap, ◌∙◌}
 use mathlib.Core.Bool.{true, false}
 use Prim.Native.Nat.{ℕ, ◌-◌}
 use native.Mathlib.Omega.{arith}
@@ -21,15 +21,6 @@ pub returns-then-heads-eq0 : goal.returns-then-heads-eq0
 unfolding record_ok
 returns-then-heads-eq0 c = rw (c.if-heads-eq0.true, none_inside max_vertices)
 
-pub loop-head-init : goal.loop-head-init
-loop-head-init c = (omega arith, refl)
-
-pub overflow_sub-head : goal.overflow_sub-head
-overflow_sub-head c = omega arith
-
-pub is_head_ok-requires : goal.is_head_ok-requires
-is_head_ok-requires c = (c.requires.0, c.requires.1, omega arith)
-
 pub returns-then-not-is_head_ok : goal.returns-then-not-is_head_ok
 unfolding record_ok
 returns-then-not-is_head_ok c =
@@ -41,9 +32,6 @@ returns-then-not-is_head_ok c =
     sym (record_marks_ok a.heads a.old s a.tail (l.head - 1) (omega arith)) ∙ sym c.is_head_ok.ensures ∙ not-true _ c.if-not-is_head_ok.true-raw in
     let f : Fits w32 a.heads = search rules in
     sym (rw (some_inside max_vertices a.heads f.fits (omega arith)) (l.invariant.1 ∙ all_fail l.head P (omega arith) e))
-
-pub loop-head-smaller : goal.loop-head-smaller
-loop-head-smaller c = omega arith
 
 pub loop-head-preserved : goal.loop-head-preserved
 loop-head-preserved c =

@@ -2,7 +2,7 @@
 use mathlib.Core.Path.{◌≡◌}
 use mathlib.Core.Bool.{Bool}
 use mathlib.Core.List.{List}
-use Prim.Native.Nat.{ℕ, ◌-◌, ◌≤◌}
+use Prim.Native.Nat.{ℕ, ◌≤◌}
 use lib.ListN.{get_or}
 use Rattle.base.specs.Bounded.{all_below}
 use Rattle.instance.specs.Limits.{max_vertices, free}
@@ -18,6 +18,3 @@ ok weights n root tail heads old head = head_ok (unmarked n root weights) tail h
 abbrev pub invariant-loop-head : goal.invariant-loop-head
 invariant-loop-head l =
     (l.head ≤ max_vertices) × (all_below max_vertices (ok l.weights l.n l.root l.tail l.heads l.old) ≡ all_below l.head (ok l.weights l.n l.root l.tail l.heads l.old))
-
-abbrev pub decreases-loop-head : goal.decreases-loop-head
-decreases-loop-head l = l.head

@@ -1,6 +1,6 @@
 -- `put_marks` has put the marks of the heads below `head`. Assumes nothing.
 use mathlib.Core.Path.{ap, ◌≡◌, sym, ◌∙◌}
-use Prim.Native.Nat.{ℕ, ◌-◌, ◌*◌, ◌^◌, ◌/◌, ◌%◌}
+use Prim.Native.Nat.{ℕ, ◌*◌, ◌^◌, ◌/◌, ◌%◌}
 use native.Mathlib.Omega.{arith}
 use Rattle.base.specs.Digits.{digit}
 use Rattle.instance.specs.Cuts.{inside}
@@ -10,30 +10,6 @@ use Rattle.heads.proofs.marks.put_marks.Goals.{else-is_inside, then-is_inside}
 
 pub loop-head-init : goal.loop-head-init
 loop-head-init c = (omega arith, put_start c.args.tail (inside c.args.heads) (digit 4 c.args.new) _)
-
-pub is_inside-requires : goal.is_inside-requires
-is_inside-requires c = omega arith
-
-pub overflow_mul-marks : goal.overflow_mul-marks
-overflow_mul-marks c = omega arith
-
-pub overflow_shr-marks : goal.overflow_shr-marks
-overflow_shr-marks c = omega arith
-
-pub overflow_mul-marks-then-is_inside : goal.overflow_mul-marks-then-is_inside
-overflow_mul-marks-then-is_inside c = omega arith
-
-pub overflow_add-marks : goal.overflow_add-marks
-overflow_add-marks c = omega arith
-
-pub bounds-marks-tail : goal.bounds-marks-tail
-bounds-marks-tail c = omega (arith, c.requires.0)
-
-pub overflow_add-head : goal.overflow_add-head
-overflow_add-head c = omega arith
-
-pub loop-head-smaller : goal.loop-head-smaller
-loop-head-smaller c = omega arith
 
 pub loop-head-preserved : goal.loop-head-preserved
 unfolding digit

@@ -1,10 +1,10 @@
 -- `read_marks` has read the marks of the heads below `head`. Assumes nothing.
 use mathlib.Core.Path.{◌≡◌, refl, sym, ◌∙◌}
 use mathlib.Core.Bool.{Bool, true, false, cond}
-use Prim.Native.Nat.{ℕ, ◌-◌, ◌≤◌, ◌<◌}
+use Prim.Native.Nat.{ℕ, ◌≤◌, ◌<◌}
 use native.Mathlib.Omega.{arith}
 use lib.ListN.{get_or}
-use Rattle.instance.specs.Limits.{max_vertices, free, banned}
+use Rattle.instance.specs.Limits.{free, banned}
 use Rattle.instance.specs.Instance.{cell}
 use Rattle.instance.specs.Cuts.{inside}
 use Rattle.base.proofs.DigitLaws.{digits_none}
@@ -24,41 +24,10 @@ small c v l = at (inside c.args.heads v) (c.requires.by_index v l)
 pub loop-head-init : goal.loop-head-init
 loop-head-init c = (omega arith, rw (digits_none 4 _))
 
-pub is_inside-requires : goal.is_inside-requires
-is_inside-requires c = omega arith
-
-pub overflow_mul-mark : goal.overflow_mul-mark
-overflow_mul-mark c = omega arith
-
-pub overflow_add-mark : goal.overflow_add-mark
-overflow_add-mark c = omega arith
-
-pub overflow_cast-mark : goal.overflow_cast-mark
-overflow_cast-mark c = omega arith
-
-pub bounds-marks-tail : goal.bounds-marks-tail
-bounds-marks-tail c = omega arith
-
-pub overflow_cast-value : goal.overflow_cast-value
-overflow_cast-value c =
-    record { fits = omega (arith, c.requires.by_index c.loop-head.head (omega arith) (sym c.is_inside.ensures ∙ c.if-is_inside.true)) }
-
-pub overflow_mul-value : goal.overflow_mul-value
-overflow_mul-value c = omega arith
-
-pub overflow_shl-value : goal.overflow_shl-value
-overflow_shl-value c = omega arith
-
 pub overflow_add-value : goal.overflow_add-value
 overflow_add-value c =
     let e = sym c.is_inside.ensures ∙ c.if-is_inside.true in
     record { fits = rw e at (mark_fits (old_at c.args.marks.now c.args.tail c.args.heads) (small c.before.before.before.before.before.before.before) _ _ (omega arith) c.loop-head.invariant.1) }
-
-pub overflow_add-head : goal.overflow_add-head
-overflow_add-head c = omega arith
-
-pub loop-head-smaller : goal.loop-head-smaller
-loop-head-smaller c = omega arith
 
 pub loop-head-preserved : goal.loop-head-preserved
 loop-head-preserved c =
@@ -68,6 +37,3 @@ loop-head-preserved c =
       omega arith,
       elim c.if-is_inside.branch [ then-is_inside w ↦ rw w.value-is (rw (r ∙ w.if-is_inside.true) at (mark_more g (small c.before.before.before.before) _ _ (omega arith) l.invariant.1)) | else-is_inside w ↦ rw w.value-is (mark_skip g (small c.before.before.before.before) _ _ (omega arith) l.invariant.1 (rw (r ∙ w.if-is_inside.false))) ],
     )
-
-pub returns : goal.returns
-returns c = let e : c.loop-head.head ≡ max_vertices = omega arith in rw e at c.loop-head.invariant.1

@@ -2,7 +2,7 @@
 use mathlib.Core.Path.{◌≡◌}
 use mathlib.Core.Bool.{cond}
 use mathlib.Core.List.{List}
-use Prim.Native.Nat.{ℕ, ◌-◌, ◌≤◌}
+use Prim.Native.Nat.{ℕ, ◌≤◌}
 use lib.ListN.{get_or}
 use Rattle.base.specs.Digits.{from_digits}
 use Rattle.instance.specs.Limits.{max_vertices, free}
@@ -17,6 +17,3 @@ old_at marks tail heads v = cond (inside heads v) (get_or marks (cell tail v) fr
 abbrev pub invariant-loop-head : goal.invariant-loop-head
 invariant-loop-head l =
     (l.head ≤ max_vertices) × (l.value ≡ from_digits 4 l.head (old_at l.marks l.tail l.heads))
-
-abbrev pub decreases-loop-head : goal.decreases-loop-head
-decreases-loop-head l = max_vertices - l.head

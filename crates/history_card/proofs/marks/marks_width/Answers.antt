@@ -1,7 +1,6 @@
 -- `marks_width` has counted the bits of the heads below `head`. Assumes nothing.
-use mathlib.Core.Path.{◌≡◌, sym, ◌∙◌}
+use mathlib.Core.Path.{sym, ◌∙◌}
 use native.Mathlib.Omega.{arith}
-use Rattle.instance.specs.Limits.{max_vertices}
 use Rattle.history_format.proofs.MemberMarks.{offset_none, offset_most}
 use Rattle.history_card.proofs.MarksLaws.{offset_in, offset_out}
 use Rattle.history_card.proofs.marks.marks_width.Goals as goal
@@ -10,19 +9,10 @@ use Rattle.history_card.proofs.marks.marks_width.Goals.{else-is_inside, then-is_
 pub loop-head-init : goal.loop-head-init
 loop-head-init c = (omega arith, sym (offset_none c.args.heads))
 
-pub is_inside-requires : goal.is_inside-requires
-is_inside-requires c = omega arith
-
 pub overflow_add-width : goal.overflow_add-width
 overflow_add-width c =
     let l = c.loop-head in
     record { fits = omega (arith, l.invariant.0, l.invariant.1, offset_most c.args.heads l.head) }
-
-pub overflow_add-head : goal.overflow_add-head
-overflow_add-head c = omega arith
-
-pub loop-head-smaller : goal.loop-head-smaller
-loop-head-smaller c = omega arith
 
 pub loop-head-preserved : goal.loop-head-preserved
 loop-head-preserved c =
@@ -34,6 +24,3 @@ loop-head-preserved c =
         | else-is_inside w ↦ rw (w.width-is, l.invariant.1) (offset_out _ l.head (r ∙ w.if-is_inside.false))
       ],
     )
-
-pub returns : goal.returns
-returns c = let e : c.loop-head.head ≡ max_vertices = omega arith in rw e at c.loop-head.invariant.1

@@ -1,5 +1,4 @@
 -- `put_marks` has put the marks of the heads below `head`. Assumes nothing.
-use mathlib.Core.Path.{◌≡◌}
 use Prim.Native.Nat.{◌<◌}
 use native.Mathlib.Omega.{arith}
 use Rattle.bits.proofs.WriterLaws.{put_none, put_then}
@@ -16,21 +15,9 @@ put_mark-w-requires c =
     let h : l.head < max_vertices = omega arith in
     (h, mark_room _ _ _ _ c.args.heads c.args.marks l.head h l.invariant.1 c.requires)
 
-pub overflow_add-head : goal.overflow_add-head
-overflow_add-head c = omega arith
-
-pub loop-head-smaller : goal.loop-head-smaller
-loop-head-smaller c = omega arith
-
 pub loop-head-preserved : goal.loop-head-preserved
 loop-head-preserved c =
     let l = c.loop-head in
     let a = c.args in
     let h : l.head < max_vertices = omega arith in
     (omega arith, rw (next_mark a.heads a.marks l.head h) (put_then _ _ _ _ _ _ _ _ l.invariant.1 c.put_mark-w.ensures))
-
-pub shape_of-out : goal.shape_of-out
-shape_of-out c = c.loop-head.invariant.1.long
-
-pub returns : goal.returns
-returns c = let e : c.loop-head.head ≡ max_vertices = omega arith in rw e at c.loop-head.invariant.1

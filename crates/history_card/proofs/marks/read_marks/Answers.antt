@@ -36,20 +36,11 @@ loop-head-init c =
     let a = c.args in
     (omega arith, rw (offset_none a.heads) (omega arith), rw (digits_none 4 (mark_at a.card.now a.at a.heads)))
 
-pub is_inside-requires : goal.is_inside-requires
-is_inside-requires c = omega arith
-
 pub read_bits-mark-requires : goal.read_bits-mark-requires
 read_bits-mark-requires c =
     let a = c.args in
     let l = c.loop-head in
     omega (arith, c.requires, l.invariant.1, within a.heads l.head (omega arith) (sym c.is_inside.ensures ∙ c.if-is_inside.true))
-
-pub overflow_mul-value : goal.overflow_mul-value
-overflow_mul-value c = omega arith
-
-pub overflow_shl-value : goal.overflow_shl-value
-overflow_shl-value c = omega arith
 
 pub overflow_add-value : goal.overflow_add-value
 overflow_add-value c =
@@ -61,12 +52,6 @@ overflow_add-value c =
 
 pub overflow_add-place : goal.overflow_add-place
 overflow_add-place c = omega (arith, c.requires, c.loop-head.invariant.1, offset_most c.args.heads c.loop-head.head)
-
-pub overflow_add-head : goal.overflow_add-head
-overflow_add-head c = omega arith
-
-pub loop-head-smaller : goal.loop-head-smaller
-loop-head-smaller c = omega arith
 
 pub loop-head-preserved : goal.loop-head-preserved
 loop-head-preserved c =
@@ -87,6 +72,3 @@ loop-head-preserved c =
         | else-is_inside w ↦ rw w.value-is (mark_skip g s l.head l.value (omega arith) l.invariant.2 (rw (r ∙ w.if-is_inside.false)))
       ],
     )
-
-pub returns : goal.returns
-returns c = let e : c.loop-head.head ≡ max_vertices = omega arith in rw e at c.loop-head.invariant.2

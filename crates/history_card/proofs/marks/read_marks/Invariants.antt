@@ -3,7 +3,7 @@
 use mathlib.Core.Path.{◌≡◌}
 use mathlib.Core.Bool.{cond}
 use mathlib.Core.List.{List}
-use Prim.Native.Nat.{ℕ, ◌+◌, ◌-◌, ◌≤◌}
+use Prim.Native.Nat.{ℕ, ◌+◌, ◌≤◌}
 use Rattle.base.specs.Digits.{from_digits}
 use Rattle.bits.specs.Bits.{bits_in, field}
 use Rattle.instance.specs.Limits.{max_vertices, free}
@@ -19,6 +19,3 @@ abbrev pub invariant-loop-head : goal.invariant-loop-head
 invariant-loop-head l =
     (l.head ≤ max_vertices) × (l.place ≡ l.at + mark_offset l.heads l.head)
     × (l.value ≡ from_digits 4 l.head (mark_at l.card l.at l.heads))
-
-abbrev pub decreases-loop-head : goal.decreases-loop-head
-decreases-loop-head l = max_vertices - l.head

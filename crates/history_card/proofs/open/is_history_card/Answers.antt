@@ -1,5 +1,6 @@
 -- `is_history_card` meets its contract: an empty card has no field, which is 0. Assumes nothing.
-use mathlib.Core.Path.{◌≡◌, refl}
+use mathlib.Core.Path.{◌≡◌, refl, sym, ◌∙◌}
+use borrow.Author.Tests.{eqb-true}
 use mathlib.Core.Bool.{false}
 use mathlib.Core.List.{List, [], ◌∷◌}
 use Prim.Native.Nat.{ℕ}
@@ -14,9 +15,11 @@ unfolding is_history bits_in field number_from
 none [] e = refl
 none (w ∷ ws) e = absurd (omega arith)
 
-pub returns-then-card-eq0 : goal.returns-then-card-eq0
-returns-then-card-eq0 c = none c.args.card.now c.if-card-eq0.true
-
-pub returns : goal.returns
+pub returns-then-not-is_empty : goal.returns-then-not-is_empty
 unfolding is_history
-returns c = rw (← c.read_bits.ensures)
+returns-then-not-is_empty c = rw (← c.read_bits.ensures)
+
+pub returns-else-not-is_empty : goal.returns-else-not-is_empty
+returns-else-not-is_empty c =
+    let t = c.if-not-is_empty.false in
+    rw t (none c.args.card.now (eqb-true _ 0 (sym c.is_empty.ensures ∙ t)))

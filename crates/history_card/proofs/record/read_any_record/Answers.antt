@@ -1,11 +1,10 @@
 -- `read_any_record` meets its contract: by the kind, if there is a whole one. Assumes nothing.
 use mathlib.Core.Path.{◌≡◌, ◌∙◌, sym}
-use Prim.Native.Nat.{ℕ, ◌+◌, ◌*◌}
+use Prim.Native.Nat.{ℕ}
 use native.Mathlib.Omega.{arith}
 use native.Mathlib.Nat.{add-zero}
-use borrow.Author.Tests.{ltb-false}
 use mathlib.Core.List.{List}
-use lib.ListN.{length, drop}
+use lib.ListN.{drop}
 use Rattle.bits.specs.Bits.{bits_in, field}
 use Rattle.bits.proofs.FieldLaws.{field_drop}
 use Rattle.history_format.specs.RecordWidths.{kind_width}
@@ -20,40 +19,21 @@ same_kind ws at v e = e ∙ sym (field_drop at 0 kind_width (bits_in ws) ∙ rw 
 pub returns-then-runs_past : goal.returns-then-runs_past
 returns-then-runs_past c =
     let a = c.args in
-    rw c.no_record.ensures
-    (past_read a.card.now a.at kind_width (omega arith) (record_length_least _) (sym c.runs_past.ensures ∙ c.if-runs_past.true))
-
-pub read_bits-kind-requires : goal.read_bits-kind-requires
-read_bits-kind-requires c = omega (arith, ltb-false (8 * length c.args.card.now) (c.args.at + kind_width) (sym c.runs_past.ensures ∙ c.if-runs_past.false))
+    past_read a.card.now a.at kind_width (omega arith) (record_length_least _) (sym c.runs_past.ensures ∙ c.if-runs_past.true)
 
 pub read_mark_record-requires : goal.read_mark_record-requires
-read_mark_record-requires c =
-    let a = c.args in
-    (sym (same_kind a.card.now a.at _ c.read_bits-kind.ensures) ∙ c.if-kind-eq-MARK_KIND.true, omega arith)
-
-pub returns-then-kind-eq-MARK_KIND : goal.returns-then-kind-eq-MARK_KIND
-returns-then-kind-eq-MARK_KIND c = c.read_mark_record.ensures
+read_mark_record-requires c = let a = c.args in (sym (same_kind a.card.now a.at _ c.read_bits-kind.ensures) ∙ c.in-0.is, omega arith)
 
 pub read_budget_record-requires : goal.read_budget_record-requires
-read_budget_record-requires c =
-    let a = c.args in
-    (sym (same_kind a.card.now a.at _ c.read_bits-kind.ensures) ∙ c.if-kind-eq-BUDGET_KIND.true, omega arith)
-
-pub returns-then-kind-eq-BUDGET_KIND : goal.returns-then-kind-eq-BUDGET_KIND
-returns-then-kind-eq-BUDGET_KIND c = c.read_budget_record.ensures
+read_budget_record-requires c = let a = c.args in (sym (same_kind a.card.now a.at _ c.read_bits-kind.ensures) ∙ c.in-1.is, omega arith)
 
 pub read_marks_record-requires : goal.read_marks_record-requires
-read_marks_record-requires c =
-    let a = c.args in
-    (sym (same_kind a.card.now a.at _ c.read_bits-kind.ensures) ∙ c.if-kind-eq-MARKS_KIND.true, omega arith)
+read_marks_record-requires c = let a = c.args in (sym (same_kind a.card.now a.at _ c.read_bits-kind.ensures) ∙ c.in-2.is, omega arith)
 
-pub returns-then-kind-eq-MARKS_KIND : goal.returns-then-kind-eq-MARKS_KIND
-returns-then-kind-eq-MARKS_KIND c = c.read_marks_record.ensures
-
-pub returns : goal.returns
-returns c =
+pub returns-in_default : goal.returns-in_default
+returns-in_default c =
     let a = c.args in
     let k = same_kind a.card.now a.at _ c.read_bits-kind.ensures in
-    rw c.no_record-2.ensures
-    (three_read a.card.now a.at (whole_here a.card.now a.at kind_width (omega arith) (sym c.runs_past.ensures ∙ c.if-runs_past.false))
-    (λ z. c.if-kind-eq-MARK_KIND.false (k ∙ z)) (λ z. c.if-kind-eq-BUDGET_KIND.false (k ∙ z)) (λ z. c.if-kind-eq-MARKS_KIND.false (k ∙ z)))
+    let r = c.in_default.in_default-own.rest in
+    three_read a.card.now a.at (whole_here a.card.now a.at kind_width (omega arith) (sym c.runs_past.ensures ∙ c.if-runs_past.false))
+    (λ z. r.0.0.1 (k ∙ z)) (λ z. r.0.1 (k ∙ z)) (λ z. r.1 (k ∙ z))

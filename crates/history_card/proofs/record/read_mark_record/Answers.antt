@@ -1,9 +1,7 @@
 -- `read_mark_record` meets its contract: the laws of its kind. Assumes nothing.
 use mathlib.Core.Path.{◌∙◌, sym}
-use Prim.Native.Nat.{◌+◌, ◌*◌}
-use lib.ListN.{length}
+use Prim.Native.Nat.{◌+◌}
 use native.Mathlib.Omega.{arith}
-use borrow.Author.Tests.{ltb-false}
 use Rattle.bits.specs.Bits.{bits_in}
 use Rattle.bits.proofs.ByteLaws.{bits_in_are_bits}
 use Rattle.bits.proofs.FieldLaws.{field_below}
@@ -15,21 +13,8 @@ use Rattle.history_card.proofs.record.read_mark_record.Goals as goal
 
 pub returns-then-runs_past : goal.returns-then-runs_past
 returns-then-runs_past c =
-    rw c.no_record.ensures
-    (past_read c.args.card.now c.args.at mark_record_width (omega arith) (omega (arith, read_mark_length _ c.requires.0))
-    (sym c.runs_past.ensures ∙ c.if-runs_past.true))
-
-pub read_bits-tail-requires : goal.read_bits-tail-requires
-read_bits-tail-requires c =
-    omega (arith, ltb-false (8 * length c.args.card.now) (c.args.at + mark_record_width) (sym c.runs_past.ensures ∙ c.if-runs_past.false))
-
-pub read_bits-head-requires : goal.read_bits-head-requires
-read_bits-head-requires c =
-    omega (arith, ltb-false (8 * length c.args.card.now) (c.args.at + mark_record_width) (sym c.runs_past.ensures ∙ c.if-runs_past.false))
-
-pub read_bits-mark-requires : goal.read_bits-mark-requires
-read_bits-mark-requires c =
-    omega (arith, ltb-false (8 * length c.args.card.now) (c.args.at + mark_record_width) (sym c.runs_past.ensures ∙ c.if-runs_past.false))
+    past_read c.args.card.now c.args.at mark_record_width (omega arith) (omega (arith, read_mark_length _ c.requires.0))
+    (sym c.runs_past.ensures ∙ c.if-runs_past.true)
 
 pub overflow_cast-result : goal.overflow_cast-result
 overflow_cast-result c =

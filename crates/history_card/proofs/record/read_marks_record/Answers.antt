@@ -1,9 +1,7 @@
 -- `read_marks_record` meets its contract: the laws of its kind. Assumes nothing.
 use mathlib.Core.Path.{◌≡◌, ◌∙◌, sym}
-use Prim.Native.Nat.{◌+◌, ◌*◌}
-use lib.ListN.{length}
+use Prim.Native.Nat.{◌+◌}
 use native.Mathlib.Omega.{arith}
-use borrow.Author.Tests.{ltb-false}
 use Rattle.bits.specs.Bits.{bits_in}
 use Rattle.bits.proofs.ByteLaws.{bits_in_are_bits}
 use Rattle.bits.proofs.FieldLaws.{field_below}
@@ -17,13 +15,8 @@ use Rattle.history_card.proofs.record.read_marks_record.Goals as goal
 
 pub returns-then-runs_past : goal.returns-then-runs_past
 returns-then-runs_past c =
-    rw c.no_record.ensures
-    (past_read c.args.card.now c.args.at marks_start (omega arith) (omega (arith, read_marks_length _ c.requires.0))
-    (sym c.runs_past.ensures ∙ c.if-runs_past.true))
-
-pub read_bits-heads-requires : goal.read_bits-heads-requires
-read_bits-heads-requires c =
-    omega (arith, ltb-false (8 * length c.args.card.now) (c.args.at + marks_start) (sym c.runs_past.ensures ∙ c.if-runs_past.false))
+    past_read c.args.card.now c.args.at marks_start (omega arith) (omega (arith, read_marks_length _ c.requires.0))
+    (sym c.runs_past.ensures ∙ c.if-runs_past.true)
 
 pub overflow_add-next : goal.overflow_add-next
 overflow_add-next c = omega (arith, c.marks_width.ensures, offset_most c.read_bits-heads.result max_vertices)
@@ -37,19 +30,9 @@ returns-then-runs_past-2 c =
     let heads = c.read_bits-heads.result in
     let w = c.marks_width.ensures in
     let e : a.at + marks_start + c.marks_width.result ≡ a.at + (marks_start + mark_offset heads max_vertices) = omega arith in
-    rw c.no_record-then-runs_past-2.ensures
-    (past_read a.card.now a.at (marks_start + mark_offset heads max_vertices) (omega arith)
+    past_read a.card.now a.at (marks_start + mark_offset heads max_vertices) (omega arith)
     (omega (arith, marks_long a.card.now a.at c.requires.0 heads c.read_bits-heads.ensures))
-    (rw e at (sym c.runs_past-2.ensures ∙ c.if-runs_past-2.true)))
-
-pub read_bits-tail-requires : goal.read_bits-tail-requires
-read_bits-tail-requires c =
-    omega (arith, ltb-false (8 * length c.args.card.now) (c.args.at + marks_start) (sym c.runs_past.ensures ∙ c.if-runs_past.false))
-
-pub read_marks-marks-requires : goal.read_marks-marks-requires
-read_marks-marks-requires c =
-    let e = sym c.runs_past-2.ensures ∙ c.if-runs_past-2.false in
-    omega (arith, c.marks_width.ensures, ltb-false (8 * length c.args.card.now) (c.args.at + marks_start + c.marks_width.result) e)
+    (rw e at (sym c.runs_past-2.ensures ∙ c.if-runs_past-2.true))
 
 pub overflow_cast-result : goal.overflow_cast-result
 overflow_cast-result c =

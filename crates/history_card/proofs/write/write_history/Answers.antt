@@ -28,5 +28,5 @@ returns c =
     let m = model_of a.b in
     let l : history_bytes m ≤ length a.out.now = rw (whole_bytes m, ← c.history_width.ensures) c.if-out-needed.false in
     rw (c.history_width.ensures, ← whole_bytes m)
-    (all_written m a.out.now l _ _ c.put_history-all.ensures _ _ c.fill_byte.ensures
+    (all_written m a.out.now l _ _ (rw c.new.ensures at c.put_history-all.ensures) _ _ c.fill_byte.ensures
     (all_of_intro (λ x. ltb x 256) 0 _ (λ i. lt-ltb _ 256 (c.type_inv.out i).fits)))

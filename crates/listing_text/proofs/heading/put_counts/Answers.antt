@@ -1,10 +1,7 @@
 -- One number behind the other. Assumes nothing.
 use Rattle.text.specs.Lines.{codes}
-use Rattle.text.proofs.BufferLaws.{room_first, puts_room, puts_then}
+use Rattle.text.proofs.BufferLaws.{puts_room, puts_then}
 use Rattle.listing_text.proofs.heading.put_counts.Goals as goal
-
-pub put_labelled-next-requires : goal.put_labelled-next-requires
-put_labelled-next-requires c = room_first _ c.requires
 
 pub put_line-requires : goal.put_line-requires
 unfolding codes

@@ -1,5 +1,5 @@
 -- The loop has written the parents of the vertices that it passed. Assumes nothing.
-use mathlib.Core.Path.{◌≡◌, refl, ◌∙◌}
+use mathlib.Core.Path.{refl, ◌∙◌}
 use native.Mathlib.Omega.{arith}
 use Rattle.base.proofs.ListLaws.{default}
 use Rattle.instance.specs.Limits.{no_parent}
@@ -10,12 +10,6 @@ use Rattle.listing_text.proofs.trees.put_parents.Goals as goal
 pub loop-v-init : goal.loop-v-init
 loop-v-init c = (join_none _ _ _, omega arith, refl)
 
-pub bounds-parents-v : goal.bounds-parents-v
-bounds-parents-v c = omega arith
-
-pub overflow_cast-parents : goal.overflow_cast-parents
-overflow_cast-parents c = omega (arith, c.shared_slice_known-in-loop-v-1.given c.loop-v.v)
-
 pub put_labelled-next-requires : goal.put_labelled-next-requires
 unfolding parent_text
 put_labelled-next-requires c =
@@ -23,21 +17,9 @@ put_labelled-next-requires c =
     rw (default c.args.parents.now i.v 0 no_parent (omega arith))
     (join_room _ _ i.v c.requires.room c.loop-v-test.true i.invariant.0)
 
-pub overflow_add-v : goal.overflow_add-v
-overflow_add-v c = omega arith
-
-pub loop-v-smaller : goal.loop-v-smaller
-loop-v-smaller c = omega arith
-
 pub loop-v-preserved : goal.loop-v-preserved
 unfolding parent_text
 loop-v-preserved c =
     let i = c.loop-v in
     let e = default c.args.parents.now i.v 0 no_parent (omega arith) in
     (join_next _ _ i.v c.requires.room c.loop-v-test.true i.invariant.0 (rw e at c.put_labelled-next.ensures), omega arith, c.put_labelled-next.auto.out ∙ i.invariant.2)
-
-pub shape_of-out : goal.shape_of-out
-shape_of-out c = c.loop-v.invariant.2
-
-pub returns : goal.returns
-returns c = let e : c.loop-v.v ≡ c.args.n = omega arith in rw e at c.loop-v.invariant.0

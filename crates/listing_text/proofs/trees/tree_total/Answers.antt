@@ -24,17 +24,8 @@ pub loop-v-init : goal.loop-v-init
 unfolding sum_below
 loop-v-init c = (refl, omega arith)
 
-pub weight_into-sum-requires : goal.weight_into-sum-requires
-weight_into-sum-requires c = record { weights_len = c.requires.weights_len.0; v_in_bounds = omega arith }
-
 pub overflow_add-sum : goal.overflow_add-sum
 overflow_add-sum c = omega (arith, next c)
-
-pub overflow_add-v : goal.overflow_add-v
-overflow_add-v c = omega arith
-
-pub loop-v-smaller : goal.loop-v-smaller
-loop-v-smaller c = omega arith
 
 pub loop-v-preserved : goal.loop-v-preserved
 loop-v-preserved c = ((next c).0, omega arith)

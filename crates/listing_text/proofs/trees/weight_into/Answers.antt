@@ -3,11 +3,8 @@ use Rattle.instance.specs.Instance.{weight}
 use Rattle.instance.specs.Limits.{no_parent}
 use Rattle.instance.specs.Matrix.{unmarked}
 use Rattle.base.proofs.ListLaws.{default}
-use borrow.Author.Tests.{eq-eqb, ne_eqb}
+use borrow.Author.Tests.{ne_eqb}
 use Rattle.listing_text.proofs.trees.weight_into.Goals as goal
-
-pub returns-then-v-root : goal.returns-then-v-root
-returns-then-v-root c = rw (eq-eqb _ _ c.if-v-root.true)
 
 pub returns : goal.returns
 unfolding weight unmarked

@@ -1,59 +1,84 @@
 -- Each way answers by its law: banned, a rival, or what was planned with the arc alone into its head. Assumes nothing.
-use mathlib.Core.Path.{◌≡◌, ◌∙◌}
-use Prim.Native.Nat.{◌≤◌}
+use mathlib.Core.Path.{◌≡◌, refl, sym, ◌∙◌}
+use Prim.Native.Nat.{ℕ, ◌≤◌, ◌<◌}
 use native.Mathlib.Omega.{arith}
-use lib.ListN.{length}
 use borrow.Author.Tests.{eq-eqb, ne_eqb}
+use Rattle.std.proofs.Common.{rules}
 use Rattle.instance.specs.Limits.{max_vertices, max_records}
-use Rattle.instance.specs.Instance.{instance_with, mark}
-use Rattle.commands.specs.Model.{Model}
+use Rattle.instance.specs.Instance.{mark}
 use Rattle.commands.proofs.ValidLaws.{valid_fields}
-use Rattle.board.specs.ModelOf.{history_of}
-use Rattle.witness.specs.Witness.{rival}
-use Rattle.planner.proofs.ExplainingLaws.{Explainable, explainable, explainable_small, explainable_count, rival_budget, explains_banned, explains_rival, explains_priced}
+use Rattle.board.specs.ModelOf.{model_of, instance_of}
+use Rattle.board.specs.declared.Board.{Board}
+use Rattle.planner.specs.Explaining.{explain_refusal}
+use Rattle.planner.proofs.ExplainingLaws.{explainable, explainable_small, explainable_count, rival_budget, explains_banned, explains_rival, explains_priced}
 use Rattle.planner.proofs.explaining.explain.Goals as goal
 
-pub overflow_mul-mark : goal.overflow_mul-mark
-overflow_mul-mark c = omega (arith, ((let it : Explainable ((let it : Model = let a = c.args in record { instance = instance_with a.n a.root a.budget a.weights.now a.marks.now; history = history_of a.count a.records } in it)) c.args.tail c.args.head (length c.args.parents.now) (length c.args.cuts.now) = explainable ((let it : Model = let a = c.args in record { instance = instance_with a.n a.root a.budget a.weights.now a.marks.now; history = history_of a.count a.records } in it)) _ _ _ _ c.requires.0 in it)).tail_below, (let it : c.args.n ≤ max_vertices = explainable_small ((let it : Model = let a = c.args in record { instance = instance_with a.n a.root a.budget a.weights.now a.marks.now; history = history_of a.count a.records } in it)) _ _ _ _ ((let it : Explainable ((let it : Model = let a = c.args in record { instance = instance_with a.n a.root a.budget a.weights.now a.marks.now; history = history_of a.count a.records } in it)) c.args.tail c.args.head (length c.args.parents.now) (length c.args.cuts.now) = explainable ((let it : Model = let a = c.args in record { instance = instance_with a.n a.root a.budget a.weights.now a.marks.now; history = history_of a.count a.records } in it)) _ _ _ _ c.requires.0 in it)) in it))
+-- the arc has its ends below 32, and the board at most 200 records
+record Ranges (b : Board) (t h : ℕ) : Type 0 where
+  tail_low : t < max_vertices
+  head_low : h < max_vertices
+  n_high : b.n ≤ max_vertices
+  few : b.count ≤ max_records
 
-pub overflow_add-mark : goal.overflow_add-mark
-overflow_add-mark c = omega (arith, ((let it : Explainable ((let it : Model = let a = c.args in record { instance = instance_with a.n a.root a.budget a.weights.now a.marks.now; history = history_of a.count a.records } in it)) c.args.tail c.args.head (length c.args.parents.now) (length c.args.cuts.now) = explainable ((let it : Model = let a = c.args in record { instance = instance_with a.n a.root a.budget a.weights.now a.marks.now; history = history_of a.count a.records } in it)) _ _ _ _ c.requires.0 in it)).tail_below, ((let it : Explainable ((let it : Model = let a = c.args in record { instance = instance_with a.n a.root a.budget a.weights.now a.marks.now; history = history_of a.count a.records } in it)) c.args.tail c.args.head (length c.args.parents.now) (length c.args.cuts.now) = explainable ((let it : Model = let a = c.args in record { instance = instance_with a.n a.root a.budget a.weights.now a.marks.now; history = history_of a.count a.records } in it)) _ _ _ _ c.requires.0 in it)).head_below, (let it : c.args.n ≤ max_vertices = explainable_small ((let it : Model = let a = c.args in record { instance = instance_with a.n a.root a.budget a.weights.now a.marks.now; history = history_of a.count a.records } in it)) _ _ _ _ ((let it : Explainable ((let it : Model = let a = c.args in record { instance = instance_with a.n a.root a.budget a.weights.now a.marks.now; history = history_of a.count a.records } in it)) c.args.tail c.args.head (length c.args.parents.now) (length c.args.cuts.now) = explainable ((let it : Model = let a = c.args in record { instance = instance_with a.n a.root a.budget a.weights.now a.marks.now; history = history_of a.count a.records } in it)) _ _ _ _ c.requires.0 in it)) in it))
+ranges : (b : Board) (t h a k : ℕ) → explain_refusal (model_of b) t h a k ≡ 0 → Ranges b t h
+ranges b t h a k z =
+    let x = explainable (model_of b) t h a k z in
+    let n = explainable_small (model_of b) t h a k x in
+    record {
+      tail_low = omega (arith, x.tail_below, n);
+      head_low = omega (arith, x.head_below, n);
+      n_high = n;
+      few = explainable_count (instance_of b) b.count b.records t h a k x;
+    }
 
-pub bounds-marks-tail : goal.bounds-marks-tail
-bounds-marks-tail c = omega (arith, ((let it : Explainable ((let it : Model = let a = c.args in record { instance = instance_with a.n a.root a.budget a.weights.now a.marks.now; history = history_of a.count a.records } in it)) c.args.tail c.args.head (length c.args.parents.now) (length c.args.cuts.now) = explainable ((let it : Model = let a = c.args in record { instance = instance_with a.n a.root a.budget a.weights.now a.marks.now; history = history_of a.count a.records } in it)) _ _ _ _ c.requires.0 in it)).tail_below, ((let it : Explainable ((let it : Model = let a = c.args in record { instance = instance_with a.n a.root a.budget a.weights.now a.marks.now; history = history_of a.count a.records } in it)) c.args.tail c.args.head (length c.args.parents.now) (length c.args.cuts.now) = explainable ((let it : Model = let a = c.args in record { instance = instance_with a.n a.root a.budget a.weights.now a.marks.now; history = history_of a.count a.records } in it)) _ _ _ _ c.requires.0 in it)).head_below, (let it : c.args.n ≤ max_vertices = explainable_small ((let it : Model = let a = c.args in record { instance = instance_with a.n a.root a.budget a.weights.now a.marks.now; history = history_of a.count a.records } in it)) _ _ _ _ ((let it : Explainable ((let it : Model = let a = c.args in record { instance = instance_with a.n a.root a.budget a.weights.now a.marks.now; history = history_of a.count a.records } in it)) c.args.tail c.args.head (length c.args.parents.now) (length c.args.cuts.now) = explainable ((let it : Model = let a = c.args in record { instance = instance_with a.n a.root a.budget a.weights.now a.marks.now; history = history_of a.count a.records } in it)) _ _ _ _ c.requires.0 in it)) in it))
+pub overflow_mul-tail : goal.overflow_mul-tail
+overflow_mul-tail c = record { fits = omega (arith, (ranges _ _ _ _ _ c.requires).tail_low) }
+
+pub overflow_add-tail : goal.overflow_add-tail
+overflow_add-tail c = let r = ranges _ _ _ _ _ c.requires in record { fits = omega (arith, r.tail_low, r.head_low) }
+
+pub bounds-b-tail : goal.bounds-b-tail
+bounds-b-tail c = let r = ranges _ _ _ _ _ c.requires in omega (arith, r.tail_low, r.head_low)
 
 -- BANNED
 pub setter-requires : goal.setter-requires
-setter-requires c = ((let it : c.args.count ≤ max_records = explainable_count _ c.args.count c.args.records _ _ _ _ ((let it : Explainable ((let it : Model = let a = c.args in record { instance = instance_with a.n a.root a.budget a.weights.now a.marks.now; history = history_of a.count a.records } in it)) c.args.tail c.args.head (length c.args.parents.now) (length c.args.cuts.now) = explainable ((let it : Model = let a = c.args in record { instance = instance_with a.n a.root a.budget a.weights.now a.marks.now; history = history_of a.count a.records } in it)) _ _ _ _ c.requires.0 in it)) in it), omega (arith, ((let it : Explainable ((let it : Model = let a = c.args in record { instance = instance_with a.n a.root a.budget a.weights.now a.marks.now; history = history_of a.count a.records } in it)) c.args.tail c.args.head (length c.args.parents.now) (length c.args.cuts.now) = explainable ((let it : Model = let a = c.args in record { instance = instance_with a.n a.root a.budget a.weights.now a.marks.now; history = history_of a.count a.records } in it)) _ _ _ _ c.requires.0 in it)).head_below, (let it : c.args.n ≤ max_vertices = explainable_small ((let it : Model = let a = c.args in record { instance = instance_with a.n a.root a.budget a.weights.now a.marks.now; history = history_of a.count a.records } in it)) _ _ _ _ ((let it : Explainable ((let it : Model = let a = c.args in record { instance = instance_with a.n a.root a.budget a.weights.now a.marks.now; history = history_of a.count a.records } in it)) c.args.tail c.args.head (length c.args.parents.now) (length c.args.cuts.now) = explainable ((let it : Model = let a = c.args in record { instance = instance_with a.n a.root a.budget a.weights.now a.marks.now; history = history_of a.count a.records } in it)) _ _ _ _ c.requires.0 in it)) in it)))
+setter-requires c = let r = ranges _ _ _ _ _ c.requires in (r.few, r.head_low)
 
-pub returns-then-mark-eq-BANNED : goal.returns-then-mark-eq-BANNED
+pub returns-then-b-tail-eq-BANNED : goal.returns-then-b-tail-eq-BANNED
 unfolding mark
-returns-then-mark-eq-BANNED c =
-    rw c.setter.ensures (explains_banned ((let it : Model = let a = c.args in record { instance = instance_with a.n a.root a.budget a.weights.now a.marks.now; history = history_of a.count a.records } in it)) c.args.tail c.args.head _ (eq-eqb _ _ c.if-mark-eq-BANNED.true))
+returns-then-b-tail-eq-BANNED c =
+    rw c.setter.ensures (explains_banned (model_of c.args.b.now) c.args.tail c.args.head _ (eq-eqb _ _ c.if-b-tail-eq-BANNED.true))
 
 -- A RIVAL
-pub rival-other-requires : goal.rival-other-requires
-rival-other-requires c = ((let it : c.args.n ≤ max_vertices = explainable_small ((let it : Model = let a = c.args in record { instance = instance_with a.n a.root a.budget a.weights.now a.marks.now; history = history_of a.count a.records } in it)) _ _ _ _ ((let it : Explainable ((let it : Model = let a = c.args in record { instance = instance_with a.n a.root a.budget a.weights.now a.marks.now; history = history_of a.count a.records } in it)) c.args.tail c.args.head (length c.args.parents.now) (length c.args.cuts.now) = explainable ((let it : Model = let a = c.args in record { instance = instance_with a.n a.root a.budget a.weights.now a.marks.now; history = history_of a.count a.records } in it)) _ _ _ _ c.requires.0 in it)) in it), c.requires.1, c.requires.2)
+pub rival-requires : goal.rival-requires
+rival-requires c = (ranges _ _ _ _ _ c.requires).n_high
 
-pub setter-requires-then-other-n : goal.setter-requires-then-other-n
-setter-requires-then-other-n c = ((let it : c.args.count ≤ max_records = explainable_count _ c.args.count c.args.records _ _ _ _ ((let it : Explainable ((let it : Model = let a = c.args in record { instance = instance_with a.n a.root a.budget a.weights.now a.marks.now; history = history_of a.count a.records } in it)) c.args.tail c.args.head (length c.args.parents.now) (length c.args.cuts.now) = explainable ((let it : Model = let a = c.args in record { instance = instance_with a.n a.root a.budget a.weights.now a.marks.now; history = history_of a.count a.records } in it)) _ _ _ _ c.requires.0 in it)) in it), omega (arith, ((let it : Explainable ((let it : Model = let a = c.args in record { instance = instance_with a.n a.root a.budget a.weights.now a.marks.now; history = history_of a.count a.records } in it)) c.args.tail c.args.head (length c.args.parents.now) (length c.args.cuts.now) = explainable ((let it : Model = let a = c.args in record { instance = instance_with a.n a.root a.budget a.weights.now a.marks.now; history = history_of a.count a.records } in it)) _ _ _ _ c.requires.0 in it)).head_below, (let it : c.args.n ≤ max_vertices = explainable_small ((let it : Model = let a = c.args in record { instance = instance_with a.n a.root a.budget a.weights.now a.marks.now; history = history_of a.count a.records } in it)) _ _ _ _ ((let it : Explainable ((let it : Model = let a = c.args in record { instance = instance_with a.n a.root a.budget a.weights.now a.marks.now; history = history_of a.count a.records } in it)) c.args.tail c.args.head (length c.args.parents.now) (length c.args.cuts.now) = explainable ((let it : Model = let a = c.args in record { instance = instance_with a.n a.root a.budget a.weights.now a.marks.now; history = history_of a.count a.records } in it)) _ _ _ _ c.requires.0 in it)) in it)))
+pub setter-requires-in-Some : goal.setter-requires-in-Some
+setter-requires-in-Some c = let r = ranges _ _ _ _ _ c.requires in (r.few, r.head_low)
 
-pub returns-then-other-n : goal.returns-then-other-n
+pub returns-in-Some : goal.returns-in-Some
 unfolding mark
-returns-then-other-n c =
-    rw c.setter-then-other-n.ensures
-    (explains_rival ((let it : Model = let a = c.args in record { instance = instance_with a.n a.root a.budget a.weights.now a.marks.now; history = history_of a.count a.records } in it)) c.args.tail c.args.head _ c.rival-other.result (ne_eqb _ _ c.if-mark-eq-BANNED.false) ((let it : c.rival-other.result ≡ rival ((let it : Model = let a = c.args in record { instance = instance_with a.n a.root a.budget a.weights.now a.marks.now; history = history_of a.count a.records } in it)).instance c.args.tail c.args.head = let a = c.args in c.rival-other.ensures ∙ rival_budget a.n a.root a.budget a.weights.now a.marks.now a.tail a.head in it)) c.if-other-n.true)
+returns-in-Some c =
+    let b = c.args.b.now in
+    let found = c.in-Some.ensures.some in
+    rw c.setter-in-Some.ensures
+    (explains_rival (model_of b) c.args.tail c.args.head _ c.in-Some.other.0 (ne_eqb _ _ c.if-b-tail-eq-BANNED.false)
+    (found.0 ∙ rival_budget b.n b.root b.budget b.weights b.marks c.args.tail c.args.head) found.1)
 
 -- PLANNED
 pub plan_forced-plan-requires : goal.plan_forced-plan-requires
 plan_forced-plan-requires c =
-    (valid_fields ((let it : Model = let a = c.args in record { instance = instance_with a.n a.root a.budget a.weights.now a.marks.now; history = history_of a.count a.records } in it)) ((let it : Explainable ((let it : Model = let a = c.args in record { instance = instance_with a.n a.root a.budget a.weights.now a.marks.now; history = history_of a.count a.records } in it)) c.args.tail c.args.head (length c.args.parents.now) (length c.args.cuts.now) = explainable ((let it : Model = let a = c.args in record { instance = instance_with a.n a.root a.budget a.weights.now a.marks.now; history = history_of a.count a.records } in it)) _ _ _ _ c.requires.0 in it)).is_valid, c.requires.1, c.requires.2, omega (arith, ((let it : Explainable ((let it : Model = let a = c.args in record { instance = instance_with a.n a.root a.budget a.weights.now a.marks.now; history = history_of a.count a.records } in it)) c.args.tail c.args.head (length c.args.parents.now) (length c.args.cuts.now) = explainable ((let it : Model = let a = c.args in record { instance = instance_with a.n a.root a.budget a.weights.now a.marks.now; history = history_of a.count a.records } in it)) _ _ _ _ c.requires.0 in it)).head_below, (let it : c.args.n ≤ max_vertices = explainable_small ((let it : Model = let a = c.args in record { instance = instance_with a.n a.root a.budget a.weights.now a.marks.now; history = history_of a.count a.records } in it)) _ _ _ _ ((let it : Explainable ((let it : Model = let a = c.args in record { instance = instance_with a.n a.root a.budget a.weights.now a.marks.now; history = history_of a.count a.records } in it)) c.args.tail c.args.head (length c.args.parents.now) (length c.args.cuts.now) = explainable ((let it : Model = let a = c.args in record { instance = instance_with a.n a.root a.budget a.weights.now a.marks.now; history = history_of a.count a.records } in it)) _ _ _ _ c.requires.0 in it)) in it)))
+    ((valid_fields _ (explainable (model_of c.args.b.now) _ _ _ _ c.requires).is_valid), (ranges _ _ _ _ _ c.requires).head_low)
 
 pub display_plan-requires : goal.display_plan-requires
-display_plan-requires c = ((let it : c.args.n ≤ max_vertices = explainable_small ((let it : Model = let a = c.args in record { instance = instance_with a.n a.root a.budget a.weights.now a.marks.now; history = history_of a.count a.records } in it)) _ _ _ _ ((let it : Explainable ((let it : Model = let a = c.args in record { instance = instance_with a.n a.root a.budget a.weights.now a.marks.now; history = history_of a.count a.records } in it)) c.args.tail c.args.head (length c.args.parents.now) (length c.args.cuts.now) = explainable ((let it : Model = let a = c.args in record { instance = instance_with a.n a.root a.budget a.weights.now a.marks.now; history = history_of a.count a.records } in it)) _ _ _ _ c.requires.0 in it)) in it), ((let it : Explainable ((let it : Model = let a = c.args in record { instance = instance_with a.n a.root a.budget a.weights.now a.marks.now; history = history_of a.count a.records } in it)) c.args.tail c.args.head (length c.args.parents.now) (length c.args.cuts.now) = explainable ((let it : Model = let a = c.args in record { instance = instance_with a.n a.root a.budget a.weights.now a.marks.now; history = history_of a.count a.records } in it)) _ _ _ _ c.requires.0 in it)).for_parents, ((let it : Explainable ((let it : Model = let a = c.args in record { instance = instance_with a.n a.root a.budget a.weights.now a.marks.now; history = history_of a.count a.records } in it)) c.args.tail c.args.head (length c.args.parents.now) (length c.args.cuts.now) = explainable ((let it : Model = let a = c.args in record { instance = instance_with a.n a.root a.budget a.weights.now a.marks.now; history = history_of a.count a.records } in it)) _ _ _ _ c.requires.0 in it)).for_cuts)
+display_plan-requires c =
+    let x = explainable (model_of c.args.b.now) _ _ _ _ c.requires in
+    ((ranges _ _ _ _ _ c.requires).n_high, x.for_parents, x.for_cuts)
 
 pub returns : goal.returns
 unfolding mark
 returns c =
-    explains_priced ((let it : Model = let a = c.args in record { instance = instance_with a.n a.root a.budget a.weights.now a.marks.now; history = history_of a.count a.records } in it)) c.args.tail c.args.head c.plan_forced-plan.result _ _ c.rival-other.result (ne_eqb _ _ c.if-mark-eq-BANNED.false) ((let it : c.rival-other.result ≡ rival ((let it : Model = let a = c.args in record { instance = instance_with a.n a.root a.budget a.weights.now a.marks.now; history = history_of a.count a.records } in it)).instance c.args.tail c.args.head = let a = c.args in c.rival-other.ensures ∙ rival_budget a.n a.root a.budget a.weights.now a.marks.now a.tail a.head in it))
-    c.if-other-n.false c.plan_forced-plan.ensures c.display_plan.ensures
+    let b = c.args.b.now in
+    let none = sym (rival_budget b.n b.root b.budget b.weights b.marks c.args.tail c.args.head) ∙ c.in_default.ensures.none in
+    explains_priced (model_of b) c.args.tail c.args.head c.plan_forced-plan.result _ _ _ (ne_eqb _ _ c.if-b-tail-eq-BANNED.false) refl (omega (arith, none))
+    c.plan_forced-plan.ensures c.display_plan.ensures

@@ -1,15 +1,20 @@
 -- A buffer of the longest card's length has room. Assumes nothing.
+use mathlib.Core.Path.{◌∙◌}
 use native.Mathlib.Omega.{arith}
-use Rattle.instance.specs.Instance.{instance_with}
-use Rattle.instance.proofs.ValidLaws.{valid_some, valid_small, valid_root}
+use Rattle.std.specs.Prelude.{Err}
+use Rattle.std.proofs.Common.{rules}
+use Rattle.card.specs.Write.{written_of}
+use Rattle.commands.proofs.ValidLaws.{valid_parts}
+use Rattle.board.specs.ModelOf.{instance_of}
 use Rattle.planner.proofs.WritingLaws.{written_answer}
 use Rattle.planner.proofs.replaying.write_away.Goals as goal
 
-pub write_instance-written-requires : goal.write_instance-written-requires
-write_instance-written-requires c =
-    let i = (let a = c.args in instance_with a.n a.root a.budget a.weights.now a.marks.now) in
-    (valid_some i c.requires.0, valid_small i c.requires.0, valid_root i c.requires.0, c.requires.1, c.requires.2)
+pub write_instance-requires : goal.write_instance-requires
+write_instance-requires c =
+    let v = valid_parts _ c.requires in
+    (v.n_low, v.n_high, v.root_below, search rules, search rules)
 
-pub returns : goal.returns
-returns c =
-    written_answer ((let a = c.args in instance_with a.n a.root a.budget a.weights.now a.marks.now)) c.write_instance-written.result _ (valid_small ((let a = c.args in instance_with a.n a.root a.budget a.weights.now a.marks.now)) c.requires.0) (omega arith) c.write_instance-written.ensures.result
+pub returns-in-Err : goal.returns-in-Err
+returns-in-Err c =
+    c.from.ensures
+    ∙ written_answer (instance_of c.args.b.now) (written_of (Err c.in-Err.refusal)) _ (valid_parts _ c.requires).n_high (omega arith) c.in-Err.ensures.result

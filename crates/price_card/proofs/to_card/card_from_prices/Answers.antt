@@ -1,35 +1,40 @@
 -- Refused, or read into a table and written from there. Assumes nothing.
-use mathlib.Core.Path.{refl, sym, ◌∙◌}
+use mathlib.Core.Path.{refl, sym}
+use Rattle.std.proofs.lemmas.Result.{err_from_is_err_and}
+use Rattle.instance.proofs.RefusalLaws.{not_0}
 use Rattle.price_list.proofs.LineLaws.{table_none}
 use Rattle.price_card.proofs.ListedLaws.{numbers_known}
 use Rattle.price_card.proofs.ToCardLaws.{table_weights, numbers_refused, list_refused, card_written}
 use Rattle.price_card.proofs.to_card.card_from_prices.Goals as goal
 
-pub returns-then-refusal-ne0 : goal.returns-then-refusal-ne0
-returns-then-refusal-ne0 c = let h = c.card_count_answer-refusal in numbers_refused _ _ _ _ _ h.result h.ensures c.if-refusal-ne0.true
+pub returns-in_err-check_numbers : goal.returns-in_err-check_numbers
+returns-in_err-check_numbers c =
+    let p = err_from_is_err_and c.from_residual.result c.from_residual.ensures.1 in
+    rw (p.1, p.2) (numbers_refused _ _ _ _ _ _ c.in_err-check_numbers.ensures (not_0 _))
 
-pub read_table-read-requires : goal.read_table-read-requires
-read_table-read-requires c =
-    let h = c.card_count_answer-refusal in
-    let k = numbers_known _ _ _ (sym h.ensures ∙ c.if-refusal-ne0.false) in
-    (k.small, table_none)
+pub read_table-requires : goal.read_table-requires
+read_table-requires c = let k = numbers_known _ _ _ (sym c.in_ok-check_numbers.ensures) in (k.small, table_none)
 
-pub returns-then-answer-ne0 : goal.returns-then-answer-ne0
-returns-then-answer-ne0 c =
-    let h = c.card_count_answer-refusal in
-    let t = c.read_table-read in
-    list_refused _ _ _ _ _ h.result h.ensures c.if-refusal-ne0.false t.result.answer t.result.line t.ensures.answer t.ensures.line c.if-answer-ne0.true
+pub returns-in_err-read_table : goal.returns-in_err-read_table
+returns-in_err-read_table c =
+    let p = err_from_is_err_and c.from_residual-in_err-read_table.result c.from_residual-in_err-read_table.ensures.1 in
+    let t = c.in_err-read_table.ensures in
+    rw (p.1, p.2) (list_refused _ _ _ _ _ _ c.in_ok-check_numbers.ensures refl _ _ t.answer t.line (not_0 _))
 
-pub write_instance-written-requires : goal.write_instance-written-requires
-write_instance-written-requires c =
-    let h = c.card_count_answer-refusal in
-    let k = numbers_known _ _ _ (sym h.ensures ∙ c.if-refusal-ne0.false) in
-    (k.some, k.small, k.root, c.read_table-read.ensures.holds.long, refl)
+pub write_instance-requires : goal.write_instance-requires
+write_instance-requires c =
+    let k = numbers_known _ _ _ (sym c.in_ok-check_numbers.ensures) in
+    (k.some, k.small, k.root, c.read_table.ensures.holds.long, refl)
+
+pub returns-in_err-write_instance : goal.returns-in_err-write_instance
+returns-in_err-write_instance c =
+    let p = err_from_is_err_and c.from_residual-in_err-write_instance.result c.from_residual-in_err-write_instance.ensures.1 in
+    let t = c.in_ok-read_table.ensures in
+    let same = table_weights _ _ t.holds.long t.holds.at in
+    rw (p.1, p.2) (card_written _ _ _ _ _ _ c.in_ok-check_numbers.ensures refl _ _ same refl _ t.answer refl _ _ c.in_err-write_instance.ensures)
 
 pub returns : goal.returns
 returns c =
-    let h = c.card_count_answer-refusal in
-    let t = c.read_table-read in
-    let same = table_weights _ _ t.ensures.holds.long t.ensures.holds.at in
-    let w = c.write_instance-written in
-    card_written _ _ _ _ _ h.result h.ensures c.if-refusal-ne0.false _ _ same refl t.result.answer t.ensures.answer c.if-answer-ne0.false _ w.result w.ensures
+    let t = c.in_ok-read_table.ensures in
+    let same = table_weights _ _ t.holds.long t.holds.at in
+    card_written _ _ _ _ _ _ c.in_ok-check_numbers.ensures refl _ _ same refl _ t.answer refl _ _ c.in_ok-write_instance.ensures

@@ -1,28 +1,11 @@
 -- What was read and the digits that are left make up the number. Assumes nothing.
 use mathlib.Core.Path.{sym, ◌∙◌}
-use native.Mathlib.Omega.{arith}
 use borrow.Author.Tests.{not-true, not-false}
 use Rattle.price_list.proofs.NumberLaws.{scan_start, scan_more, scan_end, digits_end, digits_none}
 use Rattle.price_list.proofs.numbers.scan_digits.Goals as goal
 
 pub loop-end-init : goal.loop-end-init
 loop-end-init c = scan_start _ _ c.requires
-
-pub bounds-text-end : goal.bounds-text-end
-bounds-text-end c = omega arith
-
-pub is_digit-requires : goal.is_digit-requires
-is_digit-requires c = tt
-
-pub appended-value-requires : goal.appended-value-requires
-appended-value-requires c =
-    (c.loop-end.invariant.low, sym c.is_digit.ensures ∙ not-false c.is_digit.result c.if-not-is_digit.false-raw)
-
-pub overflow_add-end : goal.overflow_add-end
-overflow_add-end c = omega arith
-
-pub loop-end-smaller : goal.loop-end-smaller
-loop-end-smaller c = omega arith
 
 pub loop-end-preserved : goal.loop-end-preserved
 loop-end-preserved c =

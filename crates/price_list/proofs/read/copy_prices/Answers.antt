@@ -5,18 +5,11 @@ use native.Mathlib.Omega.{arith}
 use lib.ListN.{get_or, length-set}
 use Rattle.base.specs.Lists.{tabulate}
 use Rattle.base.proofs.FrontLaws.{front_is, front_none, front_more}
-use Rattle.base.proofs.GridLaws.{square_most, grid_some, grid_row, grid_column}
 use Rattle.base.proofs.ListLaws.{length_tabulate}
 use Rattle.instance.specs.Limits.{max_vertices}
 use Rattle.instance.specs.Instance.{cell}
 use Rattle.price_list.specs.Reads.{dense}
 use Rattle.price_list.proofs.read.copy_prices.Goals as goal
-
-pub overflow_mul-total : goal.overflow_mul-total
-overflow_mul-total c = omega (arith, square_most c.args.n max_vertices c.requires.0)
-
-pub loop-k-init : goal.loop-k-init
-loop-k-init c = (omega arith, refl, front_none _ _)
 
 -- the place of a turn is a tail and a head below n
 record Ends (n k : ℕ) : Type 0 where
@@ -26,54 +19,14 @@ record Ends (n k : ℕ) : Type 0 where
   tail : k / n < n
   head : k % n < n
 
-ends : (n k : ℕ) → n ≤ max_vertices → k < n * n → Ends n k
-ends n k small l =
-    record { small = small; square = square_most n max_vertices small; some = grid_some n k l; tail = grid_row n k l; head = grid_column n k l }
-
-pub nonzero_div-i : goal.nonzero_div-i
-nonzero_div-i c = omega (arith, ends c.args.n c.loop-k.k c.requires.0 c.loop-k-test.true)
-
-pub overflow_mul-i : goal.overflow_mul-i
-overflow_mul-i c = omega (arith, ends c.args.n c.loop-k.k c.requires.0 c.loop-k-test.true)
-
-pub nonzero_rem-i : goal.nonzero_rem-i
-nonzero_rem-i c = omega (arith, ends c.args.n c.loop-k.k c.requires.0 c.loop-k-test.true)
-
-pub overflow_add-i : goal.overflow_add-i
-overflow_add-i c = omega (arith, ends c.args.n c.loop-k.k c.requires.0 c.loop-k-test.true)
-
-pub overflow_cast-i : goal.overflow_cast-i
-overflow_cast-i c = omega (arith, ends c.args.n c.loop-k.k c.requires.0 c.loop-k-test.true)
-
-pub offset_bounds-table-i : goal.offset_bounds-table-i
-offset_bounds-table-i c = omega (arith, ends c.args.n c.loop-k.k c.requires.0 c.loop-k-test.true)
-
-pub bounds-table-i : goal.bounds-table-i
-bounds-table-i c = omega (arith, ends c.args.n c.loop-k.k c.requires.0 c.loop-k-test.true)
-
-pub overflow_cast-prices : goal.overflow_cast-prices
-overflow_cast-prices c = omega (arith, ends c.args.n c.loop-k.k c.requires.0 c.loop-k-test.true)
-
-pub offset_bounds-prices-k : goal.offset_bounds-prices-k
-offset_bounds-prices-k c = omega (arith, ends c.args.n c.loop-k.k c.requires.0 c.loop-k-test.true)
-
-pub bounds-prices-k : goal.bounds-prices-k
-bounds-prices-k c = omega (arith, ends c.args.n c.loop-k.k c.requires.0 c.loop-k-test.true)
-
-pub overflow_add-k : goal.overflow_add-k
-overflow_add-k c = omega (arith, ends c.args.n c.loop-k.k c.requires.0 c.loop-k-test.true)
-
-pub loop-k-smaller : goal.loop-k-smaller
-loop-k-smaller c = omega arith
+pub loop-k-init : goal.loop-k-init
+loop-k-init c = (omega arith, refl, front_none _ _)
 
 pub loop-k-preserved : goal.loop-k-preserved
 loop-k-preserved c =
     let l = c.loop-k in
     let a = c.args in
     (omega arith, simp length-set l.invariant.1, front_more l.prices a.prices.now l.k _ _ (omega arith) l.invariant.2 refl)
-
-pub shape_of-prices : goal.shape_of-prices
-shape_of-prices c = c.loop-k.invariant.1
 
 pub returns : goal.returns
 unfolding dense

@@ -1,7 +1,7 @@
 -- The places that were passed hold the weights of the table. Assumes nothing.
 use mathlib.Core.Path.{◌≡◌}
 use mathlib.Core.List.{◌++◌}
-use Prim.Native.Nat.{◌-◌, ◌/◌, ◌%◌, ◌≤◌}
+use Prim.Native.Nat.{◌/◌, ◌%◌, ◌≤◌}
 use lib.ListN.{length, get_or, drop}
 use Rattle.base.specs.Lists.{tabulate}
 use Rattle.instance.specs.Instance.{cell}
@@ -9,6 +9,3 @@ use Rattle.price_list.proofs.read.copy_prices.Given as goal
 
 abbrev pub invariant-loop-k : goal.invariant-loop-k
 invariant-loop-k l = (l.k ≤ l.total) × (length l.prices ≡ length l.initial.prices) × (l.prices ≡ tabulate l.k (λ i. get_or l.table (cell (i / l.n) (i % l.n)) 0) ++ drop l.k l.initial.prices)
-
-abbrev pub decreases-loop-k : goal.decreases-loop-k
-decreases-loop-k l = l.total - l.k

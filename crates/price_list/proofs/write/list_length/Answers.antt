@@ -25,33 +25,12 @@ piece c =
     let most = place_most a.n a.root k (get_or a.prices.now k 0) (omega arith) (omega (arith, c.shared_slice_known-in-loop-k-1.given k)) in
     (c.place_length-sum.ensures ∙ ap (λ (w : ℕ). length (place_text a.n a.root k w)) here, omega (arith, c.place_length-sum.ensures))
 
-pub overflow_mul-total : goal.overflow_mul-total
-overflow_mul-total c = omega (arith, square_most c.args.n max_vertices c.requires.1)
-
 pub loop-k-init : goal.loop-k-init
 unfolding join_below
 loop-k-init c = (omega arith, omega arith, refl)
 
-pub overflow_cast-k : goal.overflow_cast-k
-overflow_cast-k c = omega arith
-
-pub offset_bounds-prices-k : goal.offset_bounds-prices-k
-offset_bounds-prices-k c = omega (arith, square_most c.args.n max_vertices c.requires.1)
-
-pub bounds-prices-k : goal.bounds-prices-k
-bounds-prices-k c = omega (arith, c.requires.2)
-
-pub place_length-sum-requires : goal.place_length-sum-requires
-place_length-sum-requires c = c.requires.0
-
 pub overflow_add-sum : goal.overflow_add-sum
 overflow_add-sum c = omega (arith, piece c, square_most c.args.n max_vertices c.requires.1)
-
-pub overflow_add-k : goal.overflow_add-k
-overflow_add-k c = omega (arith, square_most c.args.n max_vertices c.requires.1)
-
-pub loop-k-smaller : goal.loop-k-smaller
-loop-k-smaller c = omega arith
 
 pub loop-k-preserved : goal.loop-k-preserved
 loop-k-preserved c =

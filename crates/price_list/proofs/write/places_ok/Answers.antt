@@ -1,35 +1,12 @@
 -- The places from the last one down pass. Assumes nothing.
-use mathlib.Core.Path.{◌≡◌, refl, sym, ap, ◌∙◌}
+use mathlib.Core.Path.{◌≡◌, sym, ap, ◌∙◌}
 use Prim.Native.Nat.{◌-◌}
 use native.Mathlib.Omega.{arith}
 use borrow.Author.Tests.{not-true, not-false}
 use Rattle.base.proofs.BoundedLaws.{all_none, all_fail, all_pass}
-use Rattle.base.proofs.GridLaws.{square_most}
-use Rattle.instance.specs.Limits.{max_vertices}
 use Rattle.price_format.specs.Writing.{place_ok}
 use Rattle.price_list.proofs.WriteLaws.{price_here}
 use Rattle.price_list.proofs.write.places_ok.Goals as goal
-
-pub overflow_mul-k : goal.overflow_mul-k
-overflow_mul-k c = omega (arith, square_most c.args.n max_vertices c.requires.1)
-
-pub loop-k-init : goal.loop-k-init
-loop-k-init c = (omega arith, refl)
-
-pub overflow_sub-k : goal.overflow_sub-k
-overflow_sub-k c = omega arith
-
-pub overflow_cast-k : goal.overflow_cast-k
-overflow_cast-k c = omega arith
-
-pub offset_bounds-prices-k : goal.offset_bounds-prices-k
-offset_bounds-prices-k c = omega (arith, square_most c.args.n max_vertices c.requires.1)
-
-pub bounds-prices-k : goal.bounds-prices-k
-bounds-prices-k c = omega (arith, c.requires.2)
-
-pub place_ok-requires : goal.place_ok-requires
-place_ok-requires c = c.requires.0
 
 pub returns-then-not-place_ok : goal.returns-then-not-place_ok
 returns-then-not-place_ok c =
@@ -38,9 +15,6 @@ returns-then-not-place_ok c =
     let p = c.place_ok in
     let e = ap (place_ok a.n a.root (l.k - 1)) (price_here a.prices.now (l.k - 1) (omega (arith, c.requires.2))) in
     sym (l.invariant.1 ∙ all_fail l.k _ c.loop-k-test.true (sym e ∙ sym p.ensures ∙ not-true p.result c.if-not-place_ok.true-raw))
-
-pub loop-k-smaller : goal.loop-k-smaller
-loop-k-smaller c = omega arith
 
 pub loop-k-preserved : goal.loop-k-preserved
 loop-k-preserved c =

@@ -7,6 +7,3 @@ use Rattle.price_list.proofs.write.places_ok.Given as goal
 
 abbrev pub invariant-loop-k : goal.invariant-loop-k
 invariant-loop-k l = (l.k ≤ l.n * l.n) × (all_below (l.n * l.n) (λ i. place_ok l.n l.root i (price_at l.prices i)) ≡ all_below l.k (λ i. place_ok l.n l.root i (price_at l.prices i)))
-
-abbrev pub decreases-loop-k : goal.decreases-loop-k
-decreases-loop-k l = l.k

@@ -3,27 +3,13 @@ use mathlib.Core.Path.{◌≡◌, refl}
 use mathlib.Core.List.{List}
 use Prim.Native.Nat.{ℕ, ◌*◌}
 use native.Mathlib.Omega.{arith}
-use Rattle.base.proofs.GridLaws.{square_most}
-use Rattle.instance.specs.Limits.{max_vertices}
 use Rattle.text.proofs.JoinLaws.{join_none, join_room, join_next}
 use Rattle.price_format.specs.Writing.{price_at, place_text, list_text}
 use Rattle.price_list.proofs.WriteLaws.{price_here}
 use Rattle.price_list.proofs.write.put_list.Goals as goal
 
-pub overflow_mul-total : goal.overflow_mul-total
-overflow_mul-total c = omega (arith, square_most c.args.n max_vertices c.requires.1)
-
 pub loop-k-init : goal.loop-k-init
 loop-k-init c = (omega arith, join_none _ _ _, refl)
-
-pub overflow_cast-k : goal.overflow_cast-k
-overflow_cast-k c = omega arith
-
-pub offset_bounds-prices-k : goal.offset_bounds-prices-k
-offset_bounds-prices-k c = omega (arith, square_most c.args.n max_vertices c.requires.1)
-
-pub bounds-prices-k : goal.bounds-prices-k
-bounds-prices-k c = omega (arith, c.requires.2)
 
 pub put_place-at-requires : goal.put_place-at-requires
 unfolding list_text
@@ -31,12 +17,6 @@ put_place-at-requires c =
     let l = c.loop-k in
     let here = price_here c.args.prices.now l.k (omega (arith, c.requires.2)) in
     (c.requires.0, rw here (join_room (λ i. place_text c.args.n c.args.root i (price_at c.args.prices.now i)) (c.args.n * c.args.n) l.k c.requires.3 (omega arith) l.invariant.1))
-
-pub overflow_add-k : goal.overflow_add-k
-overflow_add-k c = omega (arith, square_most c.args.n max_vertices c.requires.1)
-
-pub loop-k-smaller : goal.loop-k-smaller
-loop-k-smaller c = omega arith
 
 pub loop-k-preserved : goal.loop-k-preserved
 unfolding list_text
@@ -46,9 +26,6 @@ loop-k-preserved c =
     let here = price_here c.args.prices.now l.k (omega (arith, c.requires.2)) in
     let g : ℕ → List ℕ = λ i. place_text c.args.n c.args.root i (price_at c.args.prices.now i) in
     (omega arith, join_next g (c.args.n * c.args.n) l.k c.requires.3 (omega arith) l.invariant.1 (rw here at p.ensures), omega (arith, l.invariant.2, p.auto))
-
-pub shape_of-out : goal.shape_of-out
-shape_of-out c = c.loop-k.invariant.2
 
 pub returns : goal.returns
 unfolding list_text

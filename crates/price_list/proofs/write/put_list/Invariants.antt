@@ -1,6 +1,6 @@
 -- The pieces that were passed stand one behind the other. Assumes nothing.
 use mathlib.Core.Path.{◌≡◌}
-use Prim.Native.Nat.{◌-◌, ◌≤◌}
+use Prim.Native.Nat.{◌≤◌}
 use lib.ListN.{length}
 use Rattle.base.specs.Lists.{join_below}
 use Rattle.text.specs.Buffer.{Puts}
@@ -10,6 +10,3 @@ use Rattle.price_list.proofs.write.put_list.Given as goal
 abbrev pub invariant-loop-k : goal.invariant-loop-k
 invariant-loop-k l =
     (l.k ≤ l.total) × Puts (join_below l.k (λ i. place_text l.n l.root i (price_at l.prices i))) l.initial.out l.out 0 l.at × (length l.out ≡ length l.initial.out)
-
-abbrev pub decreases-loop-k : goal.decreases-loop-k
-decreases-loop-k l = l.total - l.k

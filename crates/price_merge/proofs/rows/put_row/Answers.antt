@@ -1,40 +1,11 @@
--- The loop has copied the numbers that it passed, as bytes are put into a text.
-use mathlib.Core.Path.{refl}
+-- The part of the buffer that is written is the row, as with a text. Assumes nothing.
 use native.Mathlib.Omega.{arith}
-use lib.ListN.{length-set}
-use lib.Seq.{take_all}
-use borrow.Author.Rules.{rules}
-use Rattle.text.proofs.BufferLaws.{puts_none, copied_place, copied_next}
+use Prim.Native.Nat.{◌+◌, ◌-◌}
+use lib.ListN.{length}
+use Rattle.text.proofs.BufferLaws.{puts_part}
 use Rattle.price_merge.proofs.rows.put_row.Goals as goal
 
-pub loop-i-init : goal.loop-i-init
-loop-i-init c = (puts_none _ _, omega arith, refl)
-
-pub bounds-row-i : goal.bounds-row-i
-bounds-row-i c = omega arith
-
-pub offset_bounds-out-next : goal.offset_bounds-out-next
-offset_bounds-out-next c = let i = c.loop-i in let p = copied_place _ i.i i.invariant.0 i.invariant.1 in search rules
-
-pub bounds-out-next : goal.bounds-out-next
-bounds-out-next c = let i = c.loop-i in let p = copied_place _ i.i i.invariant.0 i.invariant.1 in omega arith
-
-pub overflow_add-next : goal.overflow_add-next
-overflow_add-next c = let i = c.loop-i in let p = copied_place _ i.i i.invariant.0 i.invariant.1 in omega arith
-
-pub overflow_add-i : goal.overflow_add-i
-overflow_add-i c = omega arith
-
-pub loop-i-smaller : goal.loop-i-smaller
-loop-i-smaller c = omega arith
-
-pub loop-i-preserved : goal.loop-i-preserved
-loop-i-preserved c =
-    let i = c.loop-i in
-    (copied_next _ i.i i.invariant.0 c.loop-i-test.true c.requires, omega arith, simp length-set i.invariant.2)
-
-pub shape_of-out : goal.shape_of-out
-shape_of-out c = c.loop-i.invariant.2
-
 pub returns : goal.returns
-returns c = rw (take_all _ _ c.loop-i-test.false) at c.loop-i.invariant.0
+returns c =
+    let a = c.args in
+    rw c.copy_from_slice.ensures.after (puts_part a.row.now a.out.now a.at (a.at + length a.row.now - a.at) (omega arith))

@@ -14,12 +14,6 @@ put_row-next-requires c =
     let i = c.loop-tail in
     rw c.row_used-row.ensures.numbers (join_room _ _ i.tail c.requires c.loop-tail-test.true i.invariant.0)
 
-pub overflow_add-tail : goal.overflow_add-tail
-overflow_add-tail c = omega arith
-
-pub loop-tail-smaller : goal.loop-tail-smaller
-loop-tail-smaller c = omega arith
-
 pub loop-tail-preserved : goal.loop-tail-preserved
 unfolding rows_used
 loop-tail-preserved c =
@@ -28,9 +22,6 @@ loop-tail-preserved c =
     let row = c.row_used-row.ensures.numbers in
     let put = c.put_row-next in
     (join_next _ _ i.tail c.requires test i.invariant.0 (rw row at put.ensures), omega arith, put.auto.out ∙ i.invariant.2)
-
-pub shape_of-out : goal.shape_of-out
-shape_of-out c = c.loop-tail.invariant.2
 
 pub returns : goal.returns
 unfolding rows_used

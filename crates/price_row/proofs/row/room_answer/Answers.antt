@@ -1,8 +1,6 @@
 -- One test after the other.
 use Prim.Native.Nat.{◌*◌}
-use native.Mathlib.Omega.{arith}
 use borrow.Author.Tests.{lt-ltb, le-ltb, le-leb, lt-leb, eq-eqb, ne_eqb}
-use Rattle.base.proofs.GridLaws.{square_most}
 use Rattle.instance.specs.Limits.{max_vertices}
 use Rattle.price_row.specs.Row.{room_refusal}
 use Rattle.price_row.proofs.row.room_answer.Goals as goal
@@ -21,12 +19,6 @@ unfolding room_refusal
 returns-then-n-tail c =
     let a = c.args in
     simp (ne_eqb a.n 0 c.if-n-eq0.false, le-ltb max_vertices a.n c.if-n-gt-MAX_VERTICES.false, le-leb a.n a.tail c.if-n-tail.true)
-
-pub overflow_mul-size : goal.overflow_mul-size
-overflow_mul-size c = omega (arith, square_most c.args.n max_vertices c.if-n-gt-MAX_VERTICES.false)
-
-pub overflow_cast-size : goal.overflow_cast-size
-overflow_cast-size c = omega (arith, square_most c.args.n max_vertices c.if-n-gt-MAX_VERTICES.false)
 
 pub returns-then-school-size : goal.returns-then-school-size
 unfolding room_refusal

@@ -1,44 +1,15 @@
--- One number after the other, up to the first that is neither a price nor "no link".
-use mathlib.Core.Path.{refl, sym, ◌∙◌}
-use native.Mathlib.Omega.{arith}
-use lib.ListN.{get_or}
-use borrow.Author.Tests.{not-true, not-false}
-use Rattle.base.proofs.ElementLaws.{all_of_here, all_of_next, all_of_end}
+-- Each number is asked for. Assumes nothing.
+use mathlib.Core.Path.{◌∙◌}
+use borrow.Author.Rules.{rules}
+use borrow.Author.Tests.{tests}
+use Rattle.std.proofs.lemmas.Iterator.{YieldsList-from_slice}
+use Rattle.std.proofs.lemmas.Iterator.Search.{all_from_yields_List}
 use Rattle.price_row.specs.Row.{price_ok, row_ok}
-use Rattle.price_row.proofs.RowLaws.{unmarked_ok}
+use Rattle.price_row.proofs.RowLaws.{list_all_is, unmarked_ok}
 use Rattle.price_row.proofs.row.row_ok.Goals as goal
 
-pub loop-i-init : goal.loop-i-init
-unfolding row_ok
-loop-i-init c = (omega arith, refl)
-
-pub bounds-row-i : goal.bounds-row-i
-bounds-row-i c = omega arith
-
-pub returns-then-not-cell_ok : goal.returns-then-not-cell_ok
-returns-then-not-cell_ok c =
-    let row = c.args.row.now in
-    let l = c.loop-i in
-    let t = c.cell_ok in
-    sym (l.invariant.1 ∙ all_of_here price_ok 0 row l.i (omega arith) (sym (unmarked_ok (get_or row l.i 0)) ∙ sym t.ensures ∙ not-true t.result c.if-not-cell_ok.true-raw))
-
-pub overflow_add-i : goal.overflow_add-i
-overflow_add-i c = omega arith
-
-pub loop-i-smaller : goal.loop-i-smaller
-loop-i-smaller c = omega arith
-
-pub loop-i-preserved : goal.loop-i-preserved
-loop-i-preserved c =
-    let row = c.args.row.now in
-    let l = c.loop-i in
-    let t = c.cell_ok in (
-      omega arith,
-      l.invariant.1 ∙ all_of_next price_ok 0 row l.i (omega arith) (sym (unmarked_ok (get_or row l.i 0)) ∙ sym t.ensures ∙ not-false t.result c.if-not-cell_ok.false-raw),
-    )
-
 pub returns : goal.returns
+unfolding row_ok
 returns c =
-    let row = c.args.row.now in
-    let l = c.loop-i in
-    sym (l.invariant.1 ∙ all_of_end price_ok 0 row l.i (omega arith))
+    all_from_yields_List price_ok _ _ _ c.all.ensures.ran (YieldsList-from_slice c.args.row.now cc) (λ x b q k. search (rules, tests, unmarked_ok))
+    ∙ list_all_is price_ok c.args.row.now

@@ -1,9 +1,8 @@
 -- The cells that were passed hold their keys. Assumes nothing.
 use mathlib.Core.Path.{refl}
-use Prim.Native.Nat.{◌-◌}
 use native.Mathlib.Omega.{arith}
 use lib.ListN.{replicate, length-set}
-use Rattle.base.proofs.ListLaws.{tabulate_none, tabulate_store, tabulate_whole}
+use Rattle.base.proofs.ListLaws.{tabulate_none, tabulate_store}
 use Rattle.instance.specs.Limits.{cells}
 use Rattle.spanning.specs.Graph.{graph_of}
 use Rattle.spanning.specs.KeyTables.{table_key}
@@ -11,24 +10,6 @@ use Rattle.prim.proofs.keys.key_table.Goals as goal
 
 pub loop-c-init : goal.loop-c-init
 loop-c-init c = (refl, omega arith, tabulate_none (replicate cells 0) (table_key (graph_of c.args.n c.args.weights.now c.args.marks.now)))
-
-pub overflow_cast-c : goal.overflow_cast-c
-overflow_cast-c c = omega arith
-
-pub cell_key-requires : goal.cell_key-requires
-cell_key-requires c = c.requires
-
-pub offset_bounds-table-c : goal.offset_bounds-table-c
-offset_bounds-table-c c = omega arith
-
-pub bounds-table-c : goal.bounds-table-c
-bounds-table-c c = omega arith
-
-pub overflow_add-c : goal.overflow_add-c
-overflow_add-c c = omega arith
-
-pub loop-c-smaller : goal.loop-c-smaller
-loop-c-smaller c = omega arith
 
 pub loop-c-preserved : goal.loop-c-preserved
 loop-c-preserved c =
@@ -38,9 +19,3 @@ loop-c-preserved c =
       omega arith,
       tabulate_store l.table l.c (table_key (graph_of a.n a.weights.now a.marks.now)) c.cell_key.result (let s = l.invariant.0 in omega arith) l.invariant.2 c.cell_key.ensures,
     )
-
-pub returns : goal.returns
-returns c =
-    let a = c.args in
-    let l = c.loop-c in
-    tabulate_whole l.table cells l.c (table_key (graph_of a.n a.weights.now a.marks.now)) l.invariant.0 (let m = l.invariant.1 in omega arith) l.invariant.2

@@ -8,10 +8,12 @@ pub returns-then-parents-j : goal.returns-then-parents-j
 returns-then-parents-j c =
     let a = c.args in
     let p = c.requires in
-    rw (joins_read a.n a.parents.now p.0 p.1 a.i a.j p.2 p.3, eq-eqb (get_or a.parents.now a.j 0) a.i c.if-parents-j.true)
+    let e = eq-eqb (get_or a.parents.now a.j 0) a.i c.if-parents-j.true in
+    rw (joins_read a.n a.parents.now p.0 c.told-parents a.i a.j p.1 p.2, e)
 
-pub returns : goal.returns
-returns c =
+pub returns-else-parents-j : goal.returns-else-parents-j
+returns-else-parents-j c =
     let a = c.args in
     let p = c.requires in
-    rw (joins_read a.n a.parents.now p.0 p.1 a.i a.j p.2 p.3, ne_eqb (get_or a.parents.now a.j 0) a.i c.if-parents-j.false)
+    let e = ne_eqb (get_or a.parents.now a.j 0) a.i c.if-parents-j.false in
+    rw (joins_read a.n a.parents.now p.0 c.told-parents a.i a.j p.1 p.2, e)

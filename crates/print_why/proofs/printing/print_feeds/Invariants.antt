@@ -4,6 +4,3 @@ use Rattle.print_why.proofs.printing.print_feeds.Given as goal
 
 abbrev pub invariant-loop-v : goal.invariant-loop-v
 invariant-loop-v l = l.v ≤ l.n
-
-abbrev pub decreases-loop-v : goal.decreases-loop-v
-decreases-loop-v l = l.n - l.v

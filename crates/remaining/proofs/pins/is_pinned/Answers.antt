@@ -11,12 +11,6 @@ use Rattle.instance.proofs.ArcLaws.{arc_ends}
 use Rattle.remaining.proofs.PinLaws.{not_arc_unpinned, arc_pinned}
 use Rattle.remaining.proofs.pins.is_pinned.Goals as goal
 
-pub returns-then-not-is_arc : goal.returns-then-not-is_arc
-returns-then-not-is_arc c =
-    let a = c.args in
-    not_arc_unpinned (without_budget a.n a.root a.weights.now a.marks.now) a.tail a.head
-    (sym c.is_arc.ensures ∙ not-true c.is_arc.result c.if-not-is_arc.true-raw)
-
 arc : (c : goal.Else-not-is_arc)
     → is_arc (unmarked c.args.n c.args.root c.args.weights.now)
     c.args.tail c.args.head ≡ true
@@ -27,7 +21,13 @@ unfolding unmarked
 within c =
     let a = c.args in
     let e = arc_ends (unmarked a.n a.root a.weights.now) a.tail a.head (arc c) in
-    omega (arith, c.requires.0, e.tail_below, e.head_below)
+    omega (arith, c.requires, e.tail_below, e.head_below)
+
+pub returns-then-not-is_arc : goal.returns-then-not-is_arc
+returns-then-not-is_arc c =
+    let a = c.args in
+    not_arc_unpinned (without_budget a.n a.root a.weights.now a.marks.now) a.tail a.head
+    (sym c.is_arc.ensures ∙ not-true c.is_arc.result c.if-not-is_arc.true-raw)
 
 pub overflow_mul-i : goal.overflow_mul-i
 overflow_mul-i c = omega (arith, within c)

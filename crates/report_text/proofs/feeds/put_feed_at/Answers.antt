@@ -2,7 +2,6 @@
 use mathlib.Core.Path.{◌≡◌}
 use mathlib.Core.List.{List, []}
 use Prim.Native.Nat.{ℕ, ◌<◌}
-use native.Mathlib.Omega.{arith}
 use borrow.Author.Tests.{eq-eqb, ne_eqb}
 use lib.ListN.{length, get_or}
 use Rattle.base.proofs.ListLaws.{default}
@@ -26,9 +25,6 @@ pub returns-then-v-root : goal.returns-then-v-root
 returns-then-v-root c =
     let a = c.args in
     rw (at_root a.weights.now a.parents.now a.root a.v c.if-v-root.true) (puts_none _ _)
-
-pub overflow_cast-tail-2 : goal.overflow_cast-tail-2
-overflow_cast-tail-2 c = let a = c.args in omega (arith, c.shared_slice_known-2-1.given a.v)
 
 pub put_feed-requires : goal.put_feed-requires
 put_feed-requires c =

@@ -1,9 +1,8 @@
 -- The four steps of RowLaws. Assumes nothing.
-use mathlib.Core.Path.{◌∙◌}
 use native.Mathlib.Omega.{arith}
 use lib.ListN.{length-set}
 use Rattle.text.specs.Lines.{codes}
-use Rattle.report_text.proofs.RowLaws.{row_in, row_start, row_room, space_room, states_room, end_room, row_put}
+use Rattle.report_text.proofs.RowLaws.{row_in, row_room, space_room, states_room, end_room, row_put}
 use Rattle.report_text.proofs.rows.put_row.Goals as goal
 
 pub put_labelled-named-requires : goal.put_labelled-named-requires
@@ -13,10 +12,6 @@ put_labelled-named-requires c = row_room _ _ _ c.requires.room
 pub bounds-out-named : goal.bounds-out-named
 unfolding codes
 bounds-out-named c = space_room _ _ _ c.requires.room c.put_labelled-named.ensures
-
-pub overflow_mul-tail : goal.overflow_mul-tail
-overflow_mul-tail c =
-    omega (arith, row_start c.args.n c.args.tail c.requires.n_le_max_vertices c.requires.tail_lt_n)
 
 pub overflow_add-named : goal.overflow_add-named
 unfolding codes
@@ -39,10 +34,6 @@ overflow_add-result c =
     let mid = c.put_labelled-named in
     let h = end_room _ _ _ c.requires.room mid.ensures c.put_states-last.ensures in
     omega (arith, c.well_formed.1.1.1.0.0, simp length-set at c.put_states-last.auto.out, mid.auto.out)
-
-pub shape_of-out : goal.shape_of-out
-shape_of-out c =
-    simp length-set (c.put_states-last.auto.out ∙ simp length-set c.put_labelled-named.auto.out)
 
 pub returns : goal.returns
 unfolding codes

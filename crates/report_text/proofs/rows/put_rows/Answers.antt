@@ -14,21 +14,12 @@ put_row-next-requires c =
     let i = c.loop-tail in
     record { n_le_max_vertices = c.requires.n_le_max_vertices; tail_lt_n = c.loop-tail-test.true; n_in_bounds = c.requires.n_in_bounds; room = join_room _ _ i.tail c.requires.room c.loop-tail-test.true i.invariant.0 }
 
-pub overflow_add-tail : goal.overflow_add-tail
-overflow_add-tail c = omega arith
-
-pub loop-tail-smaller : goal.loop-tail-smaller
-loop-tail-smaller c = omega arith
-
 pub loop-tail-preserved : goal.loop-tail-preserved
 unfolding row_lines
 loop-tail-preserved c =
     let i = c.loop-tail in
     let test = c.loop-tail-test.true in
     (join_next _ _ i.tail c.requires.room test i.invariant.0 c.put_row-next.ensures, omega arith, c.put_row-next.auto.out ∙ i.invariant.2)
-
-pub shape_of-out : goal.shape_of-out
-shape_of-out c = c.loop-tail.invariant.2
 
 pub returns : goal.returns
 unfolding row_lines

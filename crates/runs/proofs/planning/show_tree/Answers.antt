@@ -5,14 +5,10 @@ use Prim.Native.Nat.{ℕ, max, ◌*◌}
 use lib.ListN.{take}
 use borrow.Author.Tests.{le-leb, lt-leb}
 use Rattle.base.specs.Lists.{tabulate, in_front}
-use Rattle.runs.specs.Tables.{Tree}
 use Rattle.runs.specs.Replacement.{cost_of}
 use Rattle.runs.specs.Show.{place_state}
 use Rattle.runs.proofs.AcceptLaws.{costs_by}
 use Rattle.runs.proofs.planning.show_tree.Goals as goal
-
-pub fill_tables-tables-requires : goal.fill_tables-tables-requires
-fill_tables-tables-requires c = (c.requires.some, (let it : Tree c.args.n c.args.parents.now = let s = c.requires.summable in record { places = record { small = s.small; size = s.places }; rooted = c.requires.rooted } in it))
 
 pub returns-then-total-budget : goal.returns-then-total-budget
 returns-then-total-budget c =
@@ -22,22 +18,22 @@ returns-then-total-budget c =
     let f : ℕ → ℕ → List ℕ = λ x y. in_front (tabulate (a.n * a.n) (place_state a.weights.now a.keys.now a.n (take a.n a.parents.now) x y)) a.states.now in
     record {
       outcome = rw (← e, le-leb t a.budget c.if-total-budget.true);
-      states_in = c.write_states.ensures ∙ ap (λ (y : ℕ). f t y) c.larger-limit.ensures ∙ ap (λ (x : ℕ). f x (max a.budget x)) e;
+      states_in = c.write_states.ensures ∙ ap (λ (y : ℕ). f t y) c.max.ensures ∙ ap (λ (x : ℕ). f x (max a.budget x)) e;
       costs_in =
           c.write_costs.ensures
           ∙ ap (λ (l : List ℕ). in_front l a.costs.now)
           (costs_by (take a.n a.parents.now) a.n c.edge_costs-found.result (cost_of a.keys.now a.n (take a.n a.parents.now)) c.edge_costs-found.ensures);
     }
 
-pub returns : goal.returns
-returns c =
+pub returns-else-total-budget : goal.returns-else-total-budget
+returns-else-total-budget c =
     let a = c.args in
     let t = c.total_of-total.result in
     let e = c.total_of-total.ensures in
     let f : ℕ → ℕ → List ℕ = λ x y. in_front (tabulate (a.n * a.n) (place_state a.weights.now a.keys.now a.n (take a.n a.parents.now) x y)) a.states.now in
     record {
       outcome = rw (← e, lt-leb t a.budget c.if-total-budget.false);
-      states_in = c.write_states.ensures ∙ ap (λ (y : ℕ). f t y) c.larger-limit.ensures ∙ ap (λ (x : ℕ). f x (max a.budget x)) e;
+      states_in = c.write_states.ensures ∙ ap (λ (y : ℕ). f t y) c.max.ensures ∙ ap (λ (x : ℕ). f x (max a.budget x)) e;
       costs_in =
           c.write_costs.ensures
           ∙ ap (λ (l : List ℕ). in_front l a.costs.now)

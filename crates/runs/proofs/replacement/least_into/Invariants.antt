@@ -1,6 +1,5 @@
 -- The least key of those that were passed; none where j is not below v. Assumes nothing.
 use mathlib.Core.Path.{◌≡◌}
-use Prim.Native.Nat.{◌-◌, ◌≤◌}
 use lib.ListN.{take}
 use Rattle.spanning.specs.Extremes.{least_below}
 use Rattle.spanning.specs.Keys.{no_key}
@@ -8,7 +7,4 @@ use Rattle.spanning.specs.KeyTables.{crossing_key}
 use Rattle.runs.proofs.replacement.least_into.Given as goal
 
 abbrev pub invariant-loop-i : goal.invariant-loop-i
-invariant-loop-i l = (l.i ≤ l.n) × (l.least ≡ least_below no_key l.i (crossing_key l.keys l.n (take l.n l.parents) l.v l.j))
-
-abbrev pub decreases-loop-i : goal.decreases-loop-i
-decreases-loop-i l = l.n - l.i
+invariant-loop-i l = l.least ≡ least_below no_key l.i (crossing_key l.tree.keys.now l.tree.n (take l.tree.n l.tree.parents.now) l.v l.j)

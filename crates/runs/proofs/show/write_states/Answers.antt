@@ -1,78 +1,17 @@
 -- The places that were passed are written, and the others are as they were. Assumes nothing.
-use mathlib.Core.Path.{◌≡◌, refl, ◌∙◌}
-use Prim.Native.Nat.{ℕ, ◌*◌, ◌-◌}
+use mathlib.Core.Path.{refl, ◌∙◌}
 use native.Mathlib.Omega.{arith}
 use lib.ListN.{length-set, take}
-use Rattle.base.specs.Lists.{tabulate}
-use Rattle.base.proofs.FrontLaws.{front_is, front_none, front_more}
-use Rattle.base.proofs.GridLaws.{square_most}
-use Rattle.base.proofs.ListLaws.{length_tabulate}
-use Rattle.instance.specs.Limits.{max_vertices}
-use Rattle.prim.proofs.PlaceLaws.{placed_first, placed_down, placed_on, row_below}
+use Rattle.base.proofs.FrontLaws.{front_none, front_more}
 use Rattle.runs.specs.Show.{place_state}
 use Rattle.runs.proofs.show.write_states.Goals as goal
 
-pub overflow_mul-size : goal.overflow_mul-size
-overflow_mul-size c = omega (arith, square_most c.args.n max_vertices c.requires.1.small)
-
 pub loop-k-init : goal.loop-k-init
-loop-k-init c =
-    let a = c.args in
-    (omega arith, placed_first a.n c.requires.0, refl, front_none (place_state a.weights.now a.keys.now a.n (take a.n a.parents.now) a.total a.limit) a.states.now)
-
-pub place_state-requires : goal.place_state-requires
-place_state-requires c = let p = c.requires in (p.1, p.2, p.3, p.4, omega arith, c.loop-k.invariant.1)
-
-pub overflow_cast-states : goal.overflow_cast-states
-overflow_cast-states c = let s = square_most c.args.n max_vertices c.requires.1.small in omega arith
-
-pub bounds-states-k : goal.bounds-states-k
-bounds-states-k c = let s = c.loop-k.invariant.2 in let r = c.requires.5 in omega arith
-
-pub overflow_add-k : goal.overflow_add-k
-overflow_add-k c = let s = square_most c.args.n max_vertices c.requires.1.small in omega arith
-
-pub overflow_add-j : goal.overflow_add-j
-overflow_add-j c = let s = c.requires.1.small in let d = c.loop-k.invariant.1.column in omega arith
-
-pub overflow_add-i : goal.overflow_add-i
-overflow_add-i c = let s = c.requires.1.small in let d = row_below c.args.n c.loop-k.k c.loop-k.i c.loop-k.j c.loop-k.invariant.1 (omega arith) in omega arith
-
-pub loop-k-smaller-then-j-n : goal.loop-k-smaller-then-j-n
-loop-k-smaller-then-j-n c = omega arith
-
-pub loop-k-preserved-then-j-n : goal.loop-k-preserved-then-j-n
-loop-k-preserved-then-j-n c =
-    let a = c.args in
-    let l = c.loop-k in
-    let r = c.requires.5 in (
-      omega arith,
-      placed_down a.n l.k l.i l.j l.invariant.1 c.if-j-n.true,
-      simp length-set l.invariant.2,
-      front_more l.states a.states.now l.k c.place_state.result (place_state a.weights.now a.keys.now a.n (take a.n a.parents.now) a.total a.limit) (omega arith) l.invariant.3 c.place_state.ensures,
-    )
-
-pub loop-k-smaller : goal.loop-k-smaller
-loop-k-smaller c = omega arith
+loop-k-init c = let a = c.args in (refl, front_none (place_state a.weights.now a.shown.now.keys.now a.shown.now.n (take a.shown.now.n a.shown.now.parents.now) a.shown.now.total a.shown.now.limit) a.states.now)
 
 pub loop-k-preserved : goal.loop-k-preserved
 loop-k-preserved c =
     let a = c.args in
     let l = c.loop-k in
-    let r = c.requires.5 in (
-      omega arith,
-      placed_on a.n l.k l.i l.j l.invariant.1 c.if-j-n.false,
-      simp length-set l.invariant.2,
-      front_more l.states a.states.now l.k c.place_state.result (place_state a.weights.now a.keys.now a.n (take a.n a.parents.now) a.total a.limit) (omega arith) l.invariant.3 c.place_state.ensures,
-    )
-
-pub shape_of-states : goal.shape_of-states
-shape_of-states c = c.loop-k.invariant.2
-
-pub returns : goal.returns
-returns c =
-    let a = c.args in
-    let l = c.loop-k in
-    let e : l.k ≡ a.n * a.n = (let m = l.invariant.0 in omega arith) in
-    let g : ℕ → ℕ = place_state a.weights.now a.keys.now a.n (take a.n a.parents.now) a.total a.limit in
-    (rw e at l.invariant.3) ∙ front_is (tabulate (a.n * a.n) g) a.states.now (a.n * a.n) (length_tabulate (a.n * a.n) g)
+    let size = l.invariant.0 in
+    (simp length-set size, front_more l.states a.states.now l.k c.from.result (place_state a.weights.now a.shown.now.keys.now a.shown.now.n (take a.shown.now.n a.shown.now.parents.now) a.shown.now.total a.shown.now.limit) (omega arith) l.invariant.1 (c.from.ensures ∙ c.place_state.ensures))

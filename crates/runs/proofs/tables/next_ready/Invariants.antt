@@ -2,12 +2,9 @@
 use mathlib.Core.Path.{◌≡◌}
 use mathlib.Core.Bool.{false}
 use mathlib.Core.Logic.{◌≢◌}
-use Prim.Native.Nat.{ℕ, ◌-◌, ◌≤◌, ◌<◌}
+use Prim.Native.Nat.{ℕ, ◌<◌}
 use Rattle.runs.specs.Tables.{is_ready}
 use Rattle.runs.proofs.tables.next_ready.Given as goal
 
 abbrev pub invariant-loop-v : goal.invariant-loop-v
-invariant-loop-v l = (1 ≤ l.v) × (l.v ≤ l.n) × ((w : ℕ) → w < l.v → w ≢ 0 → is_ready l.parents l.done w ≡ false)
-
-abbrev pub decreases-loop-v : goal.decreases-loop-v
-decreases-loop-v l = l.n - l.v
+invariant-loop-v l = (w : ℕ) → w < l.v → w ≢ 0 → is_ready l.parents l.done w ≡ false

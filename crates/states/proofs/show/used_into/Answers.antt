@@ -1,7 +1,7 @@
 -- The count is that of the tails that were passed. Assumes nothing.
 use mathlib.Core.Bool.{cond}
 use mathlib.Core.Path.{◌≡◌, refl}
-use Prim.Native.Nat.{ℕ, ◌-◌}
+use Prim.Native.Nat.{ℕ}
 use native.Mathlib.Omega.{arith}
 use borrow.Author.Tests.{eq-eqb, ne_eqb}
 use Rattle.base.specs.Bounded.{sum_below, count_below}
@@ -13,27 +13,6 @@ use Rattle.states.proofs.show.used_into.Goals.{else-used-g-eq1, then-used-g-eq1}
 pub loop-g-init : goal.loop-g-init
 unfolding count_below sum_below
 loop-g-init c = (omega arith, omega arith, refl)
-
-pub overflow_mul-g : goal.overflow_mul-g
-overflow_mul-g c = omega arith
-
-pub overflow_add-g : goal.overflow_add-g
-overflow_add-g c = omega arith
-
-pub overflow_cast-g : goal.overflow_cast-g
-overflow_cast-g c = omega arith
-
-pub bounds-used-g : goal.bounds-used-g
-bounds-used-g c = omega arith
-
-pub overflow_add-count : goal.overflow_add-count
-overflow_add-count c = omega arith
-
-pub overflow_add-g-in-loop-g : goal.overflow_add-g-in-loop-g
-overflow_add-g-in-loop-g c = omega arith
-
-pub loop-g-smaller : goal.loop-g-smaller
-loop-g-smaller c = omega arith
 
 pub loop-g-preserved : goal.loop-g-preserved
 loop-g-preserved c =
@@ -48,6 +27,3 @@ loop-g-preserved c =
           let q = w.count-is in
           (omega arith, omega arith, omega arith)
     ]
-
-pub returns : goal.returns
-returns c = let e : c.loop-g.g ≡ c.args.n = omega arith in rw e at c.loop-g.invariant.2

@@ -2,8 +2,7 @@
 use mathlib.Core.List.{List, [], ◌∷◌, ◌++◌}
 use Prim.Native.Nat.{ℕ, ◌+◌, ◌/◌, ◌%◌, ◌^◌, ◌≤◌, ◌<◌}
 use native.Mathlib.Omega.{arith}
-use lib.ListN.{length, set, length-set}
-use borrow.Fn.PlainCycle.{Measures, is, falls, and}
+use lib.ListN.{length, set}
 use Rattle.text.specs.Decimal.{decimal}
 use Rattle.text.specs.Buffer.{Room, Puts}
 use Rattle.text.proofs.DecimalLaws.{decimal_few, decimal_more, length_few, length_more}
@@ -14,24 +13,6 @@ use Rattle.text.proofs.decimal.+put_decimal.Goals as goal
 few : (t : ℕ) (c : goal.Then-v-lt10 t)
     → c.args.at < length c.args.out.now
 few t c = let l = length_few c.args.v (omega arith) in omega (arith, c.requires.long_enough)
-
-pub overflow_cast-out : goal.overflow_cast-out
-overflow_cast-out t c = omega arith
-
-pub overflow_add-out : goal.overflow_add-out
-overflow_add-out t c = omega arith
-
-pub bounds-out-at : goal.bounds-out-at
-bounds-out-at t c = few t c
-
-pub overflow_add-result : goal.overflow_add-result
-overflow_add-result t c = let h = few t c in omega arith
-
-pub shape_of-out-then-v-lt10 : goal.shape_of-out-then-v-lt10
-shape_of-out-then-v-lt10 t c = simp length-set
-
-pub returns-then-v-lt10 : goal.returns-then-v-lt10
-returns-then-v-lt10 t c = rw (decimal_few c.args.v (omega arith)) (puts_one _ _ _ (few t c))
 
 -- several
 in_32 : {v : ℕ} → v < 2 ^ 32 → v < 10 ^ 10
@@ -44,31 +25,28 @@ last v {old} {mid} {at} {m} h b room w =
     let r : Room (decimal (v / 10) ++ ((48 + v % 10) ∷ [])) old at = rw e at room in
     (byte_room w (48 + v % 10) r, rw e (puts_byte w (48 + v % 10) r))
 
-pub put_decimal-last-requires : goal.put_decimal-last-requires
-put_decimal-last-requires t c =
-    let e = length_more c.args.v c.if-v-lt10.false (in_32 c.ranges.v.fits) in
-    (omega arith, record { long_enough = omega (arith, c.requires.long_enough) })
-
-pub overflow_cast-out-2 : goal.overflow_cast-out-2
-overflow_cast-out-2 t c = omega arith
-
-pub overflow_add-out-2 : goal.overflow_add-out-2
-overflow_add-out-2 t c = omega arith
-
 -- there is room for the last digit
 several : (t : ℕ) (c : goal.After-slice_known-2-1 t)
     → c.put_decimal-last.result < length c.put_decimal-last.new.out
 several t c =
     (last c.args.v c.if-v-lt10.false c.ranges.v.fits c.requires c.put_decimal-last.ensures).0
 
+pub bounds-out-at : goal.bounds-out-at
+bounds-out-at t c = few t c
+
+pub returns-then-v-lt10 : goal.returns-then-v-lt10
+returns-then-v-lt10 t c = rw (decimal_few c.args.v (omega arith)) (puts_one _ _ _ (few t c))
+
+pub put_decimal-last-requires : goal.put_decimal-last-requires
+put_decimal-last-requires t c =
+    let e = length_more c.args.v c.if-v-lt10.false (in_32 c.ranges.v.fits) in
+    (omega arith, record { long_enough = omega (arith, c.requires.long_enough) })
+
 pub bounds-out-last : goal.bounds-out-last
 bounds-out-last t c = several t c
 
 pub overflow_add-result-2 : goal.overflow_add-result-2
 overflow_add-result-2 t c = let h = several t c in omega (arith, c.well_formed.1.0.0, c.put_decimal-last.auto.out)
-
-pub shape_of-out : goal.shape_of-out
-shape_of-out t c = simp length-set c.put_decimal-last.auto.out
 
 pub returns : goal.returns
 returns t c =

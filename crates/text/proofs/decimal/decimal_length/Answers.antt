@@ -3,17 +3,11 @@ use native.Mathlib.Omega.{arith}
 use Rattle.text.proofs.DecimalLaws.{length_few, length_more, decimal_length}
 use Rattle.text.proofs.decimal.decimal_length.Goals as goal
 
-pub loop-rest-init : goal.loop-rest-init
-loop-rest-init c = (omega arith, omega (arith, c.ranges.v.fits))
-
 pub overflow_add-digits : goal.overflow_add-digits
 overflow_add-digits c =
     let l = c.loop-rest in
     let e = decimal_length 10 c.args.v (omega arith) (omega (arith, c.ranges.v.fits)) in
     omega (arith, l.invariant.0)
-
-pub loop-rest-smaller : goal.loop-rest-smaller
-loop-rest-smaller c = omega arith
 
 pub loop-rest-preserved : goal.loop-rest-preserved
 loop-rest-preserved c =

@@ -1,7 +1,7 @@
 -- The arcs into the vertices that were passed are added. Assumes nothing.
-use mathlib.Core.Path.{◌≡◌}
-use Prim.Native.Nat.{◌-◌, ◌<◌}
+use Prim.Native.Nat.{◌<◌}
 use native.Mathlib.Omega.{arith}
+use Rattle.std.proofs.Common.{rules}
 use lib.ListN.{get_or, take}
 use Rattle.paths.proofs.TreeLaws.{parent_read, rooted_tail}
 use Rattle.usable.proofs.TableLaws.{add_none, add_root, add_more}
@@ -11,37 +11,8 @@ use Rattle.usable.proofs.table.add_tree.Goals.{else-v-root, then-v-root}
 pub loop-v-init : goal.loop-v-init
 loop-v-init c = (omega arith, add_none _ _ _)
 
-pub overflow_cast-tail : goal.overflow_cast-tail
-overflow_cast-tail c = omega arith
-
-pub bounds-parents-v : goal.bounds-parents-v
-bounds-parents-v c = omega arith
-
-tail : (c : goal.After-tail-1) → get_or c.args.parents.now c.loop-v.v 0 < c.args.n
-tail c =
-    let a = c.args in
-    rooted_tail a.n a.root c.loop-v.v a.parents.now c.requires.0 c.requires.1 c.requires.2 (omega arith) c.if-v-root.true
-
-pub overflow_cast-tail-then-v-root : goal.overflow_cast-tail-then-v-root
-overflow_cast-tail-then-v-root c = omega (arith, tail c)
-
-pub overflow_mul-used : goal.overflow_mul-used
-overflow_mul-used c = omega (arith, tail c)
-
-pub overflow_add-used : goal.overflow_add-used
-overflow_add-used c = omega (arith, tail c)
-
-pub overflow_cast-used : goal.overflow_cast-used
-overflow_cast-used c = omega (arith, tail c)
-
 pub bounds-used-tail : goal.bounds-used-tail
-bounds-used-tail c = omega (arith, (let it : get_or c.args.parents.now c.loop-v.v 0 < c.args.n = let a = c.args in rooted_tail a.n a.root c.loop-v.v a.parents.now c.requires.0 c.requires.1 c.requires.2 (omega arith) c.if-v-root.true in it))
-
-pub overflow_add-v : goal.overflow_add-v
-overflow_add-v c = omega arith
-
-pub loop-v-smaller : goal.loop-v-smaller
-loop-v-smaller c = omega arith
+bounds-used-tail c = omega (arith, (let it : get_or c.args.parents.now c.loop-v.v 0 < c.args.n = let a = c.args in rooted_tail a.n a.root c.loop-v.v a.parents.now c.requires.0 (search rules) c.requires.1 (omega arith) c.if-v-root.true in it))
 
 pub loop-v-preserved : goal.loop-v-preserved
 loop-v-preserved c =
@@ -51,12 +22,9 @@ loop-v-preserved c =
       elim c.if-v-root.branch [
         | then-v-root w ↦ rw w.used-is
             (add_more a.root (take a.n a.parents.now) a.used.now l.v (get_or a.parents.now l.v 0) l.used w.if-v-root.true
-            (parent_read a.n l.v a.parents.now c.requires.0 c.requires.1 (omega arith))
-            (omega (arith, rooted_tail a.n a.root l.v a.parents.now c.requires.0 c.requires.1 c.requires.2 (omega arith) w.if-v-root.true))
-            (omega arith) c.requires.3 l.invariant.1)
+            (parent_read a.n l.v a.parents.now c.requires.0 (search rules) (omega arith))
+            (omega (arith, rooted_tail a.n a.root l.v a.parents.now c.requires.0 (search rules) c.requires.1 (omega arith) w.if-v-root.true))
+            (omega arith) (search rules) l.invariant.1)
         | else-v-root w ↦ rw w.used-is (add_root _ _ _ l.v _ w.if-v-root.false l.invariant.1)
       ],
     )
-
-pub returns : goal.returns
-returns c = let e : c.loop-v.v ≡ c.args.n = omega arith in rw e at c.loop-v.invariant.1

@@ -11,19 +11,10 @@ pub loop-head-init : goal.loop-head-init
 unfolding each_remaining unmarked
 loop-head-init c = (omega arith, refl)
 
-pub overflow_sub-head : goal.overflow_sub-head
-overflow_sub-head c = omega arith
-
-pub head_covered-requires : goal.head_covered-requires
-head_covered-requires c = let p = c.requires in let l = c.loop-head.invariant.0 in (p.0, p.1, omega arith, p.2, p.3)
-
 pub returns-then-not-head_covered : goal.returns-then-not-head_covered
 returns-then-not-head_covered c =
     let l = c.loop-head in
     sym (l.invariant.1 ∙ all_fail l.head _ c.loop-head-test.true (sym c.head_covered.ensures ∙ not-true _ c.if-not-head_covered.true-raw))
-
-pub loop-head-smaller : goal.loop-head-smaller
-loop-head-smaller c = omega arith
 
 pub loop-head-preserved : goal.loop-head-preserved
 loop-head-preserved c =

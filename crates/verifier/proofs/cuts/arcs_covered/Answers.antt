@@ -10,19 +10,10 @@ pub loop-tail-init : goal.loop-tail-init
 unfolding unmarked
 loop-tail-init c = (omega arith, refl)
 
-pub overflow_sub-tail : goal.overflow_sub-tail
-overflow_sub-tail c = omega arith
-
-pub arc_covered-requires : goal.arc_covered-requires
-arc_covered-requires c = c.requires
-
 pub returns-then-not-arc_covered : goal.returns-then-not-arc_covered
 returns-then-not-arc_covered c =
     let l = c.loop-tail in
     sym (l.invariant.1 ∙ all_fail l.tail _ c.loop-tail-test.true (sym c.arc_covered.ensures ∙ not-true _ c.if-not-arc_covered.true-raw))
-
-pub loop-tail-smaller : goal.loop-tail-smaller
-loop-tail-smaller c = omega arith
 
 pub loop-tail-preserved : goal.loop-tail-preserved
 loop-tail-preserved c =

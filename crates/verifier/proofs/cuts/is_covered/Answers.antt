@@ -1,42 +1,34 @@
--- `is_covered` counts the weight down: what the cuts from place k on charge is held against what is left. Assumes
+-- `is_covered` counts the weight down: what the cuts that are left charge is held against what is left. Assumes
 -- nothing.
-use mathlib.Core.Path.{sym, subst}
-use Prim.Native.Nat.{ℕ, ◌-◌, ◌≤◌, ◌<◌}
-use native.Mathlib.Omega.{arith}
-use Rattle.verifier.proofs.CutsLaws.{covering_all, covering_less, covering_past, covering_none}
+use mathlib.Core.Path.{sym, ◌∙◌}
+use Rattle.verifier.proofs.CutsLaws.{covering_skip, covering_less, covering_past, covering_none}
 use Rattle.verifier.proofs.cuts.is_covered.Goals as goal
-
-pub loop-k-init : goal.loop-k-init
-loop-k-init c = covering_all _ _ _ _ _
-
-pub charge-value-requires : goal.charge-value-requires
-charge-value-requires c = let p = c.requires in (p.0, p.1, omega arith)
+use Rattle.verifier.proofs.cuts.is_covered.Goals.{then-is_entering+else-room-value, else-is_entering}
 
 pub returns-then-room-value : goal.returns-then-room-value
 returns-then-room-value c =
     let a = c.args in
-    let l = c.loop-k in
+    let l = c.loop-set in
     sym
-    (covering_past a.tail a.head a.cuts.now a.count a.weight l.k l.room c.loop-k-test.true l.invariant
-    (subst (λ (x : ℕ). l.room < x) c.charge-value.ensures c.if-room-value.true))
+    (covering_past a.tail a.head a.cuts.now a.weight l.set-index l.room c.loop-set-test.true l.invariant
+    (sym c.is_entering.ensures ∙ c.if-is_entering.true) c.if-room-value.true)
 
-pub overflow_add-k : goal.overflow_add-k
-overflow_add-k c = omega arith
-
-pub loop-k-smaller : goal.loop-k-smaller
-loop-k-smaller c = omega arith
-
-pub loop-k-preserved : goal.loop-k-preserved
-loop-k-preserved c =
+pub loop-set-preserved : goal.loop-set-preserved
+loop-set-preserved c =
     let a = c.args in
-    let l = c.loop-k in
-    let e = c.charge-value.ensures in
-    rw e
-    (covering_less a.tail a.head a.cuts.now a.count a.weight l.k l.room c.loop-k-test.true l.invariant
-    (subst (λ (x : ℕ). x ≤ l.room) e c.if-room-value.false))
+    let l = c.loop-set in
+    elim c.if-is_entering.branch [
+      | then-is_entering+else-room-value w ↦
+          rw w.room-is
+          (covering_less a.tail a.head a.cuts.now a.weight l.set-index l.room c.loop-set-test.true l.invariant (sym c.is_entering.ensures ∙ w.if-is_entering.true)
+          w.if-room-value.false)
+      | else-is_entering w ↦
+          rw w.room-is
+          (covering_skip a.tail a.head a.cuts.now a.weight l.set-index l.room c.loop-set-test.true l.invariant (sym c.is_entering.ensures ∙ w.if-is_entering.false))
+    ]
 
 pub returns : goal.returns
 returns c =
     let a = c.args in
-    let l = c.loop-k in
-    sym (covering_none a.tail a.head a.cuts.now a.count a.weight l.k l.room c.loop-k-test.false l.invariant)
+    let l = c.loop-set in
+    sym (covering_none a.tail a.head a.cuts.now a.weight l.set-index l.room c.loop-set-test.false l.invariant)

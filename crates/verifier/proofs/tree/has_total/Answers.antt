@@ -1,18 +1,11 @@
 -- `has_total` counts the total down: the arcs into the vertices below v are held against what is left. Assumes nothing.
 use mathlib.Core.Path.{sym, subst}
 use Prim.Native.Nat.{ℕ, ◌≤◌, ◌<◌}
-use native.Mathlib.Omega.{arith}
 use Rattle.verifier.proofs.TreeLaws.{paying_all, paying_less, paying_past, paying_none}
 use Rattle.verifier.proofs.tree.has_total.Goals as goal
 
 pub loop-v-init : goal.loop-v-init
 loop-v-init c = paying_all _ _ _ _ _
-
-pub overflow_sub-v : goal.overflow_sub-v
-overflow_sub-v c = omega arith
-
-pub weight_into-weight-requires : goal.weight_into-weight-requires
-weight_into-weight-requires c = let p = c.requires in let l = c.loop-v.invariant.0 in (p.0, p.1, p.2, omega arith, p.3)
 
 pub returns-then-rest-weight : goal.returns-then-rest-weight
 returns-then-rest-weight c =
@@ -20,11 +13,8 @@ returns-then-rest-weight c =
     let l = c.loop-v in
     let e = c.weight_into-weight.ensures in
     sym
-    (paying_past a.n a.root a.m.now a.parents.now a.total l.v l.rest c.loop-v-test.true l.invariant
+    (paying_past a.arcs.now.n a.arcs.now.root a.arcs.now.weights.now a.parents.now a.total l.v l.rest c.loop-v-test.true l.invariant
     (subst (λ (x : ℕ). l.rest < x) e c.if-rest-weight.true))
-
-pub loop-v-smaller : goal.loop-v-smaller
-loop-v-smaller c = omega arith
 
 pub loop-v-preserved : goal.loop-v-preserved
 loop-v-preserved c =
@@ -32,11 +22,11 @@ loop-v-preserved c =
     let l = c.loop-v in
     let e = c.weight_into-weight.ensures in
     rw e
-    (paying_less a.n a.root a.m.now a.parents.now a.total l.v l.rest c.loop-v-test.true l.invariant
+    (paying_less a.arcs.now.n a.arcs.now.root a.arcs.now.weights.now a.parents.now a.total l.v l.rest c.loop-v-test.true l.invariant
     (subst (λ (x : ℕ). x ≤ l.rest) e c.if-rest-weight.false))
 
 pub returns : goal.returns
 returns c =
     let a = c.args in
     let l = c.loop-v in
-    paying_none a.n a.root a.m.now a.parents.now a.total l.v l.rest c.loop-v-test.false l.invariant
+    paying_none a.arcs.now.n a.arcs.now.root a.arcs.now.weights.now a.parents.now a.total l.v l.rest c.loop-v-test.false l.invariant

@@ -3,7 +3,4 @@ use Rattle.verifier.proofs.TreeLaws.{Paying}
 use Rattle.verifier.proofs.tree.has_total.Given as goal
 
 abbrev pub invariant-loop-v : goal.invariant-loop-v
-invariant-loop-v l = Paying l.n l.root l.m l.parents l.total l.v l.rest
-
-abbrev pub decreases-loop-v : goal.decreases-loop-v
-decreases-loop-v l = l.v
+invariant-loop-v l = Paying l.arcs.n l.arcs.root l.arcs.weights.now l.parents l.total l.v l.rest

@@ -7,21 +7,12 @@ use Rattle.verifier.proofs.TreeLaws.{all_ok}
 use Rattle.verifier.proofs.tree.is_arborescence.Goals as goal
 
 pub loop-v-init : goal.loop-v-init
-loop-v-init c = let a = c.args in (omega arith, all_ok a.n a.parents.now c.requires.3 a.root a.m.now)
-
-pub overflow_sub-v : goal.overflow_sub-v
-overflow_sub-v c = omega arith
-
-pub is_parent_ok-requires : goal.is_parent_ok-requires
-is_parent_ok-requires c = let p = c.requires in let l = c.loop-v.invariant.0 in (p.0, p.1, p.2, p.3, omega arith)
+loop-v-init c = let a = c.args in (omega arith, all_ok a.arcs.now.n a.parents.now c.requires a.arcs.now.root a.arcs.now.weights.now)
 
 pub returns-then-not-is_parent_ok : goal.returns-then-not-is_parent_ok
 returns-then-not-is_parent_ok c =
     let l = c.loop-v in
     sym (l.invariant.1 ∙ all_fail l.v _ c.loop-v-test.true (sym c.is_parent_ok.ensures ∙ not-true _ c.if-not-is_parent_ok.true-raw))
-
-pub loop-v-smaller : goal.loop-v-smaller
-loop-v-smaller c = omega arith
 
 pub loop-v-preserved : goal.loop-v-preserved
 loop-v-preserved c =

@@ -9,7 +9,4 @@ use Rattle.verifier.proofs.tree.is_arborescence.Given as goal
 
 abbrev pub invariant-loop-v : goal.invariant-loop-v
 invariant-loop-v l =
-    (l.v ≤ l.n) × (arborescence (unmarked l.n l.root l.m) (take l.n l.parents) ≡ all_below l.v (parent_ok (unmarked l.n l.root l.m) (take l.n l.parents)))
-
-abbrev pub decreases-loop-v : goal.decreases-loop-v
-decreases-loop-v l = l.v
+    (l.v ≤ l.arcs.n) × (arborescence (unmarked l.arcs.n l.arcs.root l.arcs.weights.now) (take l.arcs.n l.parents) ≡ all_below l.v (parent_ok (unmarked l.arcs.n l.arcs.root l.arcs.weights.now) (take l.arcs.n l.parents)))

@@ -1,6 +1,5 @@
 -- The loop has written the vertices that it passed. Assumes nothing.
-use mathlib.Core.Path.{◌≡◌, refl, ◌∙◌}
-use Prim.Native.Nat.{◌-◌}
+use mathlib.Core.Path.{refl, ◌∙◌}
 use native.Mathlib.Omega.{arith}
 use Rattle.text.proofs.JoinLaws.{join_none, join_room, join_next}
 use Rattle.why_text.proofs.cut.put_members.Goals as goal
@@ -13,20 +12,8 @@ put_member-next-requires c =
     let i = c.loop-v in
     record { v_lt_max_vertices = omega (arith, c.requires.n_le_max_vertices); room = join_room _ _ i.v c.requires.room c.loop-v-test.true i.invariant.0 }
 
-pub overflow_add-v : goal.overflow_add-v
-overflow_add-v c = omega arith
-
-pub loop-v-smaller : goal.loop-v-smaller
-loop-v-smaller c = omega arith
-
 pub loop-v-preserved : goal.loop-v-preserved
 loop-v-preserved c =
     let i = c.loop-v in
     let test = c.loop-v-test.true in
     (join_next _ _ i.v c.requires.room test i.invariant.0 c.put_member-next.ensures, omega arith, c.put_member-next.auto.out ∙ i.invariant.2)
-
-pub shape_of-out : goal.shape_of-out
-shape_of-out c = c.loop-v.invariant.2
-
-pub returns : goal.returns
-returns c = let e : c.loop-v.v ≡ c.args.n = omega arith in rw e at c.loop-v.invariant.0

@@ -1,19 +1,7 @@
 -- The line feed goes behind the label and the number. Assumes nothing.
-use native.Mathlib.Omega.{arith}
-use Rattle.text.proofs.BufferLaws.{room_first, byte_room, puts_byte}
+use Rattle.text.proofs.BufferLaws.{puts_byte}
 use Rattle.text.specs.Lines.{line_feed}
 use Rattle.why_text.proofs.grouped.put_amount_line.Goals as goal
-
-pub put_amount-next-requires : goal.put_amount-next-requires
-put_amount-next-requires c = room_first _ c.requires
-
-pub bounds-out-next : goal.bounds-out-next
-bounds-out-next c = byte_room c.put_amount-next.ensures line_feed c.requires
-
-pub overflow_add-result : goal.overflow_add-result
-overflow_add-result c =
-    let h = byte_room c.put_amount-next.ensures line_feed c.requires in
-    omega (arith, c.well_formed.1.1.0.0, c.put_amount-next.auto.out)
 
 pub returns : goal.returns
 returns c = puts_byte c.put_amount-next.ensures line_feed c.requires

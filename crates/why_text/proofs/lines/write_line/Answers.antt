@@ -31,10 +31,6 @@ pub put_mandatory-requires : goal.put_mandatory-requires
 put_mandatory-requires c =
     line_room (mandatory_fits _ (omega arith) _ _ (omega arith) (omega arith)) c.requires
 
-pub put_bytes-requires : goal.put_bytes-requires
-unfolding codes line_text
-put_bytes-requires c = line_room mandatory_none_fits c.requires
-
 pub put_amount_line-requires-in-With : goal.put_amount_line-requires-in-With
 unfolding codes line_text
 put_amount_line-requires-in-With c =

@@ -1,9 +1,0 @@
--- `harness::histories::of_board` is safe and ends.
-use Prim.Native.Nat.{◌-◌}
-use Rattle.harness.proofs.histories.of_board.Given as goal
-
-abbrev pub invariant-loop-k : goal.invariant-loop-k
-invariant-loop-k l = Unit
-
-abbrev pub decreases-loop-k : goal.decreases-loop-k
-decreases-loop-k l = 200 - l.k

@@ -1,9 +1,0 @@
--- `harness::records::marks_into` is safe and ends.
-use Prim.Native.Nat.{◌-◌}
-use Rattle.harness.proofs.records.marks_into.Given as goal
-
-abbrev pub invariant-loop-head : goal.invariant-loop-head
-invariant-loop-head l = Unit
-
-abbrev pub decreases-loop-head : goal.decreases-loop-head
-decreases-loop-head l = 32 - l.head

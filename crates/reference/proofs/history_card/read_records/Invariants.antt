@@ -1,9 +1,0 @@
--- `reference::history_card::read_records` is safe and ends.
-use Rattle.std.proofs.Common.{◌-◌}
-use Rattle.reference.proofs.history_card.read_records.Given as goal
-
-abbrev pub invariant-loop-k : goal.invariant-loop-k
-invariant-loop-k l = Unit
-
-abbrev pub decreases-loop-k : goal.decreases-loop-k
-decreases-loop-k l = 200 - l.k

@@ -1,9 +1,0 @@
--- `reference::tally::print_names` is safe and ends.
-use Rattle.std.proofs.Common.{◌-◌}
-use Rattle.reference.proofs.tally.print_names.Given as goal
-
-abbrev pub invariant-loop-at : goal.invariant-loop-at
-invariant-loop-at l = Unit
-
-abbrev pub decreases-loop-at : goal.decreases-loop-at
-decreases-loop-at l = l.at-end - l.at

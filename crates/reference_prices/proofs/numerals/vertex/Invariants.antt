@@ -1,9 +1,0 @@
--- `reference_prices::numerals::vertex` is safe and ends.
-use Rattle.std.proofs.Common.{◌-◌}
-use Rattle.reference_prices.proofs.numerals.vertex.Given as goal
-
-abbrev pub invariant-loop-v : goal.invariant-loop-v
-invariant-loop-v l = Unit
-
-abbrev pub decreases-loop-v : goal.decreases-loop-v
-decreases-loop-v l = l.n - l.v

@@ -1,9 +1,0 @@
--- `reference_rows::times` is safe and ends.
-use Rattle.std.proofs.Common.{◌-◌}
-use Rattle.reference_rows.proofs.times.Given as goal
-
-abbrev pub invariant-loop-k : goal.invariant-loop-k
-invariant-loop-k l = Unit
-
-abbrev pub decreases-loop-k : goal.decreases-loop-k
-decreases-loop-k l = l.count - l.k

@@ -1,9 +1,0 @@
--- `reference_runs::choice::joined` is safe and ends.
-use Rattle.std.proofs.Common.{◌-◌}
-use Rattle.reference_runs.proofs.choice.joined.Given as goal
-
-abbrev pub invariant-loop-v : goal.invariant-loop-v
-invariant-loop-v l = Unit
-
-abbrev pub decreases-loop-v : goal.decreases-loop-v
-decreases-loop-v l = 32 - l.v

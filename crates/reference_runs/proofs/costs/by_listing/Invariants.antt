@@ -1,9 +1,0 @@
--- `reference_runs::costs::by_listing` is safe and ends.
-use Rattle.std.proofs.Common.{◌-◌}
-use Rattle.reference_runs.proofs.costs.by_listing.Given as goal
-
-abbrev pub invariant-loop-cell : goal.invariant-loop-cell
-invariant-loop-cell l = Unit
-
-abbrev pub decreases-loop-cell : goal.decreases-loop-cell
-decreases-loop-cell l = l.cell-end - l.cell

@@ -1,0 +1,9 @@
+-- What is refused from the place at hand on is what the whole graph is refused by. Assumes nothing.
+use mathlib.Core.Path.{◌≡◌}
+use Prim.Native.Nat.{◌-◌, ◌*◌}
+use Rattle.spanning.specs.Graph.{graph_of}
+use Rattle.spanning.specs.Refusal.{refusal_from, graph_refusal}
+use Rattle.runs.proofs.refusal.check_edges.Given as goal
+
+abbrev pub invariant-loop-k : goal.invariant-loop-k
+invariant-loop-k l = graph_refusal (graph_of l.n l.weights l.marks) ≡ refusal_from (graph_of l.n l.weights l.marks) (l.n * l.n - l.k) l.k

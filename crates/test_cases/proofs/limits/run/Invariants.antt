@@ -1,9 +1,0 @@
--- `test_cases::limits::run` is safe and ends.
-use Rattle.std.proofs.Common.{◌-◌}
-use Rattle.test_cases.proofs.limits.run.Given as goal
-
-abbrev pub invariant-loop-k : goal.invariant-loop-k
-invariant-loop-k l = Unit
-
-abbrev pub decreases-loop-k : goal.decreases-loop-k
-decreases-loop-k l = 12 - l.k

@@ -1,9 +1,0 @@
--- `test_history::bad_records::tried_kinds` is safe and ends.
-use Rattle.std.proofs.Common.{◌-◌}
-use Rattle.test_history.proofs.bad_records.tried_kinds.Given as goal
-
-abbrev pub invariant-loop-kind : goal.invariant-loop-kind
-invariant-loop-kind l = Unit
-
-abbrev pub decreases-loop-kind : goal.decreases-loop-kind
-decreases-loop-kind l = 17 - l.kind

@@ -1,9 +1,0 @@
--- `test_listing::large::pinned` is safe and ends.
-use Rattle.std.proofs.Common.{◌-◌}
-use Rattle.test_listing.proofs.large.pinned.Given as goal
-
-abbrev pub invariant-loop-v : goal.invariant-loop-v
-invariant-loop-v l = Unit
-
-abbrev pub decreases-loop-v : goal.decreases-loop-v
-decreases-loop-v l = 32 - l.v

@@ -1,9 +1,0 @@
--- `test_lists::lists::handed` is safe and ends.
-use Rattle.std.proofs.Common.{◌-◌}
-use Rattle.test_lists.proofs.lists.handed.Given as goal
-
-abbrev pub invariant-loop-k : goal.invariant-loop-k
-invariant-loop-k l = Unit
-
-abbrev pub decreases-loop-k : goal.decreases-loop-k
-decreases-loop-k l = l.count - l.k

@@ -1,9 +1,0 @@
--- `test_lists::making::some_list` is safe and ends.
-use Rattle.std.proofs.Common.{◌-◌}
-use Rattle.test_lists.proofs.making.some_list.Given as goal
-
-abbrev pub invariant-loop-k : goal.invariant-loop-k
-invariant-loop-k l = Unit
-
-abbrev pub decreases-loop-k : goal.decreases-loop-k
-decreases-loop-k l = 400 - l.k

@@ -1,9 +1,0 @@
--- `test_prices::buffers::words` is safe and ends.
-use Rattle.std.proofs.Common.{◌-◌}
-use Rattle.test_prices.proofs.buffers.words.Given as goal
-
-abbrev pub invariant-loop-k : goal.invariant-loop-k
-invariant-loop-k l = Unit
-
-abbrev pub decreases-loop-k : goal.decreases-loop-k
-decreases-loop-k l = 1100 - l.k

@@ -1,9 +1,0 @@
--- `test_prices::making::some_prices` is safe and ends.
-use Rattle.std.proofs.Common.{◌-◌}
-use Rattle.test_prices.proofs.making.some_prices.Given as goal
-
-abbrev pub invariant-loop-cell : goal.invariant-loop-cell
-invariant-loop-cell l = Unit
-
-abbrev pub decreases-loop-cell : goal.decreases-loop-cell
-decreases-loop-cell l = 1100 - l.cell

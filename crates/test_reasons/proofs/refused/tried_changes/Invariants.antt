@@ -1,9 +1,0 @@
--- `test_reasons::refused::tried_changes` is safe and ends.
-use Rattle.std.proofs.Common.{◌-◌}
-use Rattle.test_reasons.proofs.refused.tried_changes.Given as goal
-
-abbrev pub invariant-loop-kind : goal.invariant-loop-kind
-invariant-loop-kind l = Unit
-
-abbrev pub decreases-loop-kind : goal.decreases-loop-kind
-decreases-loop-kind l = 39 - l.kind

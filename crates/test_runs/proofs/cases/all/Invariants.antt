@@ -1,9 +1,0 @@
--- `test_runs::cases::all` is safe and ends.
-use Rattle.std.proofs.Common.{◌-◌}
-use Rattle.test_runs.proofs.cases.all.Given as goal
-
-abbrev pub invariant-loop-at : goal.invariant-loop-at
-invariant-loop-at l = Unit
-
-abbrev pub decreases-loop-at : goal.decreases-loop-at
-decreases-loop-at l = l.at-end - l.at

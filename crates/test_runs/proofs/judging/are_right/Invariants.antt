@@ -1,9 +1,0 @@
--- `test_runs::judging::are_right` is safe and ends.
-use Rattle.std.proofs.Common.{◌-◌}
-use Rattle.test_runs.proofs.judging.are_right.Given as goal
-
-abbrev pub invariant-loop-k : goal.invariant-loop-k
-invariant-loop-k l = Unit
-
-abbrev pub decreases-loop-k : goal.decreases-loop-k
-decreases-loop-k l = 1100 - l.k
