@@ -18,13 +18,15 @@ pub fn store_tree(parents: &[u8; VERTICES], n: u32, progress: Progress, out: &mu
     let end = start + size;
     if out.len() < end {
         return Progress {
+            left: progress.left,
+            trees: progress.trees,
             ended: Ended::NoRoom,
-            ..progress
         };
     }
     out[start..end].copy_from_slice(&parents[..size]);
     Progress {
+        left: progress.left,
         trees: progress.trees + 1,
-        ..progress
+        ended: progress.ended,
     }
 }

@@ -89,19 +89,25 @@ fn try_tail(
     }
     if progress.left == 0 {
         return Progress {
+            left: progress.left,
+            trees: progress.trees,
             ended: Ended::AtLimit,
-            ..progress
         };
     }
-    let tried = Progress {
-        left: progress.left - 1,
-        ..progress
-    };
     let after = sum + weight;
     if ends_there(parents, n, budget, v, t, after) {
-        return tried;
+        return Progress {
+            left: progress.left - 1,
+            trees: progress.trees,
+            ended: progress.ended,
+        };
     }
     let mut next = *parents;
     next[v as usize] = t as u8;
+    let tried = Progress {
+        left: progress.left - 1,
+        trees: progress.trees,
+        ended: progress.ended,
+    };
     settle(m, next, n, root, budget, v + 1, after, tried, out)
 }

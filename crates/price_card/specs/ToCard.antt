@@ -8,7 +8,7 @@ use Rattle.instance.specs.Instance.{Instance, instance_with}
 use Rattle.card_format.specs.Card.{bytes_needed, card_of}
 use Rattle.price_format.specs.Lines.{Line}
 use Rattle.price_format.specs.Reading.{weight_named, read_list, count_refusal}
-use Rattle.price_list.specs.declared.read.Refused.{Refused}
+use Rattle.price_list.specs.declared.list_refusal.Refused.{Refused}
 
 -- 0 and the length of the card; or the refusal, and of a faulty line which it is, counted from 1
 pub record CardMade : Type 0 where

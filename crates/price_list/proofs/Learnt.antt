@@ -8,7 +8,7 @@ use denote.Triple.Clauses.{AtExit}
 use Rattle.std.specs.Prelude.{Result}
 use Rattle.std.specs.Bool.{⊤}
 use Rattle.instance.specs.declared.refusals.Refusal.{Refusal}
-use Rattle.price_list.specs.declared.read.Refused.{Refused}
+use Rattle.price_list.specs.declared.list_refusal.Refused.{Refused}
 use Rattle.price_list.specs.Reads.{PricesRead, reading_told, Reads}
 use Rattle.price_list.specs.Writes.{ListWritten, writing_told, Writes}
 use Rattle.price_list.proofs.read.read_prices.Reads as read-reads

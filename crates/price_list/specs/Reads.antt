@@ -5,7 +5,7 @@ use Rattle.instance.specs.Instance.{cell}
 use Rattle.instance.specs.RefusalNumbers.{refusal_number}
 use Rattle.price_format.specs.Reading.{read_list, prices_of, room_refusal}
 use Rattle.price_list.specs.Lines.{TableOf}
-use Rattle.price_list.specs.declared.read.Refused.{Refused}
+use Rattle.price_list.specs.declared.list_refusal.Refused.{Refused}
 
 -- 0, or the refusal of a list; of a faulty line also which it is, counted from 1, and 0 otherwise
 pub record PricesRead : Type 0 where

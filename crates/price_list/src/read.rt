@@ -1,35 +1,16 @@
 // A whole list read: line by line into a table, and from there into the caller's words, so that a refused list leaves
 // them as they were.
-ghost use Rattle.std.specs.Prelude.{◌≡◌, ◌*◌, ◌≤◌, length, [], None};
+ghost use Rattle.std.specs.Prelude.{◌≡◌, ◌*◌, ◌≤◌, length, []};
 ghost use Rattle.base.specs.Lists.{in_front};
 ghost use Rattle.instance.specs.Limits.{max_vertices, cells};
 ghost use Rattle.price_list.specs.Lines.{TableOf};
 ghost use Rattle.price_list.specs.Reads.{reading_told, ReadsTable, dense, Reads};
 
 use crate::lines::take_line;
+pub use crate::list_refusal::Refused;
 use crate::room::check_room;
 use instance::Vertex;
 use instance::limits::{CELLS, NO_ARC};
-use instance::refusals::Refusal;
-
-// The refusal of a list; of a faulty line also which it is, counted from 1.
-#[derive(Clone, Copy, Debug, PartialEq, Eq)]
-pub struct Refused {
-    pub refusal: Refusal,
-    pub line: Option<usize>,
-}
-
-// What is wrong with the numbers that come with a list, or with the buffer for it.
-impl From<Refusal> for Refused {
-    ghost from_gives = { λ r e. e ≡ record { refusal = r; line = None } };
-
-    fn from(refusal: Refusal) -> Refused {
-        Refused {
-            refusal,
-            line: None,
-        }
-    }
-}
 
 // Reads a list into a table that has no arc yet, with a stride of 32.
 pub fn read_table(text: &[u8], n: u32, root: u32, table: &mut [u32; CELLS]) -> Result<(), Refused>
@@ -66,6 +47,7 @@ pub fn copy_prices(table: &[u32; CELLS], n: u32, prices: &mut [u32])
 }
 
 // Reads a price list: the first n times n words take the prices, feeder by feeder, and the others stay.
+#[tactic(auto, using(crate::proofs::LineLaws::table_none, crate::proofs::RoomLaws::count_small, crate::proofs::RoomLaws::room_count, crate::proofs::RoomLaws::room_words))]
 pub fn read_prices(text: &[u8], n: u32, root: Vertex, prices: &mut [u32]) -> Result<(), Refused>
     ensures { Reads text.now n root.0 prices.old prices.new (reading_told result) }
 {

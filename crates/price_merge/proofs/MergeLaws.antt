@@ -28,7 +28,7 @@ use Rattle.text.specs.Buffer.{Room, Puts}
 use Rattle.text.proofs.BufferLaws.{puts_filled}
 use Rattle.price_row.specs.Row.{price_ok}
 use Rattle.instance.specs.declared.refusals.Refusal.{Refusal}
-use Rattle.price_list.specs.declared.read.Refused.{Refused}
+use Rattle.price_list.specs.declared.list_refusal.Refused.{Refused}
 use Rattle.instance.proofs.RefusalLaws.{not_0}
 use Rattle.price_merge.specs.declared.merge.MergeRefused.{MergeRefused}
 use Rattle.price_merge.specs.declared.merge.MergeRefused.TheVariants.{School, Shipped, Merged}

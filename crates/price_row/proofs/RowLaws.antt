@@ -1,16 +1,15 @@
 -- Where a row lies in its list, what the call has where it is not refused for its numbers or its room, and its three
 -- ways out. Assumes nothing.
-use mathlib.Core.Path.{◌≡◌, refl, sym, ap, ◌∙◌, subst}
+use mathlib.Core.Path.{◌≡◌, refl, sym, ◌∙◌, subst}
 use mathlib.Core.Bool.{Bool, true, false, ◌&&◌, ◌||◌, cond}
-use mathlib.Core.List.{List, [], ◌∷◌}
+use mathlib.Core.List.{List, []}
 use mathlib.Core.Logic.{◌≢◌}
 use Prim.Native.Nat.{ℕ, ◌+◌, ◌-◌, ◌*◌}
 use native.Mathlib.Omega.{arith}
 use lib.Dec.{ltb, leb, eqb}
 use lib.ListN.{length, take, drop}
 use borrow.Author.Tests.{ltb-false, leb-false, eqb-false, le-ltb, lt-leb, ne_eqb}
-use Rattle.std.specs.List.{list_any, list_all}
-use Rattle.base.specs.Lists.{any_of, all_of}
+use Rattle.base.specs.Lists.{any_of}
 use Rattle.base.proofs.BoolLaws.{or_false_left, or_false_right, passed}
 use Rattle.base.proofs.GridLaws.{grid_in}
 use Rattle.base.proofs.PartLaws.{length_part}
@@ -19,17 +18,6 @@ use Rattle.instance.specs.Refusals.{no_vertex, buffer_short, count_out_of_range,
 use Rattle.instance.specs.Valid.{cell_ok}
 use Rattle.price_row.specs.Row.{row_at, has_price, is_own, chosen_row, room_refusal, price_ok, row_ok, row_refusal, row_numbers, row_used, address_at, chosen_address, row_address, UsesRow}
 use Rattle.price_row.specs.Readings.{Sized}
-
--- the kit's words for a test of some element, and of each
-pub list_any_is : (q : ℕ → Bool) (xs : List ℕ) → list_any q xs ≡ any_of q xs
-unfolding any_of
-list_any_is q [] = refl
-list_any_is q (x ∷ xs) = ap (λ b. q x || b) (list_any_is q xs)
-
-pub list_all_is : (q : ℕ → Bool) (xs : List ℕ) → list_all q xs ≡ all_of q xs
-unfolding all_of
-list_all_is q [] = refl
-list_all_is q (x ∷ xs) = ap (λ b. q x && b) (list_all_is q xs)
 
 -- a price or no link is what a cell without a mark may hold
 pub unmarked_ok : (w : ℕ) → cell_ok w free ≡ price_ok w

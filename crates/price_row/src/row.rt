@@ -14,14 +14,24 @@ use instance::refusals::{BUFFER_SHORT, COUNT_OUT_OF_RANGE, NO_VERTEX, OUT_OF_RAN
 pub fn has_price(row: &[u32]) -> bool
     ensures { result ≡ has_price row.now }
 {
-    row.iter().any(|w| *w != NO_ARC)
+    for w in row {
+        if *w != NO_ARC {
+            return true;
+        }
+    }
+    false
 }
 
 // Whether every number of the row is a price or "no link", which is what a cell without a mark may hold.
 fn row_ok(row: &[u32]) -> bool
     ensures { result ≡ row_ok row.now }
 {
-    row.iter().all(|w| cell_ok(*w, FREE))
+    for w in row {
+        if !cell_ok(*w, FREE) {
+            return false;
+        }
+    }
+    true
 }
 
 // The refusals that look at no price; of the two lists the lengths are enough.

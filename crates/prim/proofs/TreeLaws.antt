@@ -30,7 +30,7 @@ use Rattle.spanning.proofs.SpansLaws.{pins_kept, keep_pins}
 use Rattle.spanning.proofs.KeyTableLaws.{zero_kept}
 use Rattle.spanning.proofs.GrowthLaws.{grown_cheapest, grown_none}
 use Rattle.spanning.proofs.CostLaws.{tree_allowed}
-use Rattle.prim.specs.Growth.{GrownTree}
+use Rattle.prim.specs.Growth.{GrownTree, Grows}
 use Rattle.prim.specs.Tree.{zero_at, Finds, edge_cost, Summable}
 use Rattle.prim.proofs.KeysLaws.{weight_read}
 
@@ -103,6 +103,10 @@ module _ (ks : List ℕ) (n : ℕ) (small : n ≤ max_vertices) (ps : List ℕ) 
       let w = t.tree g k in
       grown_none g k.valid w.inside (take n ps) (size_of g k) w.grown w.all
       (λ all. not_both (keeps_pins g (take n ps)) (keep_pins g 0 (take n ps) all) (sym (zero_kept g n ks k (take n ps)) ∙ e))
+
+-- where no tree grows, none is found
+pub finds_nothing : (ks : List ℕ) (n : ℕ) → Grows ks n None → Finds ks n None
+finds_nothing ks n none = none
 
 -- ITS TOTAL
 zero_cost : (ws ps : List ℕ) (n v : ℕ) → v ≡ 0 → edge_cost ws ps n v ≡ 0

@@ -8,6 +8,7 @@ ghost use Rattle.spanning.specs.KeyTables.{keeps_zero};
 ghost use Rattle.prim.specs.Tree.{zero_at, Finds, edge_cost, Summable};
 
 use crate::growth::grow;
+use crate::place::Place;
 use instance::limits::{CELLS, VERTICES};
 
 // Whether a tree has the edge between i and j.
@@ -31,10 +32,12 @@ fn has_pinned(keys: &[u32; CELLS], parents: &[u8; VERTICES], n: u32) -> bool
     requires { n ≤ max_vertices }
     ensures { result ≡ keeps_zero keys.now n (take n parents.now) }
 {
-    for k in 0..n * n {
-        if !zero_joined(keys, parents, n, k / n, k % n) {
+    let mut place = Place::first();
+    for _ in 0..n * n {
+        if !zero_joined(keys, parents, n, place.row, place.column) {
             return false;
         }
+        place = place.next(n);
     }
     true
 }

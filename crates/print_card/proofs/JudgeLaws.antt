@@ -11,7 +11,7 @@ use borrow.Author.Tests.{eq-eqb, ne_eqb, lt-ltb, le-ltb}
 use Rattle.base.specs.Bounded.{sum_below, count_below}
 use Rattle.text.specs.Lines.{line_feed}
 use Rattle.std.specs.Prelude.{Result, Ok, Err, MatchResult, is_ok, IsErrAnd}
-use Rattle.price_list.specs.declared.read.Refused.{Refused}
+use Rattle.price_list.specs.declared.list_refusal.Refused.{Refused}
 use Rattle.instance.proofs.RefusalLaws.{not_0}
 use Rattle.price_card.specs.ToCard.{CardMade, making_told, made, MakesCard}
 use Rattle.price_card.proofs.ToCardLaws.{made_within}

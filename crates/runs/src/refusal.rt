@@ -8,6 +8,7 @@ ghost use Rattle.spanning.specs.Refusal.{cell_refusal, graph_refusal, room_refus
 use checks::valid::cell_ok;
 use instance::limits::MAX_VERTICES;
 use instance::refusals::Refusal;
+use prim::place::Place;
 
 fn check_edge(weights: &[u32], marks: &[u8], n: u32, i: u32, j: u32) -> Result<(), Refusal>
     requires { (n ≤ max_vertices) × (n * n ≤ length weights.now) × (n * n ≤ length marks.now) × (i < n) × (j < n) }
@@ -31,8 +32,10 @@ fn check_edges(weights: &[u32], marks: &[u8], n: u32) -> Result<(), Refusal>
     requires { (1 ≤ n) × (n ≤ max_vertices) × (n * n ≤ length weights.now) × (n * n ≤ length marks.now) }
     ensures { answer_of result ≡ graph_refusal (graph_of n weights.now marks.now) }
 {
-    for k in 0..n * n {
-        check_edge(weights, marks, n, k / n, k % n)?;
+    let mut place = Place::first();
+    for _ in 0..n * n {
+        check_edge(weights, marks, n, place.row, place.column)?;
+        place = place.next(n);
     }
     Ok(())
 }

@@ -4,14 +4,16 @@ ghost use Rattle.std.specs.Prelude.{◌≡◌, ◌≢◌, ◌*◌, ◌≤◌, �
 ghost use Rattle.base.specs.Lists.{tabulate, in_front};
 ghost use Rattle.instance.specs.Limits.{max_vertices};
 ghost use Rattle.instance.specs.StateNumbers.{state_number};
+ghost use Rattle.prim.specs.Place.{Placed};
 ghost use Rattle.runs.specs.Tables.{Places, BetweenTable};
 ghost use Rattle.runs.specs.Replacement.{Costs};
-ghost use Rattle.runs.specs.Show.{inside_state, outside_state, tree_state, place_state, closed_state, cost_at};
+ghost use Rattle.runs.specs.Show.{inside_state, outside_state, tree_state, place_state, closed_state, pair_cost, cost_at};
 
 use crate::replacement::NO_REPLACEMENT;
 use instance::limits::{CELLS, NO_ARC, VERTICES};
 use instance::states::State;
 use prim::keys::NO_KEY;
+use prim::place::Place;
 
 // "4,294,967,294 for whatever is not in the tree"
 pub const NOT_IN_TREE: u32 = 4_294_967_294;
@@ -72,12 +74,10 @@ fn tree_state(shown: &Shown<'_>, i: u32, j: u32) -> State
 }
 
 // The state of a place: absent on the diagonal and where no price is.
-fn place_state(weights: &[u32], shown: &Shown<'_>, k: u32) -> State
-    requires { (shown.now.n * shown.now.n ≤ length weights.now) × (k < shown.now.n * shown.now.n) }
+fn place_state(weights: &[u32], shown: &Shown<'_>, k: u32, i: u32, j: u32) -> State
+    requires { (shown.now.n * shown.now.n ≤ length weights.now) × (k < shown.now.n * shown.now.n) × Placed shown.now.n k i j }
     ensures { state_number result ≡ place_state weights.now shown.now.keys.now shown.now.n (take shown.now.n shown.now.parents.now) shown.now.total shown.now.limit k }
 {
-    let i = k / shown.n;
-    let j = k % shown.n;
     if i == j || weights[k as usize] == NO_ARC {
         return State::Absent;
     }
@@ -88,8 +88,11 @@ pub fn write_states(weights: &[u32], shown: &Shown<'_>, states: &mut [u8])
     requires { (shown.now.n * shown.now.n ≤ length weights.now) × (shown.now.n * shown.now.n ≤ length states.old) }
     ensures { states.new ≡ in_front (tabulate (shown.now.n * shown.now.n) (place_state weights.now shown.now.keys.now shown.now.n (take shown.now.n shown.now.parents.now) shown.now.total shown.now.limit)) states.old }
 {
+    let mut place = Place::first();
     for k in 0..shown.n * shown.n {
-        states[k as usize] = u8::from(place_state(weights, shown, k));
+        let state = place_state(weights, shown, k, place.row, place.column);
+        states[k as usize] = u8::from(state);
+        place = place.next(shown.n);
     }
 }
 
@@ -114,12 +117,10 @@ pub fn write_closed(weights: &[u32], n: u32, states: &mut [u8])
 }
 
 // The cost of a place: of an edge of the tree, whichever way.
-fn cost_at(parents: &[u8; VERTICES], costs: &[u32; VERTICES], n: u32, k: u32) -> u32
-    requires { Places n parents.now × (k < n * n) }
-    ensures { result ≡ cost_at (take n parents.now) (λ v. get_or costs.now v 0) n k }
+fn cost_at(parents: &[u8; VERTICES], costs: &[u32; VERTICES], n: u32, i: u32, j: u32) -> u32
+    requires { Places n parents.now × (i < n) × (j < n) }
+    ensures { result ≡ pair_cost (take n parents.now) (λ v. get_or costs.now v 0) i j }
 {
-    let i = k / n;
-    let j = k % n;
     if parents[j as usize] == i as u8 {
         return costs[j as usize];
     }
@@ -133,7 +134,9 @@ pub fn write_costs(parents: &[u8; VERTICES], costs: &[u32; VERTICES], n: u32, ou
     requires { Places n parents.now × (n * n ≤ length out.old) }
     ensures { out.new ≡ in_front (tabulate (n * n) (cost_at (take n parents.now) (λ v. get_or costs.now v 0) n)) out.old }
 {
+    let mut place = Place::first();
     for k in 0..n * n {
-        out[k as usize] = cost_at(parents, costs, n, k);
+        out[k as usize] = cost_at(parents, costs, n, place.row, place.column);
+        place = place.next(n);
     }
 }

@@ -53,11 +53,16 @@ fn with_length(c: Card, length: u32) -> Card {
     d
 }
 
-// A lawful card, and its board held to the card with one bit changed, which has to be reported.
+// A lawful card, and its board held to the card with one bit changed, which has to be reported; where that card is
+// refused, the card that is written of the board is held to it.
 fn tried_lawful(tally: Tally, c: Card, k: u32) -> Tally {
+    let o = calls::open(c);
     let d = with_bit_changed(c, k);
-    let is_reported = reading_of(d).is_ok_and(|r| opened_right(calls::open(c), r, d));
-    tried(tally.planted(!is_reported), c)
+    let seems_right = match reading_of(d) {
+        Ok(r) => opened_right(o, r, d),
+        Err(_) => session::is_written(calls::write(o.board), d),
+    };
+    tried(tally.planted(!seems_right), c)
 }
 
 // A lawful card with one bit changed, with two, with one of the first 36 and with one of the last 8.

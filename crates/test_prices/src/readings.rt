@@ -7,8 +7,7 @@ use reference::access;
 use reference::tally::Tally;
 use reference_prices::{places, read};
 
-// The answer, the faulty line or 0, and the buffer: all the numbers that the product gives, so that a line beside no
-// refusal is seen too.
+// The answer, the faulty line or 0, and the buffer. The product's line is 1 or more where it names one, by its type.
 #[derive(Clone, Copy, PartialEq, Eq)]
 pub struct Reading {
     pub answer: u32,

@@ -10,7 +10,7 @@ use Rattle.price_card.proofs.to_card.card_from_prices.Goals as goal
 pub returns-in_err-check_numbers : goal.returns-in_err-check_numbers
 returns-in_err-check_numbers c =
     let p = err_from_is_err_and c.from_residual.result c.from_residual.ensures.1 in
-    rw (p.1, p.2) (numbers_refused _ _ _ _ _ _ c.in_err-check_numbers.ensures (not_0 _))
+    rw (p.1, p.2.0, p.2.1) (numbers_refused _ _ _ _ _ _ c.in_err-check_numbers.ensures (not_0 _))
 
 pub read_table-requires : goal.read_table-requires
 read_table-requires c = let k = numbers_known _ _ _ (sym c.in_ok-check_numbers.ensures) in (k.small, table_none)
@@ -31,7 +31,7 @@ returns-in_err-write_instance c =
     let p = err_from_is_err_and c.from_residual-in_err-write_instance.result c.from_residual-in_err-write_instance.ensures.1 in
     let t = c.in_ok-read_table.ensures in
     let same = table_weights _ _ t.holds.long t.holds.at in
-    rw (p.1, p.2) (card_written _ _ _ _ _ _ c.in_ok-check_numbers.ensures refl _ _ same refl _ t.answer refl _ _ c.in_err-write_instance.ensures)
+    rw (p.1, p.2.0, p.2.1) (card_written _ _ _ _ _ _ c.in_ok-check_numbers.ensures refl _ _ same refl _ t.answer refl _ _ c.in_err-write_instance.ensures)
 
 pub returns : goal.returns
 returns c =

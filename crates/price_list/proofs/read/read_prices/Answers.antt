@@ -10,10 +10,7 @@ use Rattle.price_list.proofs.read.read_prices.Goals as goal
 pub returns-in_err-check_room : goal.returns-in_err-check_room
 returns-in_err-check_room c =
     let p = err_from_is_err_and c.from_residual.result c.from_residual.ensures.1 in
-    rw (p.1, p.2) (reads_refused _ _ _ _ _ c.in_err-check_room.ensures)
-
-pub read_table-requires : goal.read_table-requires
-read_table-requires c = (count_small _ _ (room_count _ _ _ (sym c.in_ok-check_room.ensures)), table_none)
+    rw (p.1, p.2.0, p.2.1) (reads_refused _ _ _ _ _ c.in_err-check_room.ensures)
 
 pub returns-in_err-read_table : goal.returns-in_err-read_table
 returns-in_err-read_table c =

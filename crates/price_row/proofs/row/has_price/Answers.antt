@@ -1,18 +1,32 @@
--- One number that is not "no link" is asked for. Assumes nothing.
-use mathlib.Core.Path.{◌∙◌}
+-- One number after the other, up to the first that is not "no link". Assumes nothing.
+use mathlib.Core.Path.{refl, sym, ap, ◌∙◌}
 use mathlib.Core.Bool.{not}
-use lib.Dec.{eqb}
-use borrow.Author.Rules.{rules}
-use borrow.Author.Tests.{tests}
-use Rattle.std.proofs.lemmas.Iterator.{YieldsList-from_slice}
-use Rattle.std.proofs.lemmas.Iterator.Search.{any_from_yields_List}
+use lib.ListN.{get_or}
+use borrow.Author.Tests.{eq-eqb, ne_eqb}
+use Rattle.base.proofs.ElementLaws.{any_of_here, any_of_next, any_of_end}
 use Rattle.instance.specs.Limits.{no_arc}
 use Rattle.price_row.specs.Row.{has_price}
-use Rattle.price_row.proofs.RowLaws.{list_any_is}
 use Rattle.price_row.proofs.row.has_price.Goals as goal
+use Rattle.price_row.proofs.row.has_price.Invariants.{priced}
+
+pub loop-w-init : goal.loop-w-init
+unfolding has_price
+loop-w-init c = refl
+
+pub returns-then-w-ne-NO_ARC : goal.returns-then-w-ne-NO_ARC
+returns-then-w-ne-NO_ARC c =
+    let row = c.args.row.now in
+    let l = c.loop-w in
+    sym (l.invariant ∙ any_of_here priced 0 row l.w-index c.loop-w-test.true (ap not (ne_eqb (get_or row l.w-index 0) no_arc c.if-w-ne-NO_ARC.true)))
+
+pub loop-w-preserved : goal.loop-w-preserved
+loop-w-preserved c =
+    let row = c.args.row.now in
+    let l = c.loop-w in
+    l.invariant ∙ any_of_next priced 0 row l.w-index c.loop-w-test.true (ap not (eq-eqb (get_or row l.w-index 0) no_arc c.if-w-ne-NO_ARC.false))
 
 pub returns : goal.returns
-unfolding has_price
 returns c =
-    any_from_yields_List (λ w. not (eqb w no_arc)) _ _ _ c.any.ensures.ran (YieldsList-from_slice c.args.row.now cc) (λ x b q k. search (rules, tests))
-    ∙ list_any_is (λ w. not (eqb w no_arc)) c.args.row.now
+    let row = c.args.row.now in
+    let l = c.loop-w in
+    sym (l.invariant ∙ any_of_end priced 0 row l.w-index c.loop-w-test.false)
