@@ -73,6 +73,13 @@ if command -v size > /dev/null; then
 else
     untried size "the size of the library"
 fi
+if command -v nm > /dev/null; then
+    needed=$(nm -u "$library/lib/libfeed_planner.a" | awk '$1 == "U" { print $2 }' | sort | paste -s -d ' ')
+    [ "$needed" = "memcpy memset" ]
+    tried "nothing needed from outside but memcpy and memset: $needed" $?
+else
+    untried nm "what the library needs from outside"
+fi
 
 # IN C: builds NAME SOURCE WORD.., a program in $room with no warning
 builds() {

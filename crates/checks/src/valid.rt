@@ -9,13 +9,18 @@ use crate::arc::can_be_arc;
 use instance::limits::{BANNED, CELLS, FREE, MAX_BUDGET, MAX_VERTICES, MAX_WEIGHT, NO_ARC};
 
 // A weight and a mark that a cell may hold.
+// One test after the other: as one expression both are judged for every cell, and to judge a list of passive runs took
+// 1.3 of the instructions.
 pub fn cell_ok(weight: u32, mark: u8) -> bool
     ensures { result ≡ cell_ok weight mark }
 {
     if weight <= MAX_WEIGHT {
         return mark <= BANNED;
     }
-    weight == NO_ARC && mark == FREE
+    if weight == NO_ARC {
+        return mark == FREE;
+    }
+    false
 }
 
 fn cell_valid<'a>(

@@ -6,13 +6,17 @@ use instance::Vertex;
 use price_row::row_used;
 
 // A row into the caller's words from a place on; gives the place after it.
+// A loop: `copy_from_slice` would call `memmove` here, and the library for C needs `memcpy` and `memset` alone.
 fn put_row(row: &[u32], out: &mut [u32], at: usize) -> usize
     requires { Room row.now out.old at }
     ensures { Puts row.now out.old out.new at result }
 {
-    let end = at + row.len();
-    out[at..end].copy_from_slice(row);
-    end
+    let mut next = at;
+    for w in row {
+        out[next] = *w;
+        next += 1;
+    }
+    next
 }
 
 // The row of each tail, one behind the other; gives the place after the last.

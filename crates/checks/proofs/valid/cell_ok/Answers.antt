@@ -11,6 +11,6 @@ pub returns-then-weight-eq-NO_ARC : goal.returns-then-weight-eq-NO_ARC
 unfolding cell_ok
 returns-then-weight-eq-NO_ARC c = simp (lt-leb _ _ c.if-weight-le-MAX_WEIGHT.false, eq-eqb _ _ c.if-weight-eq-NO_ARC.true)
 
-pub returns-else-weight-eq-NO_ARC : goal.returns-else-weight-eq-NO_ARC
+pub returns : goal.returns
 unfolding cell_ok
-returns-else-weight-eq-NO_ARC c = simp (lt-leb _ _ c.if-weight-le-MAX_WEIGHT.false, ne_eqb _ _ c.if-weight-eq-NO_ARC.false)
+returns c = simp (lt-leb _ _ c.if-weight-le-MAX_WEIGHT.false, ne_eqb _ _ c.if-weight-eq-NO_ARC.false)

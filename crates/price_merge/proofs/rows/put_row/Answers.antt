@@ -1,11 +1,13 @@
--- The part of the buffer that is written is the row, as with a text. Assumes nothing.
-use native.Mathlib.Omega.{arith}
-use Prim.Native.Nat.{◌+◌, ◌-◌}
-use lib.ListN.{length}
-use Rattle.text.proofs.BufferLaws.{puts_part}
+-- The loop has copied the numbers that it passed, as bytes are put into a text.
+use mathlib.Core.Path.{refl}
+use lib.ListN.{length-set}
+use Rattle.text.proofs.BufferLaws.{puts_none, copied_next}
 use Rattle.price_merge.proofs.rows.put_row.Goals as goal
 
-pub returns : goal.returns
-returns c =
-    let a = c.args in
-    rw c.copy_from_slice.ensures.after (puts_part a.row.now a.out.now a.at (a.at + length a.row.now - a.at) (omega arith))
+pub loop-w-init : goal.loop-w-init
+loop-w-init c = (puts_none _ _, refl)
+
+pub loop-w-preserved : goal.loop-w-preserved
+loop-w-preserved c =
+    let l = c.loop-w in
+    (copied_next _ l.w-index l.invariant.0 c.loop-w-test.true c.requires, simp length-set l.invariant.1)
