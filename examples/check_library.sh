@@ -74,7 +74,7 @@ else
     untried size "the size of the library"
 fi
 if command -v nm > /dev/null; then
-    needed=$(nm -u "$library/lib/libfeed_planner.a" | awk '$1 == "U" { print $2 }' | sort | paste -s -d ' ')
+    needed=$(nm -u "$library/lib/libfeed_planner.a" | awk 'NF == 2 { print $2 }' | sort -u | paste -s -d ' ')
     [ "$needed" = "memcpy memset" ]
     tried "nothing needed from outside but memcpy and memset: $needed" $?
 else
